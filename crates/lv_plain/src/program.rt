@@ -1,0 +1,44 @@
+//! A program: the statements of the setup and of each session, and the order in which they run.
+
+use lv_values::{Items, Text};
+
+/// Statements, one a line.
+pub type Texts = Items<Text>;
+
+/// The sessions of a program, in the order in which they are declared.
+pub type Scripts = Items<Script>;
+
+/// The items of an order.
+pub type Order = Items<OrderItem>;
+
+/// One session: its name in lower case, and its statements in order.
+#[derive(Drop)]
+pub struct Script {
+    pub name: Text,
+    pub lines: Texts,
+}
+
+/// One item of an order.
+#[derive(Drop)]
+pub enum OrderItem {
+    /// The session's next statement. Sessions are numbered from 1.
+    Turn { session: u32 },
+    /// The worker takes up a step of maintenance. Workers are numbered from 1.
+    Fetch { worker: u32 },
+    /// The worker installs what it took up.
+    Install { worker: u32 },
+    /// A fetch, and then an install.
+    Work { worker: u32 },
+    /// Writes down how far the view of this name is maintained.
+    Mark { view: Text },
+    /// Drops versions and deltas that nobody needs.
+    Clean,
+}
+
+/// A whole program. The setup is session 0, and runs first.
+#[derive(Drop)]
+pub struct Program {
+    pub setup: Texts,
+    pub sessions: Scripts,
+    pub order: Order,
+}

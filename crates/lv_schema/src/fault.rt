@@ -1,0 +1,82 @@
+//! Why a statement is refused.
+
+use lv_values::{Row, Text};
+
+/// A limit of a statement or of the schema.
+#[derive(Clone, Copy, Debug, PartialEq, Eq)]
+pub enum LimitKind {
+    /// Bytes of a name.
+    Name,
+    /// Tables of the schema.
+    Tables,
+    /// Views of the schema.
+    Views,
+    /// Columns of a table, or of a view's list.
+    Columns,
+    /// Tables and views that one FROM joins.
+    Aliases,
+    /// Comparisons of one statement.
+    Comparisons,
+    /// Bytes of a text literal.
+    Text,
+    /// Tuples of one INSERT.
+    Tuples,
+    /// Columns of a query's list.
+    List,
+    /// Columns of an ORDER BY.
+    Order,
+}
+
+/// A rule on what a view may be.
+#[derive(Clone, Copy, Debug, PartialEq, Eq)]
+pub enum ProfileRule {
+    /// FROM names tables alone.
+    Base,
+    /// A grouped view lists its GROUP BY columns and aggregates, and no others.
+    Group,
+    /// A grouped view has exactly one `COUNT(*)`.
+    Count,
+    /// A view without GROUP BY lists each key column of each alias.
+    Key,
+}
+
+/// Why a statement is refused, by the number of the fault. A statement that has several gets the lowest.
+#[derive(Drop)]
+pub enum Fault {
+    /// 1: the line is no statement; the first byte of what cannot stand, counted from 1.
+    Syntax { byte: u32 },
+    /// 2: nothing has this name.
+    Unknown { name: Text },
+    /// 3: the column fits more than one alias.
+    Ambiguous { name: Text },
+    /// 4: the name is used already.
+    InUse { name: Text },
+    /// 5: a number stands where a text belongs, or the other way round.
+    Kinds { byte: u32 },
+    /// 6: a limit is passed.
+    Limit { which: LimitKind, most: u32 },
+    /// 7: the view is outside the profile.
+    Profile { rule: ProfileRule },
+    /// 8: CREATE outside the setup.
+    NotSetup,
+    /// 9: a transaction is live already.
+    InTransaction,
+    /// 10: no transaction is live.
+    NoTransaction,
+    /// 11: SET names a key column.
+    KeyAssigned { name: Text },
+    /// 12: a number outside signed 64 bits.
+    Range { number: i128 },
+    /// 13: the key is in the table.
+    Duplicate { table: u32, key: Row },
+    /// 14: the transaction's table would pass 65,535 rows.
+    TableFull { table: u32 },
+    /// 15: another transaction has committed a write of the key since the snapshot.
+    Conflict { table: u32, key: Row, commit: u64 },
+    /// 16: the table would pass 65,535 rows once merged.
+    MergedFull { table: u32 },
+    /// 17: the disk failed.
+    Store,
+    /// 18: the journal would pass its limit.
+    JournalFull { need: u64, limit: u64 },
+}
