@@ -1,0 +1,6 @@
+pub mod Judged
+pub mod OrderLine
+pub mod Script
+pub mod ScriptFault
+pub mod ScriptLine
+pub mod SessionName

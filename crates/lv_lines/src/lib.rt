@@ -1,0 +1,12 @@
+//! Scripts and transcripts: what a script says, and the text of a transcript.
+#![tactic(auto)]
+
+mod order_line;
+mod script;
+mod script_fault;
+mod script_line;
+mod section;
+mod session_name;
+
+pub use script::read_script;
+pub use script_fault::{ScriptFault, ScriptFaultKind};
