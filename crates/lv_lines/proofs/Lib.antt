@@ -1,6 +1,12 @@
-pub mod Pieces
-pub mod NamesAreText
+pub mod Clear
 pub mod LastSession
-pub mod Utf8
+pub mod LowerNames
+pub mod NamesAreText
+pub mod Pieces
 pub mod Sound
+pub mod SoundItems
+pub mod SoundLimits
+pub mod SoundNames
+pub mod SoundOrder
 pub mod Steps
+pub mod Utf8

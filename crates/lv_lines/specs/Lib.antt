@@ -1,3 +1,4 @@
+pub mod FirstFault
 pub mod Judged
 pub mod OrderLine
 pub mod Script

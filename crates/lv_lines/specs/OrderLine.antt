@@ -5,11 +5,10 @@ use Rattle.std.specs.Str.{str_to_ascii_lowercase}
 use Rattle.lv_plain.specs.declared.program.OrderItem.{OrderItem}
 use Rattle.lv_plain.specs.declared.program.OrderItem.TheVariants as item
 use Rattle.lv_plain.specs.declared.program.Script.{Script}
-use Rattle.lv_plain.specs.Names.{is_name}
+use Rattle.lv_plain.specs.Names.{reads, is_name, is_worker_digit}
 use Rattle.lv_lines.specs.declared.order_line.Wanted.{Wanted}
 use Rattle.lv_lines.specs.declared.order_line.Wanted.TheVariants as wanted
-use Rattle.lv_lines.specs.ScriptLine.{reads}
-use Rattle.lv_lines.specs.SessionName.{is_worker_digit, session_of}
+use Rattle.lv_lines.specs.SessionName.{session_of}
 
 -- ---- what the words are
 

@@ -1,10 +1,12 @@
 -- The program of a script, and its faults.
-use Rattle.std.specs.Prelude.{ℕ, ◌+◌, Bool, true, false, not, ◌&&◌, nat_lt, nat_le, if◌then◌else◌, List, [], ◌∷◌, ◌++◌, length, map, is_none, is_some, Option, Some, None, Result, Ok, Err}
+use Rattle.std.specs.Prelude.{ℕ, ◌+◌, Bool, true, false, not, ◌&&◌, nat_lt, nat_le, if◌then◌else◌, List, [], ◌∷◌, ◌++◌, length, is_none, is_some, Option, Some, None, Result, Ok, Err}
 use Rattle.std.specs.List.{find}
 use Rattle.std.specs.Str.{is_utf8, str_to_ascii_lowercase}
 use Rattle.lv_plain.specs.declared.program.OrderItem.{OrderItem}
 use Rattle.lv_plain.specs.declared.program.Script.{Script}
 use Rattle.lv_plain.specs.declared.program.Program.{Program}
+use Rattle.lv_plain.specs.Names.{is_session_name}
+use Rattle.lv_plain.specs.Program.{statements_of}
 use Rattle.lv_lines.specs.declared.script_fault.ScriptFault.{ScriptFault}
 use Rattle.lv_lines.specs.declared.script_fault.ScriptFault.TheVariants.{Bad}
 use Rattle.lv_lines.specs.declared.script_fault.ScriptFaultKind.{ScriptFaultKind}
@@ -13,7 +15,7 @@ use Rattle.lv_lines.specs.declared.section.Section.{Section}
 use Rattle.lv_lines.specs.declared.section.Section.TheVariants as section
 use Rattle.lv_lines.specs.declared.section.Part.{Part}
 use Rattle.lv_lines.specs.ScriptLine.{Said, nothing, setup, session, order, wrong, statement, said, lines_of}
-use Rattle.lv_lines.specs.SessionName.{is_session_name, session_of}
+use Rattle.lv_lines.specs.SessionName.{session_of}
 use Rattle.lv_lines.specs.OrderLine.{items_of, left_after}
 
 -- A `Part` is a script as far as it is read: the section that the next line stands in, the program so far, the
@@ -54,7 +56,7 @@ is_order here = false
 
 -- what each session has left for the order: before it begins, all of its statements
 abbrev pub left_of : Part → List ℕ
-left_of part = if is_order part.section then part.left else map (λ s. length s.lines) part.program.sessions
+left_of part = if is_order part.section then part.left else statements_of part.program.sessions
 
 -- whether the items take a statement that is not left
 abbrev pub take_too_much : List ℕ → Option (List OrderItem) → Bool
@@ -112,10 +114,14 @@ with_statement section.Session part line = record part {
 }
 with_statement here part line = part
 
+-- a session of this name in lower case, without statements
+abbrev pub session_called : List ℕ → Script
+session_called name = record { name = str_to_ascii_lowercase name; lines = [] }
+
 abbrev pub with_session : Part → List ℕ → Part
 with_session part name = record part {
   section = section.Session;
-  program = record part.program { sessions = part.program.sessions ++ record { name = str_to_ascii_lowercase name; lines = [] } ∷ [] };
+  program = record part.program { sessions = part.program.sessions ++ session_called name ∷ [] };
 }
 
 abbrev pub with_items : Part → List OrderItem → Option (List ℕ) → Part

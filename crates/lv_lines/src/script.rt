@@ -1,5 +1,7 @@
 //! Reads a script.
 ghost use Rattle.std.specs.Prelude.{◌≡◌, IfOk, IfErr};
+ghost use Rattle.lv_plain.specs.Names.{AreSessionNames};
+ghost use Rattle.lv_plain.specs.Program.{IsWithinLimits, IsFollowable, session_names};
 ghost use Rattle.lv_lines.specs.Judged.{IsFaultOf};
 ghost use Rattle.lv_lines.specs.Script as spec;
 ghost use Rattle.lv_lines.specs.Script.{script_of};
@@ -35,6 +37,9 @@ fn start(alloc: Global) -> Part
 pub fn read_script(alloc: Global, bytes: &[u8]) -> Result<Program, ScriptFault>
     ensures program { IfOk result (λ program. script_of bytes.now ≡ Ok program) }
     ensures fault { IfErr result (IsFaultOf (script_of bytes.now)) }
+    ensures limits { IfOk result IsWithinLimits }
+    ensures names { IfOk result (λ program. AreSessionNames (session_names program)) }
+    ensures order { IfOk result IsFollowable }
 {
     if bytes.len() > SCRIPT_BYTES {
         return Err(ScriptFault::Bad {

@@ -2,7 +2,6 @@
 ghost use Rattle.std.specs.Prelude.{◌≡◌, ◌≤◌, length, IfOk, true};
 ghost use Rattle.std.specs.Str.{str_to_ascii_lowercase};
 ghost use Rattle.std.specs.List.{list_all, list_any};
-ghost use Rattle.lv_lines.specs.ScriptLine.{reads as same_word};
 ghost use Rattle.lv_plain.specs.Names as names;
 ghost use Rattle.lv_lines.specs.SessionName as spec;
 
@@ -55,7 +54,7 @@ pub(crate) fn lowered(alloc: Global, word: &[u8]) -> Result<Text, NoMemory>
 }
 
 fn is_kept_word(word: &[u8]) -> bool
-    ensures { result ≡ list_any (same_word word.now) spec.kept_words }
+    ensures { result ≡ list_any (names.reads word.now) names.kept_words }
 {
     reads(word, b"setup")
         || reads(word, b"fetch")
@@ -68,13 +67,13 @@ fn is_kept_word(word: &[u8]) -> bool
 
 /// Whether it is one of the digits 1 to 8.
 pub(crate) fn is_worker_digit(digit: u8) -> bool
-    ensures { result ≡ spec.is_worker_digit digit }
+    ensures { result ≡ names.is_worker_digit digit }
 {
     b'1' <= digit && digit <= b'8'
 }
 
 fn is_worker_name(word: &[u8]) -> bool
-    ensures { result ≡ spec.is_worker_name word.now }
+    ensures { result ≡ names.is_worker_name word.now }
 {
     match word {
         [w, digit] => (*w == b'w' || *w == b'W') && is_worker_digit(*digit),
@@ -84,7 +83,7 @@ fn is_worker_name(word: &[u8]) -> bool
 
 /// Whether a session may have the name.
 pub(crate) fn is_session_name(word: &[u8]) -> bool
-    ensures { result ≡ spec.is_session_name word.now }
+    ensures { result ≡ names.is_session_name word.now }
 {
     is_name(word) && !is_kept_word(word) && !is_worker_name(word)
 }
