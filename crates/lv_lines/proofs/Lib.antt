@@ -1,4 +1,5 @@
 pub mod Clear
+pub mod FirstFaults
 pub mod LastSession
 pub mod LowerNames
 pub mod NamesAreText

@@ -4,9 +4,11 @@
 mod order_line;
 mod script;
 mod script_fault;
+mod script_laws;
 mod script_line;
 mod section;
 mod session_name;
 
 pub use script::read_script;
 pub use script_fault::{ScriptFault, ScriptFaultKind};
+pub use script_laws::first_faults;
