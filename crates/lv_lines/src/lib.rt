@@ -6,6 +6,8 @@ mod script;
 mod script_fault;
 mod script_laws;
 mod script_line;
+#[cfg(test)]
+mod script_tests;
 mod section;
 mod session_name;
 
