@@ -1,0 +1,4 @@
+//! The top call: it reads a script of one table and one view, runs its statements, and writes the transcript.
+#![tactic(auto)]
+
+mod cursor;
