@@ -58,7 +58,7 @@ unfoldable pub expect : List ℕ → Reader (Unit {0})
 expect text bytes = if begins text bytes then Some (tt, drop (length text) bytes) else None
 
 -- the end of the bytes
-abbrev pub end : Reader (Unit {0})
+unfoldable pub end : Reader (Unit {0})
 end [] = Some (tt, [])
 end (b ∷ bytes) = None
 

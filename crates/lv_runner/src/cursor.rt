@@ -108,7 +108,8 @@ impl<'a> Cursor<'a> {
         Ok(())
     }
 
-    /// Whether the bytes are read to their end.
+    /// The end of the bytes.
+    #[tactic(auto, unfolding(crate::specs::Reading::end))]
     pub(crate) fn end(&mut self) -> Result<(), Stop>
         ensures { Gives (end self.old) result self.new }
     {

@@ -2,3 +2,6 @@
 #![tactic(auto)]
 
 mod cursor;
+mod form;
+mod lines;
+mod words;
