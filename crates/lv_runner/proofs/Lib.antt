@@ -1,2 +1,3 @@
 mod Ascii
 mod Loops
+mod Pieces

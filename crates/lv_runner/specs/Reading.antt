@@ -82,3 +82,9 @@ abbrev pub Gives : {A : Type 0} → Outcome A → Result A Stop → List ℕ →
 Gives o (Ok a) rest = o ≡ Some (a, rest)
 Gives o (Err Bad) rest = o ≡ None
 Gives o (Err NoMemory) rest = Unit {0}
+
+-- the same where nothing is left, as for a whole line
+abbrev pub IsAnswer : {A : Type 0} → Option A → Result A Stop → Type 0
+IsAnswer o (Ok a) = o ≡ Some a
+IsAnswer o (Err Bad) = o ≡ None
+IsAnswer o (Err NoMemory) = Unit {0}

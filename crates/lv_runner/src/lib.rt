@@ -4,4 +4,5 @@
 mod cursor;
 mod form;
 mod lines;
+mod script;
 mod words;
