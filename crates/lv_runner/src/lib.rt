@@ -4,5 +4,6 @@
 mod cursor;
 mod form;
 mod lines;
+mod machine;
 mod script;
 mod words;
