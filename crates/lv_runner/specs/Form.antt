@@ -1,5 +1,5 @@
 -- The one form of a script that is read, line by line.
-use Rattle.std.specs.Prelude.{ℕ, ◌+◌, Bool, true, false, ◌&&◌, not, ◌==◌, nat_le, nat_lt, if◌then◌else◌, List, [], ◌∷◌, ◌++◌, length, map, codes, slice_index_or, Option, Some, None, option_map, Result, Ok, Err}
+use Rattle.std.specs.Prelude.{◌≡◌, ℕ, ◌+◌, Bool, true, false, ◌&&◌, not, ◌==◌, nat_le, nat_lt, if◌then◌else◌, List, [], ◌∷◌, ◌++◌, length, map, codes, slice_index_or, Option, Some, None, option_map, Result, Ok, Err}
 use Rattle.std.specs.List.{list_any, slice_split}
 use Rattle.std.specs.Str.{bytes_eq}
 use Rattle.lv_values.specs.declared.value.Value.{Value}
@@ -16,6 +16,8 @@ use Rattle.lv_runner.specs.declared.form.Part.{Part}
 use Rattle.lv_runner.specs.declared.form.Part.TheVariants as part
 use Rattle.lv_runner.specs.declared.form.Statement.{Statement}
 use Rattle.lv_runner.specs.declared.form.Statement.TheVariants.{Insert, Select}
+use Rattle.lv_runner.specs.declared.script.FormFault.{FormFault}
+use Rattle.lv_runner.specs.declared.script.FormFault.TheVariants.{Line, NoMemory}
 use Rattle.lv_runner.specs.Reading.{Outcome, Reader, ◌>>=◌, ◌>>◌, pure, given, check, choice, begins, expect, end, many}
 use Rattle.lv_runner.specs.Words.{name, session_name, number}
 
@@ -193,3 +195,11 @@ script_from before at (line ∷ piece ∷ more) = unless_broken (with_line befor
 -- the script that these bytes are, or the number of the first line that breaks the form
 abbrev pub script_of : List ℕ → Result Form ℕ
 script_of bytes = script_from part.Nothing 1 (slice_split (λ b. b == 10) bytes)
+
+-- ---- what a function that reads a script ensures
+
+-- it gives the script, or the line that breaks the form; want of memory is free
+abbrev pub IsRead : {A : Type 0} → Result A ℕ → Result A FormFault → Type 0
+IsRead o (Ok a) = o ≡ Ok a
+IsRead o (Err (Line at)) = o ≡ Err at
+IsRead o (Err NoMemory) = Unit {0}

@@ -1,5 +1,6 @@
-pub mod Reading
-pub mod Words
 pub mod Form
-pub mod Output
 pub mod Machine
+pub mod Output
+pub mod Reading
+pub mod Transcript
+pub mod Words

@@ -6,4 +6,5 @@ mod form;
 mod lines;
 mod machine;
 mod script;
+mod transcript;
 mod words;

@@ -3,7 +3,6 @@ ghost use Rattle.std.specs.Prelude.{◌≡◌, ◌+◌, ◌<◌, ◌≤◌, ◌^
 ghost use Rattle.std.specs.List.{slice_split, position_or_len};
 ghost use Rattle.lv_runner.specs.Reading.{IsAnswer};
 ghost use Rattle.lv_runner.specs.Form as forms;
-ghost use Rattle.lv_runner.specs.Output.{IsRead};
 
 use crate::cursor::{Cursor, Stop};
 use crate::form::{Form, Part, Statements};
@@ -95,7 +94,7 @@ fn first_line(bytes: &[u8]) -> Option<(&[u8], &[u8])>
 
 /// The script, where its last piece has come: nothing is missing, and nothing stands behind the last line feed.
 fn whole(part: Part, piece: &[u8], at: u64) -> Result<Form, FormFault>
-    ensures { IsRead (forms.whole part piece.now at) result }
+    ensures { forms.IsRead (forms.whole part piece.now at) result }
 {
     match part {
         Part::Session(form) => {
@@ -112,7 +111,7 @@ fn whole(part: Part, piece: &[u8], at: u64) -> Result<Form, FormFault>
 /// The script that the bytes are, or the number of the first line that breaks the form. Cost: linear in the bytes.
 pub(crate) fn read_script(alloc: Global, bytes: &[u8]) -> Result<Form, FormFault>
     requires { length bytes.now < 2 ^ 63 }
-    ensures { IsRead (forms.script_of bytes.now) result }
+    ensures { forms.IsRead (forms.script_of bytes.now) result }
 {
     let mut part = Part::Nothing;
     let mut rest = bytes;
