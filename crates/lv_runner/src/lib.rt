@@ -6,5 +6,10 @@ mod form;
 mod lines;
 mod machine;
 mod script;
+mod status;
+mod top;
 mod transcript;
 mod words;
+
+pub use status::Status;
+pub use top::run;
