@@ -7,6 +7,8 @@ mod lines;
 mod machine;
 mod script;
 mod status;
+#[cfg(test)]
+mod tests;
 mod top;
 mod transcript;
 mod words;
