@@ -13,6 +13,7 @@ mod pending;
 mod query;
 mod signed;
 mod table;
+mod tuple;
 mod view;
 
 pub use action::{Action, ActionKind, Actions, DeltaEntries, DeltaEntry};
@@ -27,4 +28,5 @@ pub use pending::{Pending, Pendings};
 pub use query::{OrderCols, Query, Rel, Rels};
 pub use signed::{Joined, Signed, SignedRow, Sums};
 pub use table::{Column, Columns, Kind, Positions, TableDef, TableDefs};
+pub use tuple::HasRows;
 pub use view::{Item, TableNumbers, ViewDef, ViewDefs, ViewItems};
