@@ -16,6 +16,7 @@ mod query;
 mod rec;
 mod signed;
 mod table;
+mod tuple;
 mod view;
 
 pub use action::{Action, ActionKind, Actions, DeltaEntries, DeltaEntry};
@@ -33,4 +34,5 @@ pub use query::{OrderCols, Query, Rel, Rels};
 pub use rec::Rec;
 pub use signed::{Joined, Signed, SignedRow, Sums};
 pub use table::{Column, Columns, Kind, Positions, TableDef, TableDefs};
+pub use tuple::HasRows;
 pub use view::{Item, TableNumbers, ViewDef, ViewDefs, ViewItems};
