@@ -15,3 +15,5 @@ pub mod Commits
 pub mod Cases
 pub mod Upkeep
 pub mod UpkeepCases
+pub mod Names
+pub mod Bound
