@@ -36,9 +36,10 @@ after_turn reading p t session = record {
   places = slice_set t.places session (slice_index t.places session + 1);
 }
 
--- the session whose turn an entry shows
+-- the session whose turn an entry shows; an entry that shows none is no session's
 abbrev pub session_of : Entry → ℕ
 session_of (Session session place forced reply) = session
+session_of other = 0
 
 abbrev pub event_shown : Entry → Event
 event_shown e = turn_of (session_of e)

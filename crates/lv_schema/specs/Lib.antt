@@ -5,9 +5,15 @@ pub mod Databases
 pub mod JoinViews
 pub mod Once
 pub mod Groups
+pub mod Nets
+pub mod Differences
 pub mod World
 pub mod Answers
 pub mod Effects
 pub mod Records
 pub mod Commits
 pub mod Cases
+pub mod Upkeep
+pub mod UpkeepCases
+pub mod Names
+pub mod Bound
