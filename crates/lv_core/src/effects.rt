@@ -1,5 +1,8 @@
 //! What INSERT, UPDATE and DELETE do to a table's rows.
-ghost use Rattle.std.specs.Prelude.{◌≡◌, ◌||◌, IfOk, Some, None, Ok, Err, ◌∷◌, [], length, filter, map, option_copied};
+ghost use Rattle.std.specs.Prelude.{◌≡◌, ◌||◌, IfOk, Some, None, Ok, Err, ◌∷◌, [], length, filter, map, slice_get, ◌++◌, OnOk};
+ghost use Rattle.lv_core.specs.TableActions.{delete_actions, update_actions};
+ghost use Rattle.std.specs.List.{filter_map, flat_map};
+ghost use Rattle.lv_schema.specs.Effects.{inserts as spec_inserts, deletes as spec_deletes};
 ghost use Rattle.std.specs.List.Sorted.{IsStrictlySortedBy};
 ghost use Rattle.lv_values.specs.Order.{number_of};
 ghost use Rattle.lv_values.specs.Rows.{value_in, values_at, key_cmp};
@@ -109,4 +112,156 @@ fn updated(alloc: Global, sets: &[Set], old: &Row) -> Result<Row, NoMemory>
         }
     }
     Ok(row)
+}
+
+/// The number that a SET computes, where it is outside signed 64 bits.
+fn wide_number(old: &Row, value: &SetValue) -> Option<i128>
+    requires { SumFits old.now value.now }
+    ensures { result ≡ wide_number old.now value.now }
+{
+    match value {
+        SetValue::Literal(_) | SetValue::Column(_) => None,
+        SetValue::Plus { column, amount } => {
+            let sum = number_in(old, *column) + *amount;
+            if sum >= -(1 << 63) && sum < 1 << 63 {
+                None
+            } else {
+                Some(sum)
+            }
+        }
+    }
+}
+
+/// The first number of a row outside signed 64 bits, by the place of its SET.
+fn wide_in_row(sets: &[Set], old: &Row) -> Option<i128>
+    requires { RowSumsFit sets.now old.now }
+    ensures { result ≡ slice_get (filter_map (λ s. wide_number old.now s.value) sets.now) 0 }
+{
+    for set in sets {
+        if let Some(number) = wide_number(old, &set.value) {
+            return Some(number);
+        }
+    }
+    None
+}
+
+/// The first number of a row outside signed 64 bits, where the condition keeps the row.
+fn wide_where_kept(sets: &[Set], cond: &Cond, old: &Row) -> Option<i128>
+    requires { RowSumsFit sets.now old.now }
+    ensures { result ≡ first_wide sets.now (matching cond.now (old.now ∷ [])) }
+{
+    if keeps(cond, old) {
+        wide_in_row(sets, old)
+    } else {
+        None
+    }
+}
+
+/// The first number outside signed 64 bits that an UPDATE computes, by row and then by place.
+fn first_wide(sets: &[Set], cond: &Cond, rows: &[Row]) -> Option<i128>
+    requires { SumsFit sets.now rows.now }
+    ensures { result ≡ first_wide sets.now (matching cond.now rows.now) }
+{
+    for row in rows {
+        let wide = wide_where_kept(sets, cond, row);
+        if wide.is_some() {
+            return wide;
+        }
+    }
+    None
+}
+
+/// An action that carries no number yet.
+fn action(table: u32, kind: ActionKind, row: Row) -> Action
+    ensures table { result.table ≡ table }
+    ensures statement { result.statement ≡ 0 }
+    ensures kind { result.kind ≡ kind }
+    ensures row { result.row ≡ row }
+{
+    Action {
+        table,
+        statement: 0,
+        kind,
+        row,
+    }
+}
+
+/// The actions of an INSERT.
+fn inserts(alloc: Global, table: u32, new: &[Row]) -> Result<Actions, NoMemory>
+    ensures { IfOk result (λ a. a ≡ map (spec_inserts table) new.now) }
+{
+    let mut actions = Actions::new(alloc);
+    for row in new {
+        let row = row.copy(alloc)?;
+        actions.push(action(table, ActionKind::Insert, row))?;
+    }
+    Ok(actions)
+}
+
+/// Appends the action of a DELETE on a row, where the condition keeps the row.
+fn delete_row(
+    alloc: Global,
+    table: u32,
+    cond: &Cond,
+    row: &Row,
+    actions: &mut Actions,
+) -> Result<(), NoMemory>
+    ensures { OnOk result (actions.new ≡ actions.old ++ delete_actions table cond.now (row.now ∷ [])) }
+{
+    if keeps(cond, row) {
+        let row = row.copy(alloc)?;
+        return actions.push(action(table, ActionKind::Delete, row));
+    }
+    Ok(())
+}
+
+/// The actions of a DELETE: one for each row that the condition keeps, in the order of the keys.
+fn deletes(alloc: Global, table: u32, cond: &Cond, rows: &[Row]) -> Result<Actions, NoMemory>
+    ensures { IfOk result (λ a. a ≡ delete_actions table cond.now rows.now) }
+{
+    let mut actions = Actions::new(alloc);
+    for row in rows {
+        delete_row(alloc, table, cond, row, &mut actions)?;
+    }
+    Ok(actions)
+}
+
+/// Appends the actions of an UPDATE on a row, where the condition keeps the row.
+fn update_row(
+    alloc: Global,
+    table: u32,
+    sets: &[Set],
+    cond: &Cond,
+    row: &Row,
+    actions: &mut Actions,
+) -> Result<(), NoMemory>
+    requires { RowSumsFit sets.now row.now }
+    ensures { OnOk result (actions.new ≡ actions.old ++ update_actions table sets.now cond.now (row.now ∷ [])) }
+{
+    if keeps(cond, row) {
+        let old = row.copy(alloc)?;
+        let new = updated(alloc, sets, row)?;
+        actions.push(action(table, ActionKind::Delete, old))?;
+        return actions.push(action(table, ActionKind::Insert, new));
+    }
+    Ok(())
+}
+
+/// The actions of an UPDATE: for each row that the condition keeps, in the order of the keys, the old row goes and the
+/// new one comes, also where they are equal.
+fn updates(
+    alloc: Global,
+    table: u32,
+    sets: &[Set],
+    cond: &Cond,
+    rows: &[Row],
+) -> Result<Actions, NoMemory>
+    requires { SumsFit sets.now rows.now }
+    ensures { IfOk result (λ a. a ≡ update_actions table sets.now cond.now rows.now) }
+{
+    let mut actions = Actions::new(alloc);
+    for row in rows {
+        update_row(alloc, table, sets, cond, row, &mut actions)?;
+    }
+    Ok(actions)
 }
