@@ -1,0 +1,5 @@
+pub mod TruthLaws
+pub mod Numbers
+pub mod PendingTasks
+pub mod PlannedSteps
+pub mod ForcedSteps

@@ -17,3 +17,4 @@ pub mod Upkeep
 pub mod UpkeepCases
 pub mod Names
 pub mod Bound
+pub mod Greatest

@@ -9,6 +9,7 @@ mod directed;
 mod fault;
 mod forced;
 mod holding;
+mod laws;
 mod logic;
 mod net;
 mod pending;
@@ -27,6 +28,10 @@ pub use directed::Directed;
 pub use fault::{Fault, LimitKind, ProfileRule};
 pub use forced::{Forced, ForcedSteps};
 pub use holding::{holds, listed, truth, value_at};
+pub use laws::{
+    forced_steps_are_a_chain, forced_steps_leave_nothing_pending, planned_step_is_greatest,
+    truth_goes_by_kind,
+};
 pub use logic::Truth;
 pub use net::{Net, Nets};
 pub use pending::{Pending, Pendings};
