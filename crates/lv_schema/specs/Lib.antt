@@ -1,3 +1,13 @@
 pub mod Tuples
 pub mod Truth
 pub mod Seen
+pub mod Databases
+pub mod JoinViews
+pub mod Once
+pub mod Groups
+pub mod World
+pub mod Answers
+pub mod Effects
+pub mod Records
+pub mod Commits
+pub mod Cases

@@ -1,0 +1,14 @@
+-- Each element of a list once, in ascending order.
+use Rattle.std.specs.Prelude.{List, [], ◌∷◌}
+use Rattle.std.specs.declared.cmp.Ordering.{Ordering}
+use Rattle.std.specs.FinMap.Entries.{by_order}
+
+module _ {K : Type 0} (R : K → K → Ordering) where
+  -- x in its place, if it is not there
+  abbrev pub put_once : K → List K → List K
+  put_once x [] = x ∷ []
+  put_once x (y ∷ ys) = by_order (R x y) (x ∷ y ∷ ys) (y ∷ ys) (y ∷ put_once x ys)
+
+  abbrev pub once : List K → List K
+  once [] = []
+  once (x ∷ xs) = put_once x (once xs)
