@@ -1,3 +1,6 @@
+pub mod Bound
+pub mod Catalog
+pub mod Names
 pub mod Tuples
 pub mod Truth
 pub mod Seen
