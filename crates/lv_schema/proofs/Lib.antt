@@ -3,3 +3,4 @@ pub mod Numbers
 pub mod PendingTasks
 pub mod PlannedSteps
 pub mod ForcedSteps
+mod SchemaLemmas
