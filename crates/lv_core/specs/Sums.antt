@@ -5,6 +5,8 @@ use Rattle.std.specs.List.{AllByRecursion}
 use Rattle.lv_values.specs.declared.value.Value.{Value}
 use Rattle.lv_values.specs.Order.{number_of}
 use Rattle.lv_values.specs.Rows.{value_in}
+use Rattle.lv_schema.specs.declared.change.Change.{Change}
+use Rattle.lv_schema.specs.declared.change.Change.TheVariants.{Insert, Update, Delete}
 use Rattle.lv_schema.specs.declared.change.Set.{Set}
 use Rattle.lv_schema.specs.declared.change.SetValue.{SetValue}
 use Rattle.lv_schema.specs.declared.change.SetValue.TheVariants.{Literal, Column, Plus}
@@ -21,3 +23,9 @@ RowSumsFit sets old = AllByRecursion (λ s. SumFits old s.value) sets
 
 abbrev pub SumsFit : List Set → List (List Value) → Type 0
 SumsFit sets rows = AllByRecursion (RowSumsFit sets) rows
+
+-- those of a change
+abbrev pub ChangeSumsFit : Change → List (List Value) → Type 0
+ChangeSumsFit (Insert table new) rows = Unit {0}
+ChangeSumsFit (Update table sets c) rows = SumsFit sets rows
+ChangeSumsFit (Delete table c) rows = Unit {0}

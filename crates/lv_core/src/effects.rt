@@ -3,16 +3,16 @@ ghost use Rattle.std.specs.Prelude.{◌≡◌, ◌||◌, IfOk, Some, None, Ok, E
 ghost use Rattle.lv_core.specs.TableActions.{delete_actions, update_actions};
 ghost use Rattle.std.specs.List.{filter_map, flat_map};
 ghost use Rattle.lv_schema.specs.Effects.{inserts as spec_inserts, deletes as spec_deletes};
-ghost use Rattle.std.specs.List.Sorted.{IsStrictlySortedBy};
 ghost use Rattle.lv_values.specs.Order.{number_of};
-ghost use Rattle.lv_values.specs.Rows.{value_in, values_at, key_cmp};
-ghost use Rattle.lv_schema.specs.Effects.{has_key, first_taken, matching, set_value, with_sets, updated, wide_number, first_wide, change_actions, change_fault, change_count, effect_on};
+ghost use Rattle.lv_values.specs.Rows.{value_in, values_at};
+ghost use Rattle.lv_schema.specs.Effects.{has_key, first_taken, matching, set_value, with_sets, updated, wide_number, first_wide, change_fault, effect_on};
 ghost use Rattle.lv_schema.specs.Truth.{holds};
-ghost use Rattle.lv_core.specs.Sums.{SumFits, RowSumsFit, SumsFit};
-ghost use Rattle.lv_schema.specs.declared.change.Change.TheVariants as change;
+ghost use Rattle.lv_core.specs.Sums.{SumFits, RowSumsFit, SumsFit, ChangeSumsFit};
+ghost use Rattle.lv_core.specs.Stops.{GivesEffect, insert_fault};
+ghost use Rattle.std.specs.Prelude.{◌+◌, ◌<◌, ◌^◌};
 
-use crate::search::search;
-use lv_schema::{Action, ActionKind, Actions, Cond, Set, SetValue, holds};
+use crate::stop::{MOST_ROWS, Stop};
+use lv_schema::{Action, ActionKind, Actions, Change, Cond, Fault, Set, SetValue, TableDef, holds};
 use lv_values::{Copying, NoMemory, Row, Value, compare_keys};
 use std::alloc::Global;
 use std::slice::from_ref;
@@ -39,13 +39,11 @@ fn has_key(key: &[u8], row: &Row, rows: &[Row]) -> bool
     rows.iter().any(|other| compare_keys(key, row, other).is_eq())
 }
 
-/// Whether the row's key is taken, by an earlier row or by one of the table. Cost: a pass over the earlier rows and a
-/// binary search in the table.
+/// Whether the row's key is taken, by an earlier row or by one of the table. Cost: a pass over both.
 fn is_taken(key: &[u8], row: &Row, earlier: &[Row], rows: &[Row]) -> bool
-    requires { IsStrictlySortedBy (key_cmp key.now) rows.now }
     ensures { result ≡ (has_key key.now row.now earlier.now || has_key key.now row.now rows.now) }
 {
-    has_key(key, row, earlier) || search(key, row, rows).is_ok()
+    has_key(key, row, earlier) || has_key(key, row, rows)
 }
 
 /// The key of the first new row whose key is taken.
@@ -55,7 +53,6 @@ fn first_taken(
     rows: &[Row],
     new: &[Row],
 ) -> Result<Option<Row>, NoMemory>
-    requires { IsStrictlySortedBy (key_cmp key.now) rows.now }
     ensures { IfOk result (λ taken. taken ≡ first_taken key.now rows.now new.now) }
 {
     for (i, row) in new.iter().enumerate() {
@@ -264,4 +261,65 @@ fn updates(
         update_row(alloc, table, sets, cond, row, &mut actions)?;
     }
     Ok(actions)
+}
+
+/// Why an INSERT of these rows is refused, where it is: the first key that is taken, or more rows than a table may have.
+fn insert_fault(
+    alloc: Global,
+    table: u32,
+    def: &TableDef,
+    new: &[Row],
+    rows: &[Row],
+) -> Result<Option<Fault>, NoMemory>
+    requires { length rows.now + length new.now < 2 ^ 63 }
+    ensures { IfOk result (λ fault. fault ≡ insert_fault table def.now new.now rows.now) }
+{
+    if let Some(key) = first_taken(alloc, def.key.as_slice(), rows, new)? {
+        return Ok(Some(Fault::Duplicate { table, key }));
+    }
+    if rows.len() + new.len() > MOST_ROWS {
+        return Ok(Some(Fault::TableFull { table }));
+    }
+    Ok(None)
+}
+
+/// What a change does to a table with these rows: the number of rows that it inserts, updates or deletes, and its
+/// actions, not numbered yet. Refused with a number out of range, a duplicate key or a full table, in this order.
+/// Cost: a pass over the table, for each row of an INSERT.
+pub fn effect(
+    alloc: Global,
+    def: &TableDef,
+    change: &Change,
+    rows: &[Row],
+) -> Result<(u64, Actions), Stop>
+    requires few { length rows.now < 2 ^ 62 }
+    requires sums { ChangeSumsFit change.now rows.now }
+    ensures { GivesEffect result (effect_on def.now change.now rows.now) }
+{
+    match change {
+        Change::Insert { table, rows: new } => {
+            let new = new.as_slice();
+            if let Some(fault) = insert_fault(alloc, *table, def, new, rows)? {
+                return Err(Stop::Refused(fault));
+            }
+            Ok((new.len() as u64, inserts(alloc, *table, new)?))
+        }
+        Change::Update { table, sets, cond } => {
+            let sets = sets.as_slice();
+            if let Some(number) = first_wide(sets, cond, rows) {
+                return Err(Stop::Refused(Fault::Range { number }));
+            }
+            Ok((count(cond, rows), updates(alloc, *table, sets, cond, rows)?))
+        }
+        Change::Delete { table, cond } => {
+            Ok((count(cond, rows), deletes(alloc, *table, cond, rows)?))
+        }
+    }
+}
+
+/// How many rows a condition keeps.
+fn count(cond: &Cond, rows: &[Row]) -> u64
+    ensures { result ≡ length (matching cond.now rows.now) }
+{
+    rows.iter().filter(|row| keeps(cond, row)).count() as u64
 }

@@ -2,4 +2,4 @@
 #![tactic(auto)]
 
 mod effects;
-mod search;
+mod stop;

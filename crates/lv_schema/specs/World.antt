@@ -3,18 +3,11 @@
 use Rattle.std.specs.Prelude.{ℕ, zero, suc, Option, Some, None, List, [], ◌∷◌, ◌++◌, length, slice_index, slice_index_or, replicate, unwrap_or}
 use Rattle.lv_schema.specs.declared.action.Action.{Action}
 use Rattle.lv_schema.specs.declared.forced.Forced.{Forced}
+pub use Rattle.lv_schema.specs.declared.open.Open.{Open}
 use Rattle.lv_schema.specs.declared.table.TableDef.{TableDef}
 use Rattle.lv_schema.specs.declared.view.ViewDef.{ViewDef}
 pub use Rattle.lv_schema.specs.Catalog.{table_at, view_at}
 use Rattle.lv_schema.specs.Databases.{Db}
-
--- a live transaction: the commit whose state it reads, its own database, its actions in order, and how many of its
--- changes were accepted
-pub record Open : Type 0 where
-  pub snapshot : ℕ
-  pub own : Db
-  pub actions : List Action
-  pub changes : ℕ
 
 -- what statements see: the schema; the whole database after each commit, the empty one first; the actions of each
 -- commit; and for each session its transaction, if it has one

@@ -12,6 +12,7 @@ mod holding;
 mod laws;
 mod logic;
 mod net;
+mod open;
 mod pending;
 mod query;
 mod rec;
@@ -34,6 +35,7 @@ pub use laws::{
     truth_goes_by_kind,
 };
 pub use logic::Truth;
+pub use open::{Database, Open};
 pub use net::{Net, Nets};
 pub use pending::{Pending, Pendings};
 pub use query::{OrderCols, Query, Rel, Rels};
