@@ -1,2 +1,4 @@
 pub mod TakenKeys
 pub mod Matching
+pub mod Ranges
+pub mod PlaceLemmas

@@ -27,3 +27,8 @@ GivesEffect (Err NoMemory) effect = Unit {0}
 abbrev pub insert_fault : ℕ → TableDef → List (List Value) → List (List Value) → Option Fault
 insert_fault table def new rows =
     first_fault (option_fault (Duplicate table) (first_taken def.key rows new)) (fault_where (nat_lt 65535 (length rows + length new)) (TableFull table))
+
+-- the same of a call whose only error is want of memory
+abbrev pub MeetsUnlessMemory : {A E : Type 0} → Visible → Visible → Result A E → Case A → Type 0
+MeetsUnlessMemory old new (Ok a) c = (c.answer ≡ Ok a) × (new ≡ c.next)
+MeetsUnlessMemory old new (Err e) c = new ≡ old

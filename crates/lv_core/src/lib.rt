@@ -1,5 +1,10 @@
 //! The core: it answers statements over whole snapshots, and its type keeps the run.
 #![tactic(auto)]
 
+mod applying;
+mod conflicts;
 mod effects;
+mod merging;
+mod places;
 mod stop;
+mod whole;
