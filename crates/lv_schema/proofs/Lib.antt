@@ -3,3 +3,10 @@ pub mod Numbers
 pub mod PendingTasks
 pub mod PlannedSteps
 pub mod ForcedSteps
+pub mod Totals
+pub mod OnceLists
+pub mod ChangeLists
+pub mod DifferencesAddUp
+pub mod Apart
+pub mod ViewRows
+pub mod NetsLead
