@@ -10,3 +10,4 @@ pub mod DifferencesAddUp
 pub mod Apart
 pub mod ViewRows
 pub mod NetsLead
+pub mod KeptCounts

@@ -19,3 +19,4 @@ pub mod UpkeepCases
 pub mod Names
 pub mod Bound
 pub mod Greatest
+pub mod Versions
