@@ -11,3 +11,5 @@ pub mod Apart
 pub mod ViewRows
 pub mod NetsLead
 pub mod KeptCounts
+mod ShopExamples
+mod WorldExamples
