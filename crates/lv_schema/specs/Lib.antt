@@ -10,6 +10,7 @@ pub mod Once
 pub mod Groups
 pub mod Nets
 pub mod Differences
+pub mod SignedRows
 pub mod World
 pub mod Answers
 pub mod Effects
@@ -19,3 +20,4 @@ pub mod Cases
 pub mod Upkeep
 pub mod UpkeepCases
 pub mod Greatest
+pub mod Versions
