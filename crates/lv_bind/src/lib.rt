@@ -1,0 +1,5 @@
+//! Binds a statement's tree against a schema: names become numbers, or the statement is refused with its lowest fault.
+#![tactic(auto)]
+
+mod pieces;
+mod sources;
