@@ -1,3 +1,4 @@
 pub mod Pieces
 pub mod Seen
 pub mod Sources
+pub mod Unknown

@@ -3,3 +3,4 @@
 
 mod pieces;
 mod sources;
+mod unknown;

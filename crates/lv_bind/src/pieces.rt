@@ -1,6 +1,6 @@
 //! What a statement names, each kind of thing as a list in the order of its places.
 ghost use Rattle.std.specs.Prelude.{◌≡◌, ◌++◌, map, OnOk, IfOk};
-ghost use Rattle.lv_bind.specs.Pieces.{comparisons, columns, sides_of, joined, side_columns, compared_columns, item_columns, assign_columns};
+ghost use Rattle.lv_bind.specs.Pieces.{comparisons_in, columns_in, sides_of, joined, side_columns, compared_columns, item_columns, assign_columns};
 ghost use Rattle.std.specs.List.{flat_map};
 ghost use Rattle.lv_bind.specs.Seen.{sides_seen, column_seen};
 
@@ -147,8 +147,8 @@ fn push_assigns<'a>(sets: &'a [Assign], out: &mut Items<Mention<'a>>) -> Result<
 }
 
 /// The comparisons of a statement, in the order of their places.
-pub(crate) fn comparisons<'a>(alloc: Global, stmt: &'a Stmt) -> Result<Items<Sides<'a>>, NoMemory>
-    ensures { IfOk result (λ sides. map sides_seen sides ≡ comparisons stmt.now) }
+pub(crate) fn comparisons_in<'a>(alloc: Global, stmt: &'a Stmt) -> Result<Items<Sides<'a>>, NoMemory>
+    ensures { IfOk result (λ sides. map sides_seen sides ≡ comparisons_in stmt.now) }
 {
     let mut out = Items::new(alloc);
     match stmt {
@@ -163,8 +163,8 @@ pub(crate) fn comparisons<'a>(alloc: Global, stmt: &'a Stmt) -> Result<Items<Sid
 
 /// Puts the columns that a statement names of its aliases at the end, in the order of their places.
 fn push_columns<'a>(stmt: &'a Stmt, sides: &[Sides<'a>], out: &mut Items<Mention<'a>>) -> Result<(), NoMemory>
-    requires { map sides_seen sides.now ≡ comparisons stmt.now }
-    ensures { OnOk result (map column_seen out.new ≡ map column_seen out.old ++ columns stmt.now) }
+    requires { map sides_seen sides.now ≡ comparisons_in stmt.now }
+    ensures { OnOk result (map column_seen out.new ≡ map column_seen out.old ++ columns_in stmt.now) }
 {
     match stmt {
         Stmt::CreateView { items, groups, .. } => {
@@ -189,9 +189,9 @@ fn push_columns<'a>(stmt: &'a Stmt, sides: &[Sides<'a>], out: &mut Items<Mention
 }
 
 /// The columns that a statement names of its aliases, in the order of their places, where these are its comparisons.
-pub(crate) fn columns<'a>(alloc: Global, stmt: &'a Stmt, sides: &[Sides<'a>]) -> Result<Items<Mention<'a>>, NoMemory>
-    requires { map sides_seen sides.now ≡ comparisons stmt.now }
-    ensures { IfOk result (λ found. map column_seen found ≡ columns stmt.now) }
+pub(crate) fn columns_in<'a>(alloc: Global, stmt: &'a Stmt, sides: &[Sides<'a>]) -> Result<Items<Mention<'a>>, NoMemory>
+    requires { map sides_seen sides.now ≡ comparisons_in stmt.now }
+    ensures { IfOk result (λ found. map column_seen found ≡ columns_in stmt.now) }
 {
     let mut out = Items::new(alloc);
     push_columns(stmt, sides, &mut out)?;
