@@ -1,3 +1,5 @@
+pub mod Ambiguous
+pub mod InUse
 pub mod Pieces
 pub mod Seen
 pub mod Sources

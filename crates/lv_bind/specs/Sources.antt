@@ -23,6 +23,10 @@ abbrev pub first : {A : Type 0} → List A → Option A
 first [] = None
 first (x ∷ xs) = Some x
 
+-- the name, unless all is well
+abbrev pub shown_unless : {A : Type 0} → Bool → A → List A
+shown_unless well name = cond well [] (name ∷ [])
+
 -- one alias: its name, and the columns of the table or view that it stands for
 pub record Alias : Type 0 where
   pub name : List ℕ

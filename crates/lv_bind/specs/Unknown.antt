@@ -1,7 +1,7 @@
 -- Fault 2: names that stand for nothing. First the tables and views: one that is not in the schema, or a view where a
 -- table is needed. Then column by column: a qualifier that is no alias, or a column that no alias has. A key column is
 -- one of the table's own.
-use Rattle.std.specs.Prelude.{ℕ, Bool, true, false, not, cond, is_some, List, [], ◌∷◌, ◌++◌, Option, Some, None}
+use Rattle.std.specs.Prelude.{ℕ, Bool, true, false, not, is_some, List, [], ◌∷◌, ◌++◌, Option, Some, None}
 use Rattle.std.specs.List.{flat_map, list_any}
 use Rattle.std.specs.Str.{bytes_eq}
 use Rattle.lv_parser.specs.declared.tree.ColName.{ColName}
@@ -16,15 +16,11 @@ use Rattle.lv_schema.specs.declared.table.TableDef.{TableDef}
 use Rattle.lv_schema.specs.declared.view.ViewDef.{ViewDef}
 use Rattle.lv_schema.specs.Catalog.{rel_named}
 use Rattle.lv_bind.specs.Pieces.{columns_in}
-use Rattle.lv_bind.specs.Sources.{Alias, places, sources_of}
+use Rattle.lv_bind.specs.Sources.{Alias, places, sources_of, shown_unless}
 
 abbrev pub is_nil : {A : Type 0} → List A → Bool
 is_nil [] = true
 is_nil (x ∷ xs) = false
-
--- the name, unless all is well
-abbrev pub shown_unless : {A : Type 0} → Bool → A → List A
-shown_unless well name = cond well [] (name ∷ [])
 
 -- the tables and views of FROM that are not in the schema
 abbrev pub unknown_refs : List TableDef → List ViewDef → List RefTree → List (List ℕ)
