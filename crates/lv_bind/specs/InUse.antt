@@ -39,11 +39,11 @@ output_of (Count output) = output
 abbrev pub same_place : Place → Place → Bool
 same_place a b = (a.alias == b.alias) && (a.column == b.column)
 
--- the GROUP BY columns whose place is one before
-abbrev pub regrouped_after : List Alias → List ColName → List ColName → List (List ℕ)
+-- the GROUP BY columns whose place is among these or is that of an earlier one
+abbrev pub regrouped_after : List Alias → List Place → List ColName → List (List ℕ)
 regrouped_after sources before [] = []
 regrouped_after sources before (col ∷ cols) =
-    shown_unless (not (list_any (λ c. same_place (place_of sources col) (place_of sources c)) before)) col.name.name ++ regrouped_after sources (before ++ col ∷ []) cols
+    shown_unless (not (list_any (same_place (place_of sources col)) before)) col.name.name ++ regrouped_after sources (before ++ place_of sources col ∷ []) cols
 
 abbrev pub regrouped : List Alias → List ColName → List (List ℕ)
 regrouped sources cols = regrouped_after sources [] cols

@@ -19,7 +19,8 @@ impl<'a> Mention<'a> {
     ghost use Rattle.lv_bind.specs.Seen.{column_seen};
     ghost use Rattle.lv_bind.specs.Pieces.{alone};
 
-    fn of(column: &'a ColName) -> Mention<'a>
+    /// The column that stands there.
+    pub fn of(column: &'a ColName) -> Mention<'a>
         ensures { column_seen result ≡ column.now }
     {
         Mention {
@@ -28,7 +29,8 @@ impl<'a> Mention<'a> {
         }
     }
 
-    fn alone(name: &'a Named) -> Mention<'a>
+    /// A name that stands alone as a column.
+    pub fn alone(name: &'a Named) -> Mention<'a>
         ensures { column_seen result ≡ alone name.now }
     {
         Mention {

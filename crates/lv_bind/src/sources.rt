@@ -2,7 +2,7 @@
 ghost use Rattle.std.specs.Prelude.{◌≡◌, ◌++◌, map, position, slice_index_or, OnOk, IfOk};
 ghost use Rattle.std.specs.Str.{bytes_eq};
 ghost use Rattle.std.specs.Option.{option_copied};
-ghost use Rattle.lv_bind.specs.Sources.{sources_of, source_of, alias_of, columns_of, places, fit_of, place_in, goes_by, kind_at, column_named};
+ghost use Rattle.lv_bind.specs.Sources.{sources_of, source_of, alias_of, columns_of, places, place_of, fit_of, place_in, goes_by, kind_at, column_named};
 ghost use Rattle.lv_bind.specs.Seen.{alias_seen, column_seen};
 ghost use Rattle.lv_schema.specs.Catalog.{rel_columns, view_columns, item_column, table_at, view_at, column_at, columns_of_tables, no_column};
 ghost use Rattle.lv_schema.specs.Bound.{item_name};
@@ -245,5 +245,18 @@ pub(crate) fn resolve(schema: &Schema, sources: &[Source<'_>], column: Mention<'
     match found {
         None => Fit::Nothing,
         Some(place) => Fit::One(place),
+    }
+}
+
+/// Where a column is, once it fits one place; else where it fits first, or at the first place of all.
+pub(crate) fn place_of(schema: &Schema, sources: &[Source<'_>], column: Mention<'_>) -> Place
+    ensures { result ≡ place_of (map (alias_seen schema.now.tables schema.now.views) sources.now) (column_seen column.entry) }
+{
+    match resolve(schema, sources, column) {
+        Fit::Nothing => Place {
+            alias: 0,
+            column: 0,
+        },
+        Fit::One(place) | Fit::Several(place) => place,
     }
 }
