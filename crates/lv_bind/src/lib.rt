@@ -1,0 +1,8 @@
+//! Binds a statement's tree against a schema: names become numbers, or the statement is refused with its lowest fault.
+#![tactic(auto)]
+
+mod ambiguous;
+mod in_use;
+mod pieces;
+mod sources;
+mod unknown;
