@@ -1,0 +1,2 @@
+pub mod LegalLaws
+mod Shop
