@@ -10,6 +10,7 @@ pub mod Once
 pub mod Groups
 pub mod Nets
 pub mod Differences
+pub mod DirectedLaws
 pub mod SignedRows
 pub mod World
 pub mod Answers
