@@ -2,6 +2,7 @@
 #![tactic(auto)]
 
 mod applying;
+mod changing;
 mod conflicts;
 mod effects;
 mod merging;

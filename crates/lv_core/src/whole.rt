@@ -6,7 +6,7 @@ ghost use Rattle.lv_core.specs.Seen.{visible, IsWhole};
 ghost use Rattle.lv_core.specs.Stops.{MeetsUnlessMemory};
 
 use lv_schema::{Actions, Database, Open, Schema};
-use lv_values::{Copying, Items, NoMemory, Room};
+use lv_values::{Copying, NoMemory, Room};
 use std::alloc::Global;
 
 /// How many sessions there are, the setup among them.
@@ -19,7 +19,7 @@ pub struct Whole {
     pub schema: Schema,
     pub snaps: Room<Database>,
     pub commits: Room<Actions>,
-    pub sessions: Items<Option<Open>>,
+    pub sessions: Vec<Option<Open>>,
 }
 
 impl Whole {
@@ -31,7 +31,7 @@ impl Whole {
         let mut snaps = Room::new(alloc);
         snaps.reserve(1)?;
         snaps.push(Database::new(alloc));
-        let mut sessions = Items::new(alloc);
+        let mut sessions = Vec::new(alloc);
         for _ in 0..SESSIONS {
             sessions.push(None)?;
         }
@@ -44,7 +44,7 @@ impl Whole {
     }
 
     /// The last state.
-    fn last_state(&self) -> &Database
+    pub fn last_state(&self) -> &Database
         requires { IsWhole self.now }
         ensures { result.now ≡ snap (visible self.now) (last (visible self.now)) }
     {
@@ -66,7 +66,7 @@ impl Whole {
             actions: Actions::new(alloc),
             changes: 0,
         };
-        self.sessions.set(session, Some(open));
+        self.sessions[session] = Some(open);
         Ok(snapshot)
     }
 
@@ -77,6 +77,6 @@ impl Whole {
         ensures seen { visible self.new ≡ closed session (visible self.old) }
         ensures whole { IsWhole self.new }
     {
-        self.sessions.set(session, None);
+        self.sessions[session] = None;
     }
 }

@@ -22,3 +22,4 @@ pub mod Upkeep
 pub mod UpkeepCases
 pub mod Greatest
 pub mod Versions
+pub mod Profile

@@ -3,4 +3,4 @@ use Rattle.std.specs.Prelude.{replicate, None}
 use Rattle.lv_core.proofs.whole.Whole.new.Given as goal
 
 abbrev pub invariant-loop : goal.invariant-loop
-invariant-loop l = l.sessions ≡ replicate l.counter None
+invariant-loop l = l.sessions.items ≡ replicate l.counter None
