@@ -2,3 +2,4 @@ pub mod TakenKeys
 pub mod Matching
 pub mod Ranges
 pub mod PlaceLemmas
+pub mod OneTable

@@ -6,3 +6,4 @@ pub mod Merging
 pub mod PlaceOrder
 pub mod Conflicts
 pub mod Seen
+pub mod Preparing

@@ -63,16 +63,27 @@ fn act(alloc: Global, key: &[u8], action: &Action, rows: &mut Rows) -> Result<()
     }
 }
 
+/// Copies of the rows.
+fn copy_rows(alloc: Global, rows: &[Row]) -> Result<Rows, NoMemory>
+    ensures { IfOk result (λ copied. copied ≡ rows.now) }
+{
+    let mut copied = Rows::new(alloc);
+    for row in rows {
+        copied.push(row.copy(alloc)?)?;
+    }
+    Ok(copied)
+}
+
 /// A table's rows after actions on it. Cost: a copy of the rows, and a pass over them for each action.
 pub fn after_actions(
     alloc: Global,
     key: &[u8],
     actions: &[Action],
-    rows: &Rows,
+    rows: &[Row],
 ) -> Result<Rows, NoMemory>
     ensures { IfOk result (λ after. after ≡ rows_after key.now rows.now actions.now) }
 {
-    let mut after = rows.copy(alloc)?;
+    let mut after = copy_rows(alloc, rows)?;
     for action in actions {
         act(alloc, key, action, &mut after)?;
     }

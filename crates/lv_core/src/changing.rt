@@ -1,9 +1,17 @@
 //! INSERT, UPDATE and DELETE in a transaction.
-ghost use Rattle.std.specs.Prelude.{◌≡◌, ◌<◌, ◌+◌, ◌-◌, ◌^◌, ◌++◌, OnOk, OnErr, slice_set};
+ghost use Rattle.std.specs.Prelude.{◌≡◌, ◌<◌, ◌-◌, ◌^◌, OnOk, OnErr, length};
+ghost use Rattle.lv_schema.specs.Databases.{rows_of};
 ghost use Rattle.lv_schema.specs.Effects.{changed_table};
+ghost use Rattle.lv_core.specs.Preparing.{GivesPrepared, with_prepared};
+ghost use Rattle.lv_core.specs.Sums.{ChangeSumsFit};
 
-use lv_schema::{Action, Actions, Change, Open};
+use crate::applying::after_actions;
+use crate::effects::effect;
+use crate::merging::rows_of;
+use crate::stop::Stop;
+use lv_schema::{Action, Actions, Change, Open, Schema};
 use lv_values::{Edit, NoMemory, Rows};
+use std::alloc::Global;
 
 /// Gives an action the number of its statement.
 #[derive(Drop)]
@@ -32,22 +40,62 @@ pub fn table_of(change: &Change) -> u32
     }
 }
 
-/// Keeps a change in a transaction: the table's rows after it, and its actions. Want of memory changes nothing.
-fn keep_change(
-    open: &mut Open,
+/// A change that a transaction may keep: the number of rows, the table's rows after it, and its actions.
+#[derive(Drop)]
+struct Prepared {
+    count: u64,
     table: u32,
     rows: Rows,
     actions: Actions,
-) -> Result<(), NoMemory>
-    requires { open.old.changes < 2 ^ 32 - 1 }
-    ensures ok { OnOk result (open.new ≡ record open.old { own = slice_set open.old.own table rows; actions = open.old.actions ++ actions; changes = open.old.changes + 1 }) }
-    ensures err { OnErr result (open.new ≡ open.old) }
+}
+
+/// What a change makes of a transaction, or why it is refused. Nothing is changed yet. Cost: as the change's effect, and
+/// a copy of the table.
+fn prepare(
+    alloc: Global,
+    schema: &Schema,
+    transaction: &Open,
+    change: &Change,
+) -> Result<Prepared, Stop>
+    requires table { changed_table change.now < length schema.now.tables }
+    requires few { length (rows_of transaction.now.own (changed_table change.now)) < 2 ^ 62 }
+    requires sums { ChangeSumsFit change.now (rows_of transaction.now.own (changed_table change.now)) }
+    requires changes { transaction.now.changes < 2 ^ 32 - 1 }
+    ensures { GivesPrepared schema.now.tables change.now transaction.now result }
 {
-    open.actions.append(actions)?;
+    let table = table_of(change);
+    let def = schema.table(table);
+    let rows = rows_of(&transaction.own, table);
+    let (count, mut actions) = effect(alloc, def, change, rows)?;
+    let rows = after_actions(alloc, def.key.as_slice(), actions.as_slice(), rows)?;
+    actions.edit_each(&Numbering {
+        statement: transaction.changes + 1,
+    });
+    Ok(Prepared {
+        count,
+        table,
+        rows,
+        actions,
+    })
+}
+
+/// Keeps a change in a transaction. Want of memory changes nothing.
+fn keep(transaction: &mut Open, prepared: Prepared) -> Result<(), NoMemory>
+    requires { transaction.old.changes < 2 ^ 32 - 1 }
+    ensures ok { OnOk result (transaction.new ≡ with_prepared prepared transaction.old) }
+    ensures err { OnErr result (transaction.new ≡ transaction.old) }
+{
+    let Prepared {
+        count: _,
+        table,
+        rows,
+        actions,
+    } = prepared;
+    transaction.actions.append(actions)?;
     let table = table as usize;
-    if table < open.own.len() {
-        open.own.set(table, rows);
+    if table < transaction.own.len() {
+        transaction.own.set(table, rows);
     }
-    open.changes += 1;
+    transaction.changes += 1;
     Ok(())
 }
