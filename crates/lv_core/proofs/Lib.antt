@@ -3,3 +3,4 @@ pub mod Matching
 pub mod Ranges
 pub mod PlaceLemmas
 pub mod OneTable
+pub mod Meeting

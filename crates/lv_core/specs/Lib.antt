@@ -7,3 +7,4 @@ pub mod PlaceOrder
 pub mod Conflicts
 pub mod Seen
 pub mod Preparing
+pub mod Committing

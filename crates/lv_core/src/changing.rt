@@ -1,5 +1,8 @@
 //! INSERT, UPDATE and DELETE in a transaction.
-ghost use Rattle.std.specs.Prelude.{◌≡◌, ◌<◌, ◌-◌, ◌^◌, OnOk, OnErr, length};
+ghost use Rattle.std.specs.Prelude.{◌≡◌, ◌<◌, ◌-◌, ◌^◌, OnOk, OnErr, length, IsSome, None, slice_index_or};
+ghost use Rattle.lv_schema.specs.Cases.{changed};
+ghost use Rattle.lv_core.specs.Seen.{visible, IsWhole, MayChange};
+ghost use Rattle.lv_core.specs.Stops.{Meets};
 ghost use Rattle.lv_schema.specs.Databases.{rows_of};
 ghost use Rattle.lv_schema.specs.Effects.{changed_table};
 ghost use Rattle.lv_core.specs.Preparing.{GivesPrepared, with_prepared};
@@ -9,6 +12,7 @@ use crate::applying::after_actions;
 use crate::effects::effect;
 use crate::merging::rows_of;
 use crate::stop::Stop;
+use crate::whole::{SESSIONS, Whole};
 use lv_schema::{Action, Actions, Change, Open, Schema};
 use lv_values::{Edit, NoMemory, Rows};
 use std::alloc::Global;
@@ -98,4 +102,30 @@ fn keep(transaction: &mut Open, prepared: Prepared) -> Result<(), NoMemory>
     }
     transaction.changes += 1;
     Ok(())
+}
+
+impl Whole {
+    /// INSERT, UPDATE or DELETE in a live transaction. Answers the number of rows. Cost: as `prepare`.
+    pub fn change(
+        &mut self,
+        alloc: Global,
+        session: usize,
+        change: &Change,
+    ) -> Result<u64, Stop>
+        requires whole { IsWhole self.old }
+        requires session { session < SESSIONS }
+        requires live { IsSome (slice_index_or self.old.sessions.items session None) }
+        requires may { MayChange (visible self.old) session change.now }
+        ensures case { Meets (visible self.old) (visible self.new) result (changed session change.now (visible self.old)) }
+        ensures whole { IsWhole self.new }
+        ensures live { IsSome (slice_index_or self.new.sessions.items session None) }
+    {
+        let Some(transaction) = &mut self.sessions[session] else {
+            unreachable!()
+        };
+        let prepared = prepare(alloc, &self.schema, transaction, change)?;
+        let count = prepared.count;
+        keep(transaction, prepared)?;
+        Ok(count)
+    }
 }

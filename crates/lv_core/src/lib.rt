@@ -3,6 +3,7 @@
 
 mod applying;
 mod changing;
+mod committing;
 mod conflicts;
 mod effects;
 mod merging;
