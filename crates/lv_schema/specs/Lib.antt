@@ -9,6 +9,7 @@ pub mod Nets
 pub mod Differences
 pub mod SignedRows
 pub mod World
+pub mod AnswerOrder
 pub mod Answers
 pub mod Effects
 pub mod Records
