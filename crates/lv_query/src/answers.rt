@@ -2,9 +2,8 @@
 ghost use Rattle.std.specs.Prelude.{◌≡◌, map, IfOk};
 ghost use Rattle.lv_schema.specs.Answers.{answer_over, directed, order_value, sorted_row};
 
-use crate::ordered::OrderedRow;
 use lv_join::{Picked, Projection, join_projected};
-use lv_schema::{Col, Directed, Query, listed, value_at};
+use lv_schema::{Col, Directed, DirectedValues, Query, SortedRow, listed, value_at};
 use lv_values::{Items, NoMemory, Rows, Value};
 use std::alloc::Global;
 
@@ -24,10 +23,10 @@ fn order_values(
     alloc: Global,
     tuple: &Picked<'_>,
     order: &[(Col, bool)],
-) -> Result<Items<Directed>, NoMemory>
+) -> Result<DirectedValues, NoMemory>
     ensures { IfOk result (λ values. values ≡ map (order_value tuple.now) order.now) }
 {
-    let mut values = Items::new(alloc);
+    let mut values = DirectedValues::new(alloc);
     for by in order {
         let (col, down) = *by;
         values.push(directed(down, value_at(alloc, tuple, col)?))?;
@@ -41,24 +40,24 @@ struct ListedInOrder<'a> {
     query: &'a Query,
 }
 
-impl<'a> Projection<OrderedRow> for ListedInOrder<'a> {
+impl<'a> Projection<SortedRow> for ListedInOrder<'a> {
     ghost projected = { λ list tuple. sorted_row list.query.now tuple };
 
-    fn project(&self, alloc: Global, tuple: &Picked<'_>) -> Result<OrderedRow, NoMemory> {
-        Ok(OrderedRow {
-            by: order_values(alloc, tuple, self.query.order.as_slice())?,
+    fn project(&self, alloc: Global, tuple: &Picked<'_>) -> Result<SortedRow, NoMemory> {
+        Ok(SortedRow {
+            order: order_values(alloc, tuple, self.query.order.as_slice())?,
             row: listed(alloc, tuple, self.query.list.as_slice())?,
         })
     }
 }
 
 /// The listed rows.
-fn listed_rows(alloc: Global, found: Items<OrderedRow>) -> Result<Rows, NoMemory>
-    ensures { IfOk result (λ rows. rows ≡ map (λ row. row.1) found) }
+fn listed_rows(alloc: Global, found: Items<SortedRow>) -> Result<Rows, NoMemory>
+    ensures { IfOk result (λ rows. rows ≡ map (λ r. r.row) found) }
 {
     let mut rows = Rows::new(alloc);
-    for ordered in found.into_vec() {
-        rows.push(ordered.into_row())?;
+    for sorted in found.into_vec() {
+        rows.push(sorted.row)?;
     }
     Ok(rows)
 }

@@ -2,7 +2,6 @@
 #![tactic(auto)]
 
 mod answers;
-mod ordered;
 #[cfg(test)]
 mod tests;
 

@@ -10,3 +10,6 @@ pub mod DifferencesAddUp
 pub mod Apart
 pub mod ViewRows
 pub mod NetsLead
+pub mod KeptCounts
+mod ShopExamples
+mod WorldExamples

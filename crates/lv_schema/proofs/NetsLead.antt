@@ -63,7 +63,7 @@ module _ (R : ARow → ARow → Ordering) where
 
 -- ---- two strictly ascending lists with the same rows are one
 module _ {R : ARow → ARow → Ordering} (o : IsTotalOrder R) where
-  not_above : (x : ARow) (ys : List ARow) → AllByRecursion (λ y. R x y ≡ Less) ys → has_row x ys ≡ false
+  pub not_above : (x : ARow) (ys : List ARow) → AllByRecursion (λ y. R x y ≡ Less) ys → has_row x ys ≡ false
   not_above x [] a = refl
   not_above x (y ∷ ys) a = by (row_eq x y) refl (not_above x ys a.1)
     where

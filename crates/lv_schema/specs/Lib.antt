@@ -7,9 +7,9 @@ pub mod Once
 pub mod Groups
 pub mod Nets
 pub mod Differences
-pub mod DirectedLaws
 pub mod SignedRows
 pub mod World
+pub mod AnswerOrder
 pub mod Answers
 pub mod Effects
 pub mod Records
@@ -20,3 +20,4 @@ pub mod UpkeepCases
 pub mod Names
 pub mod Bound
 pub mod Greatest
+pub mod Versions

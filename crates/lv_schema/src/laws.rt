@@ -1,7 +1,8 @@
 //! Laws about the definitions: each is the contract of a function that does nothing.
-ghost use Rattle.std.specs.Prelude.{◌≡◌, ℕ, ◌<◌, ◌-◌, nat_lt, true, List, [], ◌++◌, map, length};
+ghost use Rattle.std.specs.Prelude.{◌≡◌, ℕ, ◌<◌, ◌≤◌, ◌-◌, nat_lt, true, List, [], ◌++◌, map, length};
 ghost use Rattle.std.specs.List.{list_all};
 ghost use Rattle.lv_values.specs.Order.{row_cmp};
+ghost use Rattle.lv_values.specs.Rows.{key_cmp};
 ghost use Rattle.lv_schema.specs.declared.cond.Cond.{Cond};
 ghost use Rattle.lv_schema.specs.declared.cond.Cond.TheVariants.{True, Cmp, And, Or, Not};
 ghost use Rattle.lv_schema.specs.declared.cond.Op.{Op};
@@ -11,7 +12,7 @@ ghost use Rattle.lv_schema.specs.declared.logic.Truth.TheVariants.{Yes};
 ghost use Rattle.lv_schema.specs.declared.table.TableDef.{TableDef};
 ghost use Rattle.lv_schema.specs.declared.view.ViewDef.{ViewDef};
 ghost use Rattle.lv_schema.specs.Bound.{IsProfile};
-ghost use Rattle.lv_schema.specs.Databases.{Db, IsDatabase};
+ghost use Rattle.lv_schema.specs.Databases.{Db, rows_of, IsDatabase};
 ghost use Rattle.lv_schema.specs.Differences.{summed_columns, view_difference, groups_of};
 ghost use Rattle.lv_schema.specs.Groups.{view_rows};
 ghost use Rattle.lv_schema.specs.Nets.{nets_of, with_nets};
@@ -20,9 +21,10 @@ ghost use Rattle.lv_schema.specs.SignedRows.{netted};
 ghost use Rattle.lv_schema.specs.Greatest.{Among, IsPlannedStep, IsChain, end_of};
 ghost use Rattle.lv_schema.specs.Truth.{truth, operand_value, compared, opposite, all_of, any_of};
 ghost use Rattle.lv_schema.specs.Tuples.{Tuple};
-ghost use Rattle.lv_schema.specs.Upkeep.{pending, planned_from, forced_from, forced};
+ghost use Rattle.lv_schema.specs.Upkeep.{pending, planned_from, forced_from, forced, table_versions, deltas_kept};
 ghost use Rattle.lv_schema.specs.UpkeepCases.{with_steps};
-ghost use Rattle.lv_schema.specs.World.{Visible, World, view_at, point};
+ghost use Rattle.lv_schema.specs.Versions.{kept_versions, kept_entries};
+ghost use Rattle.lv_schema.specs.World.{Visible, World, last, snap, table_at, view_at, point};
 
 /// The truth of a condition, by its kind.
 pub fn truth_goes_by_kind()
@@ -71,4 +73,12 @@ pub fn differences_add_up()
 /// The groups of a view over one database, with the difference to another, are the groups over that one.
 pub fn groups_follow_the_difference()
     ensures { (view : ViewDef) (before after : Db) → netted (length (summed_columns view)) (groups_of view before ++ view_difference view before after) ≡ groups_of view after }
+{}
+
+/// The counts that a clean-up shows are those of what it keeps: of the versions of rows that did not end at or below the
+/// floor, table by table, and of the entries of the commits above it.
+pub fn clean_up_counts_what_it_keeps()
+    ensures versions { (s : Visible) (floor table : ℕ) → floor ≤ last s → ((k : ℕ) → k ≤ floor → Ascends (key_cmp (table_at s.tables table).key) (rows_of (snap s k) table))
+        → length (kept_versions s floor table) ≡ table_versions s floor table }
+    ensures deltas { (s : Visible) (floor : ℕ) → length (kept_entries s floor) ≡ deltas_kept s floor }
 {}
