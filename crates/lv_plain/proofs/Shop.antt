@@ -1,34 +1,28 @@
 -- A shop for worked examples: items with prices, sales of items, sales counted by item, and sales with their items.
-use Rattle.std.proofs.Common.{ℕ, ◌+◌, Bool, true, false, List, [], ◌∷◌, Ok, Err, Result, pos, slice_index_or, slice_index, slice_get, Option, Some, None, map}
+use Rattle.std.proofs.Common.{replicate, ℕ, true, false, List, [], ◌∷◌, Ok, Err, Result, pos, slice_index, slice_get, Option, Some, None}
 use Rattle.std.specs.Prelude.{codes}
-use Rattle.std.specs.List.{range_with_len}
 use Rattle.lv_values.specs.declared.value.Value.{Value}
 use Rattle.lv_values.specs.declared.value.Value.TheVariants.{Num}
 use Rattle.lv_schema.specs.declared.bound.Bound.{Bound}
 use Rattle.lv_schema.specs.declared.bound.Bound.TheVariants as bound
 use Rattle.lv_schema.specs.declared.change.Change.TheVariants as change
-use Rattle.lv_schema.specs.declared.change.Set.{Set}
-use Rattle.lv_schema.specs.declared.change.SetValue.TheVariants.{Literal, Plus}
 use Rattle.lv_schema.specs.declared.cond.Col.{Col}
 use Rattle.lv_schema.specs.declared.cond.Cond.{Cond}
 use Rattle.lv_schema.specs.declared.cond.Cond.TheVariants as cond
 use Rattle.lv_schema.specs.declared.cond.Op.TheVariants as op
-use Rattle.lv_schema.specs.declared.cond.Operand.{Operand}
-use Rattle.lv_schema.specs.declared.cond.Operand.TheVariants.{Column, Number}
+use Rattle.lv_schema.specs.declared.cond.Operand.TheVariants.{Column}
 use Rattle.lv_schema.specs.declared.fault.Fault.{Fault}
 use Rattle.lv_schema.specs.declared.fault.Fault.TheVariants.{Syntax}
-use Rattle.lv_schema.specs.declared.query.Query.{Query}
-use Rattle.lv_schema.specs.declared.query.Rel.TheVariants as rel
 use Rattle.lv_schema.specs.declared.table.Kind.TheVariants.{Int}
 use Rattle.lv_schema.specs.declared.table.TableDef.{TableDef}
 use Rattle.lv_schema.specs.declared.view.Item.TheVariants.{Plain, Sum, Count}
 use Rattle.lv_schema.specs.declared.view.ViewDef.{ViewDef}
-use Rattle.lv_schema.specs.World.{Visible, World, empty_world}
+use Rattle.lv_schema.specs.World.{World}
 use Rattle.lv_plain.specs.declared.entry.Entry.{Entry}
 use Rattle.lv_plain.specs.declared.program.OrderItem.{OrderItem}
 use Rattle.lv_plain.specs.declared.program.Program.{Program}
 use Rattle.lv_plain.specs.Events.{Event, schedule}
-use Rattle.lv_plain.specs.Machine.{Settings, State, Given, give}
+use Rattle.lv_plain.specs.Machine.{Settings, State, give}
 use Rattle.lv_plain.specs.Programs.{first_places}
 use Rattle.lv_plain.specs.Turns.{Reading}
 
@@ -74,37 +68,18 @@ lines = record {
   groups = [];
 }
 
-abbrev pub shop : List Bound
-shop = bound.Table item ∷ bound.Table sale ∷ bound.View per_item ∷ bound.View lines ∷ []
+-- a world with these tables and views, in which nothing is committed
+abbrev pub shop : World
+shop = record {
+  visible = record { tables = item ∷ sale ∷ []; views = per_item ∷ lines ∷ []; snaps = ([] ∷ [] ∷ []) ∷ []; commits = []; sessions = replicate 17 None };
+  upkeep = record { points = 0 ∷ 0 ∷ []; marks = 0 ∷ 0 ∷ []; claims = replicate 9 None; pruned = 0; journal = 9 };
+}
 
 abbrev pub add_item : ℕ → ℕ → Bound
 add_item id price = bound.Change (change.Insert 0 ((n id ∷ n price ∷ []) ∷ []))
 
 abbrev pub add_sale : ℕ → ℕ → ℕ → Bound
 add_sale key item qty = bound.Change (change.Insert 1 ((n key ∷ n item ∷ n qty ∷ []) ∷ []))
-
--- where a column of the only alias is this number
-abbrev pub is : ℕ → ℕ → Cond
-is column k = cond.Cmp op.Eq (Column (at 0 column)) (Number (pos k))
-
-abbrev pub set_price : ℕ → ℕ → Bound
-set_price id price = bound.Change (change.Update 0 (record { column = 1; value = Literal (n price) } ∷ []) (is 0 id))
-
-abbrev pub set_qty : ℕ → ℕ → Bound
-set_qty key qty = bound.Change (change.Update 1 (record { column = 2; value = Literal (n qty) } ∷ []) (is 0 key))
-
-abbrev pub drop_item : ℕ → Bound
-drop_item id = bound.Change (change.Delete 0 (is 0 id))
-
-abbrev pub drop_sale : ℕ → Bound
-drop_sale key = bound.Change (change.Delete 1 (is 0 key))
-
--- select * from a view of so many columns
-abbrev pub all_of_view : ℕ → ℕ → Bound
-all_of_view v columns = bound.Query (record { rels = rel.View v ∷ []; cond = cond.True; list = map (at 0) (range_with_len 0 columns); order = [] })
-
-abbrev pub all_of_table : ℕ → ℕ → Bound
-all_of_table t columns = bound.Query (record { rels = rel.Table t ∷ []; cond = cond.True; list = map (at 0) (range_with_len 0 columns); order = [] })
 
 -- a line is the place of its statement in a list
 abbrev pub reading : List Bound → Reading
@@ -122,15 +97,13 @@ abbrev pub run : Settings → List Bound → Program → State → List Event �
 run settings statements p s [] = []
 run settings statements p s (e ∷ es) = let given = give settings (reading statements) p false e s in given.entry ∷ run settings statements p given.next es
 
-abbrev pub begin_with : World → Program → State
-begin_with w p = record { world = w; places = first_places p }
-
-abbrev pub transcript : Settings → List Bound → Program → List Entry
-transcript settings statements p = run settings statements p (begin_with empty_world p) (schedule p)
-
--- a setup, one session, and an order
-abbrev pub program_of : ℕ → ℕ → List OrderItem → Program
-program_of setup lines order = record { setup = map line (range_with_len 0 setup); sessions = record { name = codes "a"; lines = map line (range_with_len setup lines) } ∷ []; order = order }
+-- two sessions, and an order
+abbrev pub program_of : List (List ℕ) → List (List ℕ) → List OrderItem → Program
+program_of a b order = record { setup = []; sessions = record { name = codes "a"; lines = a } ∷ record { name = codes "b"; lines = b } ∷ []; order = order }
 
 abbrev pub usual : Settings
 usual = record { combine = 16; limit = 1073741824; policy = 0 }
+
+-- the entries of the schedule, from the shop
+abbrev pub transcript : List Bound → Program → List Entry
+transcript statements p = run usual statements p (record { world = shop; places = first_places p }) (schedule p)

@@ -18,7 +18,8 @@ use Rattle.lv_schema.specs.declared.view.Item.TheVariants.{Plain, Sum, Count}
 use Rattle.lv_schema.specs.declared.view.ViewDef.{ViewDef}
 use Rattle.lv_values.specs.Ascending.{ascending}
 use Rattle.lv_values.specs.Order.{row_cmp}
-use Rattle.lv_schema.specs.Answers.{sorted_cmp, sorted_row, answer_over}
+use Rattle.lv_schema.specs.AnswerOrder.{sorted_cmp}
+use Rattle.lv_schema.specs.Answers.{sorted_row, answer_over}
 use Rattle.lv_schema.specs.Differences.{key_of, change_of, changes, difference}
 use Rattle.lv_schema.specs.Groups.{grouped_rows, group_row}
 use Rattle.lv_schema.specs.Once.{once}
@@ -126,7 +127,7 @@ abbrev dear : Query
 dear = record { rels = Table 0 ∷ []; cond = Not (Cmp Lt (Column (at 0 1)) (Number (pos 10))); list = at 0 0 ∷ at 0 1 ∷ []; order = (at 0 1, true) ∷ [] }
 
 abbrev answer_by : Query → (Tuple → Bool) → List (List ARow) → List ARow
-answer_by query keeps parts = map (λ row. row.1) (ascending sorted_cmp (map (sorted_row query) (filter keeps (tuples parts))))
+answer_by query keeps parts = map (λ r. r.row) (ascending sorted_cmp (map (sorted_row query) (filter keeps (tuples parts))))
 
 abbrev misses : Op → Operand → Operand → Tuple → Bool
 misses op left right tuple = is_yes (opposite (compared op (operand_value tuple left) (operand_value tuple right)))

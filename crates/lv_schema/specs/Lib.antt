@@ -10,9 +10,9 @@ pub mod Once
 pub mod Groups
 pub mod Nets
 pub mod Differences
-pub mod DirectedLaws
 pub mod SignedRows
 pub mod World
+pub mod AnswerOrder
 pub mod Answers
 pub mod Effects
 pub mod Records

@@ -26,7 +26,7 @@ pub use action::{Action, ActionKind, Actions, DeltaEntries, DeltaEntry};
 pub use bound::Bound;
 pub use change::{Change, Set, SetValue, Sets};
 pub use cond::{Col, Cols, Cond, Conds, Op, Operand};
-pub use directed::Directed;
+pub use directed::{Directed, DirectedValues, SortedRow};
 pub use fault::{Fault, LimitKind, ProfileRule};
 pub use forced::{Forced, ForcedSteps};
 pub use holding::{holds, listed, truth, value_at};
