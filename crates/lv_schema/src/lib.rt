@@ -17,6 +17,8 @@ mod query;
 mod rec;
 mod signed;
 mod table;
+#[cfg(test)]
+mod tests;
 mod view;
 
 pub use action::{Action, ActionKind, Actions, DeltaEntries, DeltaEntry};
