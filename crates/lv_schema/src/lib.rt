@@ -19,6 +19,8 @@ mod rec;
 mod schema;
 mod signed;
 mod table;
+#[cfg(test)]
+mod tests;
 mod tuple;
 mod view;
 
