@@ -51,16 +51,16 @@ module _ {A : Type 0} (R : A → A → Ordering) (o : IsTotalOrder R) (x : A) wh
       elim (cases_lt (k + 1) at) [
         | inl before ↦ rw (get_or-insert_below xs at x d k (omega arith) le, get_or-insert_below xs at x d (k + 1) before le) (Less-from_sorted R xs k (k + 1) d sorted (omega arith) (omega arith))
         | inr after ↦ elim (cases_lt k at) [
-            | inl last ↦ (let e : k + 1 ≡ at = omega arith in
-                rw (get_or-insert_below xs at x d k last le, e, get_or-insert_at xs at x d le) (less k d last))
-            | inr past ↦ elim (cases_lt at k) [
-                | inl further ↦ (let e : k ≡ (k - 1) + 1 = omega arith in
-                    subst (λ (j : ℕ). R (get_or (insert xs at x) j d) (get_or (insert xs at x) (k + 1) d) ≡ Less) (sym e)
-                      (rw (get_or-insert_above xs at x d (k - 1) (omega arith) le, get_or-insert_above xs at x d k past le) (Less-from_sorted R xs (k - 1) k d sorted (omega arith) (omega arith))))
-                | inr here ↦ (let e : k ≡ at = omega arith in
-                    rw (get_or-insert_above xs at x d k past le, e, get_or-insert_at xs at x d le) (below _ (more at d (omega arith) (omega arith))))
-              ]
+          | inl last ↦ (let e : k + 1 ≡ at = omega arith in
+              rw (get_or-insert_below xs at x d k last le, e, get_or-insert_at xs at x d le) (less k d last))
+          | inr past ↦ elim (cases_lt at k) [
+            | inl further ↦ (let e : k ≡ (k - 1) + 1 = omega arith in
+                subst (λ (j : ℕ). R (get_or (insert xs at x) j d) (get_or (insert xs at x) (k + 1) d) ≡ Less) (sym e)
+                (rw (get_or-insert_above xs at x d (k - 1) (omega arith) le, get_or-insert_above xs at x d k past le) (Less-from_sorted R xs (k - 1) k d sorted (omega arith) (omega arith))))
+            | inr here ↦ (let e : k ≡ at = omega arith in
+                rw (get_or-insert_above xs at x d k past le, e, get_or-insert_at xs at x d le) (below _ (more at d (omega arith) (omega arith))))
           ]
+        ]
       ])
 
 module _ (key : List ℕ) (row : Row) (rows : List Row) (sorted : IsStrictlySortedBy (key_cmp key) rows) where
@@ -92,9 +92,9 @@ module _ (key : List ℕ) (row : Row) (rows : List Row) (sorted : IsStrictlySort
       record {
         there = tt;
         apart = list_any_none (λ r. is_eq (key_cmp key r row)) rows (λ k d lt. elim (cases_lt k at) [
-            | inl before ↦ rw (less k d (omega arith) before) refl
-            | inr after ↦ rw (more k d after lt) refl
-          ]);
+          | inl before ↦ rw (less k d (omega arith) before) refl
+          | inr after ↦ rw (more k d after lt) refl
+        ]);
         place = placed_at (key_cmp key) total row rows at le (λ k d lt. less k d (omega arith) lt) (λ d lt. more at d (omega arith) lt);
         order = sorted_insert (key_cmp key) total row rows at row sorted le (λ k d lt. less k d (omega arith) lt) more;
       }

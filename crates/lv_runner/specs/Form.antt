@@ -102,7 +102,14 @@ item_at cs p = Plain (record { alias = 0; column = p }) (slice_index_or (map (λ
 -- the view of these columns over the table
 abbrev pub view_of : TableDef → List ℕ → List ℕ → ViewDef
 view_of table view ps = record {
-  no = 0; name = view; created = 0; tables = 0 ∷ []; cond = True; items = map (item_at table.columns) ps; grouped = false; groups = [];
+  no = 0;
+  name = view;
+  created = 0;
+  tables = 0 ∷ [];
+  cond = True;
+  items = map (item_at table.columns) ps;
+  grouped = false;
+  groups = [];
 }
 
 -- create view V as select C2, C1 from T
