@@ -1,4 +1,4 @@
-use Rattle.std.proofs.Common.{ℕ, ◌<◌, ◌≤◌, Bool, List, [], length, sym, ap, ◌∙◌, arith, codes, true, false, not}
+use Rattle.std.proofs.Common.{ℕ, ◌<◌, ◌≤◌, Bool, List, [], length, sym, ap, ◌∙◌, arith, codes, not}
 use Rattle.std.proofs.lemmas.Result.{err_from_is_err_and}
 use Rattle.lv_runner.specs.Reading.{begins}
 use Rattle.lv_runner.specs.Form.{column, columns}

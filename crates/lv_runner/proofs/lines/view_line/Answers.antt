@@ -1,6 +1,6 @@
-use Rattle.std.proofs.Common.{◌≡◌, ◌&&◌, not, true, false, refl, sym, ap, ◌∙◌}
+use Rattle.std.proofs.Common.{◌≡◌, ◌&&◌, not, true, false, refl, sym, ◌∙◌}
 use Rattle.std.specs.Str.{bytes_eq}
-use Rattle.lv_runner.specs.Form.{view_line, view_of, is_list, list}
+use Rattle.lv_runner.specs.Form.{view_line, is_list}
 use Rattle.lv_runner.proofs.lines.view_line.Goals as goal
 
 pub returns-then-not-is_view : goal.returns-then-not-is_view
