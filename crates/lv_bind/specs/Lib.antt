@@ -1,5 +1,6 @@
 pub mod Ambiguous
 pub mod InUse
+pub mod Kinds
 pub mod Pieces
 pub mod Seen
 pub mod Sources

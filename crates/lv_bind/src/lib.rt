@@ -3,6 +3,7 @@
 
 mod ambiguous;
 mod in_use;
+mod kinds;
 mod pieces;
 mod sources;
 mod unknown;

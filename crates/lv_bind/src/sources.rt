@@ -93,7 +93,7 @@ fn named_item(items: &[Item], name: &Text) -> Option<usize>
 }
 
 /// The columns of a table, none where the number is not in use.
-fn table_columns(schema: &Schema, number: u32) -> &[Column]
+pub(crate) fn table_columns(schema: &Schema, number: u32) -> &[Column]
     ensures { result.now ≡ (table_at schema.now.tables number).columns }
 {
     if number < schema.tables() {
