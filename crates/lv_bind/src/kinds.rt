@@ -149,8 +149,10 @@ fn assign_fits(schema: &Schema, sources: &[Source<'_>], kind: Kind, value: &Assi
 {
     match value {
         AssignValue::Literal(literal) => literal_fits(kind, literal),
-        AssignValue::Column(column) => is_text(kind) == is_text(kind_of(schema, sources, Mention::alone(column))),
-        AssignValue::Plus { column, .. } => !is_text(kind) && !is_text(kind_of(schema, sources, Mention::alone(column))),
+        AssignValue::Column(column) => is_text(kind)
+            == is_text(kind_of(schema, sources, Mention::alone(column))),
+        AssignValue::Plus { column, .. } => !is_text(kind)
+            && !is_text(kind_of(schema, sources, Mention::alone(column))),
     }
 }
 
@@ -188,11 +190,19 @@ pub(crate) fn insert_columns<'a>(schema: &'a Schema, table: &Named) -> &'a [Colu
 
 /// The byte of the first value of a statement with these aliases and comparisons that is of another kind than it has
 /// to be.
-pub(crate) fn kinds(schema: &Schema, stmt: &Stmt, sources: &[Source<'_>], comparisons: &[Sides<'_>]) -> Option<u32>
+pub(crate) fn kinds(
+    schema: &Schema,
+    stmt: &Stmt,
+    sources: &[Source<'_>],
+    comparisons: &[Sides<'_>],
+) -> Option<u32>
     ensures { result ≡ first (kinds_among schema.now.tables schema.now.views (map (alias_seen schema.now.tables schema.now.views) sources.now) (map sides_seen comparisons.now) stmt.now) }
 {
     match stmt {
-        Stmt::Insert { table, tuples } => inserted_kinds(insert_columns(schema, table), tuples.as_slice()),
+        Stmt::Insert { table, tuples } => inserted_kinds(
+            insert_columns(schema, table),
+            tuples.as_slice(),
+        ),
         Stmt::CreateView { items, .. } => {
             if let Some(byte) = summed_kinds(schema, sources, items.as_slice()) {
                 return Some(byte);

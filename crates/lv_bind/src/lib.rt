@@ -2,8 +2,10 @@
 #![tactic(auto)]
 
 mod ambiguous;
+mod entries;
 mod in_use;
 mod kinds;
+mod limits;
 mod pieces;
 mod sources;
 mod unknown;
