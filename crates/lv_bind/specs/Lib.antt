@@ -1,4 +1,5 @@
 pub mod Ambiguous
+pub mod Binding
 pub mod InUse
 pub mod Kinds
 pub mod Limits

@@ -2,6 +2,7 @@
 #![tactic(auto)]
 
 mod ambiguous;
+mod binding;
 mod entries;
 mod in_use;
 mod kinds;
