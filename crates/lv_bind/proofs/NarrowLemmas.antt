@@ -1,13 +1,19 @@
 -- Places among few aliases of few columns fit in a byte.
-use Rattle.std.proofs.Common.{◌≡◌, ◌<◌, ◌≤◌, ◌+◌, ℕ, suc, Bool, true, false, cond, List, [], ◌∷◌, length, Option, Some, None, IfSome, refl, sym, arith, get_or}
-use Rattle.std.specs.List.{AllByRecursion, cons_option, position}
+use Rattle.std.proofs.Common.{◌≡◌, ◌<◌, ◌≤◌, ◌+◌, ◌-◌, ℕ, zero, suc, map, Bool, true, false, cond, List, [], ◌∷◌, length, Option, Some, None, IfSome, refl, sym, arith, get_or, ◌++◌, ap, ◌∙◌}
+use Rattle.std.specs.List.{AllByRecursion, cons_option, position, range_with_len}
 use Rattle.std.specs.Option.{option_map, unwrap_or}
 use Rattle.std.specs.Str.{bytes_eq}
+use Rattle.std.proofs.lemmas.List.{append_assoc}
 use Rattle.std.proofs.lemmas.List.Quantifiers.{position-Some}
 use Rattle.lv_parser.specs.declared.tree.ColName.{ColName}
+use Rattle.lv_schema.specs.declared.cond.Col.{Col}
+use Rattle.lv_schema.specs.declared.table.TableDef.{TableDef}
+use Rattle.lv_schema.specs.declared.view.ViewDef.{ViewDef}
 use Rattle.lv_schema.specs.Catalog.{no_column}
 use Rattle.lv_bind.specs.declared.sources.Place.{Place}
+use Rattle.lv_bind.specs.declared.sources.Source.{Source}
 use Rattle.lv_bind.specs.Binding.{IsNarrow}
+use Rattle.lv_bind.specs.Seen.{alias_seen}
 use Rattle.lv_bind.specs.Sources.{Alias, first, goes_by, column_named, place_at, place_in, places_from, places, place_of}
 
 abbrev IsAt : ℕ → ℕ → Place → Type 0
@@ -42,3 +48,29 @@ narrow_alias sources col h = (at_place_of sources col h).0
 
 pub narrow_column : (sources : List Alias) (col : ColName) → IsNarrow sources → (place_of sources col).column < 16
 narrow_column sources col h = (at_place_of sources col h).1
+
+narrow_at : (tables : List TableDef) (views : List ViewDef) (xs : List Source) (i : ℕ) (d : Source)
+    → AllByRecursion (λ (s : Alias). length s.columns ≤ 16) (map (alias_seen tables views) xs) → i < length xs → length (alias_seen tables views (get_or xs i d)).columns ≤ 16
+narrow_at tables views [] i d h lt = absurd (omega arith)
+narrow_at tables views (x ∷ xs) zero d h lt = h.0
+narrow_at tables views (x ∷ xs) (suc i) d h lt = narrow_at tables views xs i d h.1 (omega arith)
+
+-- the columns of one of few aliases
+pub narrow_width : (tables : List TableDef) (views : List ViewDef) (xs : List Source) (i : ℕ) (x : Source)
+    → IsNarrow (map (alias_seen tables views) xs) → i < length xs → x ≡ get_or xs i x → length (alias_seen tables views x).columns ≤ 16
+narrow_width tables views xs i x h lt at = rw at (narrow_at tables views xs i x h.narrow lt)
+
+-- the numbers from a to below b
+range_more : (a b : ℕ) → a < b → range_with_len a (b - a) ≡ a ∷ range_with_len (a + 1) (b - (a + 1))
+range_more a b h = let e : b - a ≡ suc (b - (a + 1)) = omega arith in rw e refl
+
+abbrev col_of : ℕ → ℕ → Col
+col_of alias column = record { alias = alias; column = column }
+
+-- one more column of an alias at the end
+pub listed_more : (alias width column : ℕ) (out new start : List Col) → column < width → new ≡ out ++ col_of alias column ∷ []
+    → out ++ map (col_of alias) (range_with_len column (width - column)) ≡ start → new ++ map (col_of alias) (range_with_len (column + 1) (width - (column + 1))) ≡ start
+listed_more alias width column out new start lt n was =
+    let more : range_with_len column (width - column) ≡ column ∷ range_with_len (column + 1) (width - (column + 1)) = range_more column width lt in
+    rw n (append_assoc out (col_of alias column ∷ []) (map (col_of alias) (range_with_len (column + 1) (width - (column + 1))))
+    ∙ ap (λ l. out ++ map (col_of alias) l) (sym more) ∙ was)
