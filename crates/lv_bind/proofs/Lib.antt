@@ -1,1 +1,2 @@
+pub mod NarrowLemmas
 pub mod SourceLemmas

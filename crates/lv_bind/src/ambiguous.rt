@@ -12,7 +12,11 @@ use lv_schema::Schema;
 use lv_values::Text;
 
 /// The first of these columns that fits more than one alias.
-pub(crate) fn ambiguous<'a>(schema: &Schema, sources: &[Source<'_>], columns: &[Mention<'a>]) -> Option<&'a Text>
+pub(crate) fn ambiguous<'a>(
+    schema: &Schema,
+    sources: &[Source<'_>],
+    columns: &[Mention<'a>],
+) -> Option<&'a Text>
     ensures { option_copied result ≡ first (ambiguous_columns (map (alias_seen schema.now.tables schema.now.views) sources.now) (map column_seen columns.now)) }
 {
     for column in columns {

@@ -1,74 +1,19 @@
 //! Fault 4: names that are used already, or that stand twice.
-ghost use Rattle.std.specs.Prelude.{◌≡◌, ◌++◌, ℕ, List, map, IfOk};
+ghost use Rattle.std.specs.Prelude.{◌≡◌, ◌++◌, map, IfOk};
 ghost use Rattle.std.specs.List.{list_any};
 ghost use Rattle.std.specs.Option.{option_copied};
 ghost use Rattle.std.specs.Str.{bytes_eq};
-ghost use Rattle.lv_bind.specs.InUse.{output_of, repeated, same_place, regrouped, taken, repeated_columns, repeated_names, repeated_outputs, repeated_aliases, in_use};
+ghost use Rattle.lv_bind.specs.InUse.{repeated, same_place, regrouped, taken, repeated_columns, repeated_names, repeated_outputs, repeated_aliases, in_use};
 ghost use Rattle.lv_bind.specs.Seen.{alias_seen};
-ghost use Rattle.lv_bind.specs.Sources.{first, alias_of, sources_of};
+ghost use Rattle.lv_bind.specs.Sources.{first, sources_of};
 
+use crate::entries::Entry;
 use crate::pieces::Mention;
-use crate::sources::{Place, Source, alias_of, place_of};
-use lv_parser::{Assign, ColName, ColumnTree, ItemTree, Named, RefTree, Stmt};
+use crate::sources::{Place, Source, place_of};
+use lv_parser::{ColName, ColumnTree, ItemTree, Named, RefTree, Stmt};
 use lv_schema::Schema;
 use lv_values::{Items, NoMemory, Text};
 use std::alloc::Global;
-
-/// What has a name that may stand only once in its list.
-trait Entry {
-    ghost name_of: { Self → List ℕ };
-
-    fn name(&self) -> &Text
-        ensures { result.now ≡ name_of self.now };
-}
-
-impl Entry for Named {
-    ghost name_of = { λ n. n.name };
-
-    fn name(&self) -> &Text {
-        &self.name
-    }
-}
-
-impl Entry for ColumnTree {
-    ghost name_of = { λ c. c.name.name };
-
-    fn name(&self) -> &Text {
-        &self.name.name
-    }
-}
-
-impl Entry for ItemTree {
-    ghost name_of = { λ i. (output_of i).name };
-
-    fn name(&self) -> &Text {
-        match self {
-            ItemTree::Plain { col, output: None } => &col.name.name,
-            ItemTree::Plain {
-                output: Some(output),
-                ..
-            }
-            | ItemTree::Sum { output, .. }
-            | ItemTree::Count { output } => &output.name,
-        }
-    }
-}
-
-impl Entry for RefTree {
-    ghost name_of = { λ r. (alias_of r).name };
-
-    fn name(&self) -> &Text {
-        &alias_of(self).name
-    }
-}
-
-impl Entry for Assign {
-    ghost name_of = { λ a. a.column.name };
-
-    fn name(&self) -> &Text {
-        &self.column.name
-    }
-}
 
 fn is_named<T: Entry>(entries: &[T], name: &Text) -> bool
     ensures { result ≡ list_any (bytes_eq name.now) (map T.name_of entries.now) }
@@ -105,7 +50,12 @@ fn is_before(places: &[Place], place: Place) -> bool
 }
 
 /// The first GROUP BY column that is one before.
-fn regrouped<'a>(alloc: Global, schema: &Schema, sources: &[Source<'_>], columns: &'a [ColName]) -> Result<Option<&'a Text>, NoMemory>
+fn regrouped<'a>(
+    alloc: Global,
+    schema: &Schema,
+    sources: &[Source<'_>],
+    columns: &'a [ColName],
+) -> Result<Option<&'a Text>, NoMemory>
     ensures { IfOk result (λ found. option_copied found ≡ first (regrouped (map (alias_seen schema.now.tables schema.now.views) sources.now) columns.now)) }
 {
     let mut before = Items::new(alloc);
@@ -129,7 +79,12 @@ fn taken<'a>(schema: &Schema, name: &'a Named) -> Option<&'a Text>
     }
 }
 
-fn in_use_by_table<'a>(schema: &Schema, name: &'a Named, columns: &'a [ColumnTree], key: &'a [Named]) -> Option<&'a Text>
+fn in_use_by_table<'a>(
+    schema: &Schema,
+    name: &'a Named,
+    columns: &'a [ColumnTree],
+    key: &'a [Named],
+) -> Option<&'a Text>
     ensures { option_copied result ≡ first (taken schema.now.tables schema.now.views name.now ++ (repeated_columns columns.now ++ repeated_names key.now)) }
 {
     if let Some(name) = taken(schema, name) {
@@ -141,7 +96,12 @@ fn in_use_by_table<'a>(schema: &Schema, name: &'a Named, columns: &'a [ColumnTre
     repeated(key)
 }
 
-fn in_use_by_view<'a>(schema: &Schema, name: &'a Named, items: &'a [ItemTree], refs: &'a [RefTree]) -> Option<&'a Text>
+fn in_use_by_view<'a>(
+    schema: &Schema,
+    name: &'a Named,
+    items: &'a [ItemTree],
+    refs: &'a [RefTree],
+) -> Option<&'a Text>
     ensures { option_copied result ≡ first (taken schema.now.tables schema.now.views name.now ++ (repeated_outputs items.now ++ repeated_aliases refs.now)) }
 {
     if let Some(name) = taken(schema, name) {
@@ -155,13 +115,29 @@ fn in_use_by_view<'a>(schema: &Schema, name: &'a Named, items: &'a [ItemTree], r
 
 /// The first name of a statement with these aliases that is used already or stands twice. Cost: a comparison of each
 /// name with those before it in its list.
-pub(crate) fn in_use<'a>(alloc: Global, schema: &Schema, stmt: &'a Stmt, sources: &[Source<'_>]) -> Result<Option<&'a Text>, NoMemory>
+pub(crate) fn in_use<'a>(
+    alloc: Global,
+    schema: &Schema,
+    stmt: &'a Stmt,
+    sources: &[Source<'_>],
+) -> Result<Option<&'a Text>, NoMemory>
     requires { map (alias_seen schema.now.tables schema.now.views) sources.now ≡ sources_of schema.now.tables schema.now.views stmt.now }
     ensures { IfOk result (λ found. option_copied found ≡ first (in_use schema.now.tables schema.now.views stmt.now)) }
 {
     match stmt {
-        Stmt::CreateTable { name, columns, key } => Ok(in_use_by_table(schema, name, columns.as_slice(), key.as_slice())),
-        Stmt::CreateView { name, items, refs, groups, .. } => {
+        Stmt::CreateTable { name, columns, key } => Ok(in_use_by_table(
+            schema,
+            name,
+            columns.as_slice(),
+            key.as_slice(),
+        )),
+        Stmt::CreateView {
+            name,
+            items,
+            refs,
+            groups,
+            ..
+        } => {
             match in_use_by_view(schema, name, items.as_slice(), refs.as_slice()) {
                 Some(name) => Ok(Some(name)),
                 None => regrouped(alloc, schema, sources, groups.as_slice()),

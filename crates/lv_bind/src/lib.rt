@@ -2,7 +2,11 @@
 #![tactic(auto)]
 
 mod ambiguous;
+mod binding;
+mod entries;
 mod in_use;
+mod kinds;
+mod limits;
 mod pieces;
 mod sources;
 mod unknown;

@@ -102,7 +102,10 @@ fn push_listed<'a>(columns: &'a [ColName], out: &mut Items<Mention<'a>>) -> Resu
     Ok(())
 }
 
-fn push_ordered<'a>(order: &'a [(ColName, bool)], out: &mut Items<Mention<'a>>) -> Result<(), NoMemory>
+fn push_ordered<'a>(
+    order: &'a [(ColName, bool)],
+    out: &mut Items<Mention<'a>>,
+) -> Result<(), NoMemory>
     ensures { OnOk result (map column_seen out.new ≡ map column_seen out.old ++ map (λ by. by.0) order.now) }
 {
     for (column, _) in order {
@@ -135,7 +138,9 @@ fn push_assign<'a>(assign: &'a Assign, out: &mut Items<Mention<'a>>) -> Result<(
     out.push(Mention::alone(&assign.column))?;
     match &assign.value {
         AssignValue::Literal(_) => Ok(()),
-        AssignValue::Column(column) | AssignValue::Plus { column, .. } => out.push(Mention::alone(column)),
+        AssignValue::Column(column) | AssignValue::Plus { column, .. } => out.push(Mention::alone(
+            column,
+        )),
     }
 }
 
@@ -149,7 +154,10 @@ fn push_assigns<'a>(sets: &'a [Assign], out: &mut Items<Mention<'a>>) -> Result<
 }
 
 /// The comparisons of a statement, in the order of their places.
-pub(crate) fn comparisons_in<'a>(alloc: Global, stmt: &'a Stmt) -> Result<Items<Sides<'a>>, NoMemory>
+pub(crate) fn comparisons_in<'a>(
+    alloc: Global,
+    stmt: &'a Stmt,
+) -> Result<Items<Sides<'a>>, NoMemory>
     ensures { IfOk result (λ sides. map sides_seen sides ≡ comparisons_in stmt.now) }
 {
     let mut out = Items::new(alloc);
@@ -164,7 +172,11 @@ pub(crate) fn comparisons_in<'a>(alloc: Global, stmt: &'a Stmt) -> Result<Items<
 }
 
 /// Puts the columns that a statement names of its aliases at the end, in the order of their places.
-fn push_columns<'a>(stmt: &'a Stmt, sides: &[Sides<'a>], out: &mut Items<Mention<'a>>) -> Result<(), NoMemory>
+fn push_columns<'a>(
+    stmt: &'a Stmt,
+    sides: &[Sides<'a>],
+    out: &mut Items<Mention<'a>>,
+) -> Result<(), NoMemory>
     requires { map sides_seen sides.now ≡ comparisons_in stmt.now }
     ensures { OnOk result (map column_seen out.new ≡ map column_seen out.old ++ columns_in stmt.now) }
 {
@@ -191,7 +203,11 @@ fn push_columns<'a>(stmt: &'a Stmt, sides: &[Sides<'a>], out: &mut Items<Mention
 }
 
 /// The columns that a statement names of its aliases, in the order of their places, where these are its comparisons.
-pub(crate) fn columns_in<'a>(alloc: Global, stmt: &'a Stmt, sides: &[Sides<'a>]) -> Result<Items<Mention<'a>>, NoMemory>
+pub(crate) fn columns_in<'a>(
+    alloc: Global,
+    stmt: &'a Stmt,
+    sides: &[Sides<'a>],
+) -> Result<Items<Mention<'a>>, NoMemory>
     requires { map sides_seen sides.now ≡ comparisons_in stmt.now }
     ensures { IfOk result (λ found. map column_seen found ≡ columns_in stmt.now) }
 {

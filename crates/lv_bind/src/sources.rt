@@ -31,7 +31,11 @@ pub(crate) fn alias_of(table: &RefTree) -> &Named
 }
 
 /// Puts the aliases of a FROM at the end.
-fn push_refs<'a>(schema: &Schema, refs: &'a [RefTree], out: &mut Items<Source<'a>>) -> Result<(), NoMemory>
+fn push_refs<'a>(
+    schema: &Schema,
+    refs: &'a [RefTree],
+    out: &mut Items<Source<'a>>,
+) -> Result<(), NoMemory>
     ensures { OnOk result (let seen = map (alias_seen schema.now.tables schema.now.views) in seen out.new ≡ seen out.old ++ map (source_of schema.now.tables schema.now.views) refs.now) }
 {
     for table in refs {
@@ -44,7 +48,11 @@ fn push_refs<'a>(schema: &Schema, refs: &'a [RefTree], out: &mut Items<Source<'a
 }
 
 /// The aliases of a statement, in the order of FROM. Cost: a look-up of each name.
-pub(crate) fn sources<'a>(alloc: Global, schema: &Schema, stmt: &'a Stmt) -> Result<Items<Source<'a>>, NoMemory>
+pub(crate) fn sources<'a>(
+    alloc: Global,
+    schema: &Schema,
+    stmt: &'a Stmt,
+) -> Result<Items<Source<'a>>, NoMemory>
     ensures { IfOk result (λ found. map (alias_seen schema.now.tables schema.now.views) found ≡ sources_of schema.now.tables schema.now.views stmt.now) }
 {
     let mut out = Items::new(alloc);
@@ -93,7 +101,7 @@ fn named_item(items: &[Item], name: &Text) -> Option<usize>
 }
 
 /// The columns of a table, none where the number is not in use.
-fn table_columns(schema: &Schema, number: u32) -> &[Column]
+pub(crate) fn table_columns(schema: &Schema, number: u32) -> &[Column]
     ensures { result.now ≡ (table_at schema.now.tables number).columns }
 {
     if number < schema.tables() {
@@ -194,6 +202,22 @@ fn kind_in(schema: &Schema, rel: Option<Rel>, at: usize) -> Kind
     }
 }
 
+impl Source<'_> {
+    ghost use Rattle.std.specs.Prelude.{length};
+    ghost use Rattle.lv_bind.specs.Seen.{alias_seen};
+
+    /// How many columns the alias has.
+    pub fn width(&self, schema: &Schema) -> usize
+        ensures { result ≡ length (alias_seen schema.now.tables schema.now.views self.now).columns }
+    {
+        match self.rel {
+            None => 0,
+            Some(Rel::Table(number)) => table_columns(schema, number).len(),
+            Some(Rel::View(number)) => view_items(schema, number).len(),
+        }
+    }
+}
+
 /// The kind of a column of the aliases, a number where there is none.
 pub(crate) fn kind_at(schema: &Schema, sources: &[Source<'_>], place: Place) -> Kind
     ensures { result ≡ kind_at (map (alias_seen schema.now.tables schema.now.views) sources.now) place }
@@ -215,7 +239,12 @@ fn goes_by(qualifier: Option<&Named>, alias: &Text) -> bool
 }
 
 /// The place that a column fits in the alias of this number, if it fits one.
-fn place_in(schema: &Schema, number: usize, source: &Source<'_>, column: Mention<'_>) -> Option<Place>
+fn place_in(
+    schema: &Schema,
+    number: usize,
+    source: &Source<'_>,
+    column: Mention<'_>,
+) -> Option<Place>
     ensures { result ≡ place_in number (alias_seen schema.now.tables schema.now.views source.now) (column_seen column.entry) }
 {
     if !goes_by(column.qualifier, source.alias) {

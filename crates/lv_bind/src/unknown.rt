@@ -47,7 +47,11 @@ fn unknown_rel<'a>(schema: &Schema, stmt: &'a Stmt) -> Option<&'a Text>
     }
 }
 
-fn unknown_qualifier<'a>(schema: &Schema, sources: &[Source<'_>], qualifier: Option<&'a Named>) -> Option<&'a Text>
+fn unknown_qualifier<'a>(
+    schema: &Schema,
+    sources: &[Source<'_>],
+    qualifier: Option<&'a Named>,
+) -> Option<&'a Text>
     ensures { option_copied result ≡ first (unknown_qualifier (map (alias_seen schema.now.tables schema.now.views) sources.now) (option_copied qualifier.entry)) }
 {
     let qualifier = qualifier?;
@@ -72,7 +76,11 @@ fn unknown_in<'a>(schema: &Schema, sources: &[Source<'_>], column: Mention<'a>) 
     }
 }
 
-fn unknown_column<'a>(schema: &Schema, sources: &[Source<'_>], columns: &[Mention<'a>]) -> Option<&'a Text>
+fn unknown_column<'a>(
+    schema: &Schema,
+    sources: &[Source<'_>],
+    columns: &[Mention<'a>],
+) -> Option<&'a Text>
     ensures { option_copied result ≡ first (unknown_columns (map (alias_seen schema.now.tables schema.now.views) sources.now) (map column_seen columns.now)) }
 {
     for column in columns {
@@ -101,7 +109,12 @@ fn unknown_key<'a>(columns: &[ColumnTree], key: &'a [Named]) -> Option<&'a Text>
 }
 
 /// The first unknown name of a statement with these aliases and columns.
-pub(crate) fn unknown<'a>(schema: &Schema, stmt: &'a Stmt, sources: &[Source<'_>], columns: &[Mention<'a>]) -> Option<&'a Text>
+pub(crate) fn unknown<'a>(
+    schema: &Schema,
+    stmt: &'a Stmt,
+    sources: &[Source<'_>],
+    columns: &[Mention<'a>],
+) -> Option<&'a Text>
     requires sources { map (alias_seen schema.now.tables schema.now.views) sources.now ≡ sources_of schema.now.tables schema.now.views stmt.now }
     requires columns { map column_seen columns.now ≡ columns_in stmt.now }
     ensures { option_copied result ≡ first (unknown schema.now.tables schema.now.views stmt.now) }
