@@ -1,6 +1,11 @@
 //! Reads a line as a statement by the grammar of docs/LANGUAGE.md, or tells the byte of its syntax fault.
 #![tactic(auto)]
 
+mod conditions;
+mod cursor;
+mod sources;
+mod stop;
+mod terminals;
 mod tree;
 
 pub use tree::{
