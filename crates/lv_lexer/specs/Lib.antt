@@ -1,0 +1,4 @@
+pub mod Bytes
+pub mod Piece
+pub mod Scan
+pub mod Signs
