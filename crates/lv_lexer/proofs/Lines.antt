@@ -14,7 +14,7 @@ take_whole (x ∷ s) = ap (λ r. x ∷ r) (take_whole s)
 take_rest : (s : List ℕ) (i : ℕ) → take (length s - i) (drop i s) ≡ drop i s
 take_rest s i = grind (arith, common_steps, take_whole (drop i s))
 
-drop_twice : (a b : ℕ) (s : List ℕ) → drop (a + b) s ≡ drop b (drop a s)
+pub drop_twice : (a b : ℕ) (s : List ℕ) → drop (a + b) s ≡ drop b (drop a s)
 drop_twice a b s = grind (arith, common_steps)
 
 module _ (line : List ℕ) (list : List Token) (at n : ℕ)

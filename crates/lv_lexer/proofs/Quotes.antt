@@ -12,11 +12,11 @@ further_twice : (a b : ℕ) (o : Option ℕ) → further a (further b o) ≡ fur
 further_twice a b None = refl
 further_twice a b (Some n) = let e : a + (b + n) ≡ a + b + n = omega arith in ap (λ k. Some k) e
 
-other_first : (b : ℕ) (s : List ℕ) → nat_eq b 39 ≡ false → closing (b ∷ s) ≡ further 1 (closing s)
+pub other_first : (b : ℕ) (s : List ℕ) → nat_eq b 39 ≡ false → closing (b ∷ s) ≡ further 1 (closing s)
 other_first b [] e = rw e refl
 other_first b (c ∷ s) e = rw e refl
 
-two_first : (b c : ℕ) (s : List ℕ) → nat_eq b 39 ≡ true → nat_eq c 39 ≡ true → closing (b ∷ c ∷ s) ≡ further 2 (closing s)
+pub two_first : (b c : ℕ) (s : List ℕ) → nat_eq b 39 ≡ true → nat_eq c 39 ≡ true → closing (b ∷ c ∷ s) ≡ further 2 (closing s)
 two_first b c s e f = rw (e, f) refl
 
 differ : {a b : ℕ} → ((nat_eq a b ≡ true) × (a ≡ b)) ⊎ ((nat_eq a b ≡ false) × (a ≢ b)) → a ≢ b → nat_eq a b ≡ false

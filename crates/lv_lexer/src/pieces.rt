@@ -4,7 +4,7 @@ ghost use Rattle.std.specs.Prelude.{◌≡◌, ◌+◌, ◌<◌, ◌≤◌, ◌^
 ghost use Rattle.lv_lexer.specs.Bytes as spec;
 ghost use Rattle.lv_lexer.specs.Piece.{closing, number_of, piece};
 
-use crate::sign::sign_at;
+use crate::signs::sign_at;
 use crate::token::TokenKind;
 
 /// The most digits that a number has.

@@ -1,7 +1,8 @@
 //! The tokens of a line.
 
-ghost use Rattle.std.specs.Prelude.{◌≡◌, ◌-◌, ◌<◌, ◌^◌, length, IfOk};
-ghost use Rattle.lv_lexer.specs.Scan.{Scans, is_over};
+ghost use Rattle.std.specs.Prelude.{◌≡◌, ℕ, ◌-◌, ◌<◌, ◌^◌, List, length, Option, IfOk};
+ghost use Rattle.lv_lexer.specs.declared.token.Token.{Token};
+ghost use Rattle.lv_lexer.specs.Scan.{Scans, AreSpansOf, is_over};
 
 use crate::pieces::{blanks_len, piece};
 use crate::token::{Scan, Token, Tokens};
@@ -55,7 +56,14 @@ fn scan(alloc: Global, line: &[u8]) -> Result<Scan, NoMemory>
 /// a comment, which ends with the line. Cost: linear in the line.
 pub fn tokens(alloc: Global, line: &Text) -> Result<Scan, NoMemory>
     requires { length line.now < 2 ^ 32 - 1 }
-    ensures { IfOk result (λ scan. Scans 0 line.now scan.list scan.stopped) }
+    ensures scan { IfOk result (λ scan. Scans 0 line.now scan.list scan.stopped) }
+
+    // A line has one list of tokens.
+    ensures only { (list : List Token) (stopped : Option ℕ) → Scans 0 line.now list stopped
+        → IfOk result (λ scan. (scan.list ≡ list) × (scan.stopped ≡ stopped)) }
+
+    // They are in order, each one a slice of the line that spells its kind, and what is no token stands behind them.
+    ensures spans { IfOk result (λ scan. AreSpansOf line.now 0 scan.list scan.stopped) }
 {
     scan(alloc, line.as_bytes())
 }
