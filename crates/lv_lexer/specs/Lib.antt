@@ -1,0 +1,5 @@
+pub mod Bytes
+pub mod Keywords
+pub mod Piece
+pub mod Scan
+pub mod Signs

@@ -1,0 +1,13 @@
+//! Cuts a line into tokens and tells what each one says.
+#![tactic(auto)]
+
+mod keywords;
+mod pieces;
+mod scanning;
+mod signs;
+mod terminals;
+mod token;
+
+pub use scanning::tokens;
+pub use terminals::{Class, Terminal};
+pub use token::{Scan, Token, TokenKind, Tokens};
