@@ -1,8 +1,8 @@
 -- Classes by their numbers.
 use Rattle.std.proofs.Common.{◌≡◌, ℕ, zero, suc, Bool, true, false, ◌||◌, nat_eq, refl, sym, ap, ◌∙◌, eq-eqb, Option, Some, None}
 use Rattle.std.proofs.lemmas.Bool.{eqb-true}
-use Rattle.lv_parser.specs.declared.terminals.Class.{Class}
-use Rattle.lv_parser.specs.contracts.terminals.Class.{the_type}
+use Rattle.lv_lexer.specs.declared.terminals.Class.{Class}
+use Rattle.lv_lexer.specs.contracts.terminals.Class.{the_type}
 use denote.Enum.Bare.{tag_one}
 use Rattle.lv_parser.specs.Class.{code, same}
 

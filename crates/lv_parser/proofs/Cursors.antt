@@ -2,9 +2,9 @@
 use Rattle.std.proofs.Common.{◌≡◌, ℕ, Bool, true, false, List, [], ◌∷◌, ◌++◌, ◌-◌, ◌<◌, zero, suc, length, reverse, arith, subst, Option, Some, None, slice_get, MatchOption, IfSome, Result, Ok, Err, refl, sym, ap, ◌∙◌}
 use Rattle.std.proofs.lemmas.List.{reverse-append}
 use denote.Enum.Bare.{same_true, true_same, sameb}
-use Rattle.lv_parser.specs.contracts.terminals.Class.{the_type}
-use Rattle.lv_parser.specs.declared.terminals.Class.{Class}
-use Rattle.lv_parser.specs.declared.terminals.Terminal.{Terminal}
+use Rattle.lv_lexer.specs.contracts.terminals.Class.{the_type}
+use Rattle.lv_lexer.specs.declared.terminals.Class.{Class}
+use Rattle.lv_lexer.specs.declared.terminals.Terminal.{Terminal}
 use Rattle.lv_parser.specs.Class.{same}
 use Rattle.lv_parser.specs.Reading.{Outcome, sees, expect, next}
 use Rattle.lv_parser.specs.Numbers.{IsSmall, AreSmall}

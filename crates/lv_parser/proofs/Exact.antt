@@ -1,7 +1,7 @@
 -- A reader is exact for a rule where it finds the one reading that the next token doesn't go on with, and else stops at the first token that can't stand.
 use Rattle.std.proofs.Common.{◌≡◌, ℕ, zero, suc, ◌+◌, ◌≤◌, ◌<◌, Bool, true, false, ◌||◌, ◌&&◌, nat_eq, List, [], ◌∷◌, ◌++◌, length, ◌⊎◌, inl, inr, refl, sym, ap, ◌∙◌, subst, arith, Result, Ok, Err, Option, Some, None, if◌then◌else◌}
-use Rattle.lv_parser.specs.declared.terminals.Class.{Class}
-use Rattle.lv_parser.specs.declared.terminals.Terminal.{Terminal}
+use Rattle.lv_lexer.specs.declared.terminals.Class.{Class}
+use Rattle.lv_lexer.specs.declared.terminals.Terminal.{Terminal}
 use Rattle.lv_parser.specs.Class.{code, same, member, starts}
 use Rattle.lv_parser.specs.Rule.{Rule, ReadsEach, ReadsIf}
 use Rattle.lv_parser.specs.Rule as rule

@@ -1,8 +1,8 @@
 -- Lists, read on from what was found before.
 use Rattle.std.proofs.Common.{◌≡◌, ℕ, zero, suc, Bool, true, false, List, [], ◌∷◌, ◌++◌, length, refl, sym, ap, ◌∙◌, Result, Ok, Err}
 use Rattle.std.proofs.lemmas.List.{append_assoc}
-use Rattle.lv_parser.specs.declared.terminals.Class.{Class}
-use Rattle.lv_parser.specs.declared.terminals.Terminal.{Terminal}
+use Rattle.lv_lexer.specs.declared.terminals.Class.{Class}
+use Rattle.lv_lexer.specs.declared.terminals.Terminal.{Terminal}
 use Rattle.lv_parser.specs.Class.{code}
 use Rattle.lv_parser.specs.Rule.{Rule}
 use Rattle.lv_parser.specs.Rule as rule

@@ -1,6 +1,6 @@
 -- Parts of rules, grouped as their readers group them.
 use Rattle.std.proofs.Common.{ℤ, pos, ◌-ℤ◌, Bool, true, false, List, [], ◌∷◌, Option, Some, None}
-use Rattle.lv_parser.specs.declared.terminals.Class.TheVariants as k
+use Rattle.lv_lexer.specs.declared.terminals.Class.TheVariants as k
 use Rattle.lv_parser.specs.declared.conditions.Within.{Within}
 use Rattle.lv_parser.specs.declared.conditions.Within.TheVariants as w
 use Rattle.lv_parser.specs.declared.sources.Joined.{Joined}

@@ -1,8 +1,8 @@
 -- Exact readers, put together as the rules are.
 use Rattle.std.proofs.Common.{◌≡◌, ℕ, Bool, true, false, ◌||◌, ◌&&◌, not, nat_eq, List, [], ◌∷◌, ◌++◌, ◌⊎◌, inl, inr, refl, sym, ap, ◌∙◌, subst, Result, Ok, Err, Option, Some, None}
 use Rattle.std.proofs.lemmas.Bool.{eqb-true}
-use Rattle.lv_parser.specs.declared.terminals.Class.{Class}
-use Rattle.lv_parser.specs.declared.terminals.Terminal.{Terminal}
+use Rattle.lv_lexer.specs.declared.terminals.Class.{Class}
+use Rattle.lv_lexer.specs.declared.terminals.Terminal.{Terminal}
 use Rattle.lv_parser.specs.Class.{code, same, member, starts}
 use Rattle.lv_parser.specs.Rule.{Rule}
 use Rattle.lv_parser.specs.Rule as rule

@@ -1,6 +1,6 @@
 -- Rules put together in another order, with the same readings and fronts.
 use Rattle.std.proofs.Common.{◌≡◌, ℕ, Bool, List, ◌⊎◌, inl, inr, refl, sym, subst}
-use Rattle.lv_parser.specs.declared.terminals.Terminal.{Terminal}
+use Rattle.lv_lexer.specs.declared.terminals.Terminal.{Terminal}
 use Rattle.lv_parser.specs.Rule.{Rule}
 use Rattle.lv_parser.specs.Rule as rule
 use Rattle.lv_parser.proofs.Same.{Same}

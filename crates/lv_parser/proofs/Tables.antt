@@ -1,7 +1,7 @@
 -- CREATE TABLE, as it is printed and as it is read: `{ "," column } "," PRIMARY` is `"," { column "," } PRIMARY`.
 use Rattle.std.proofs.Common.{◌≡◌, List, [], ◌∷◌, inl, inr, refl}
-use Rattle.lv_parser.specs.declared.terminals.Class.TheVariants as k
-use Rattle.lv_parser.specs.declared.terminals.Terminal.{Terminal}
+use Rattle.lv_lexer.specs.declared.terminals.Class.TheVariants as k
+use Rattle.lv_lexer.specs.declared.terminals.Terminal.{Terminal}
 use Rattle.lv_parser.specs.declared.tree.Named.{Named}
 use Rattle.lv_parser.specs.declared.tree.ColumnTree.{ColumnTree}
 use Rattle.lv_parser.specs.declared.tree.Stmt.{Stmt}

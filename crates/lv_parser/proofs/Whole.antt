@@ -1,6 +1,6 @@
 -- From an exact reader to the answer for all tokens.
 use Rattle.std.proofs.Common.{◌≡◌, ℕ, Bool, true, false, List, [], ◌∷◌, ◌⊎◌, inl, inr, Result, Ok, Err, refl, sym, subst}
-use Rattle.lv_parser.specs.declared.terminals.Terminal.{Terminal}
+use Rattle.lv_lexer.specs.declared.terminals.Terminal.{Terminal}
 use Rattle.lv_parser.specs.Rule.{Rule}
 use Rattle.lv_parser.specs.Fault.{IsEnd, Stops, IsFault, byte_of}
 use Rattle.lv_parser.specs.Reading.{Outcome, Reader}

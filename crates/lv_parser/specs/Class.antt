@@ -1,9 +1,9 @@
 -- The classes of tokens as numbers, and sets of them.
 use Rattle.std.specs.Prelude.{◌≡◌, ℕ, Bool, true, false, ◌||◌, nat_eq, List, [], ◌∷◌}
-use Rattle.lv_parser.specs.declared.terminals.Class.{Class}
-use Rattle.lv_parser.specs.contracts.terminals.Class.{the_type}
+use Rattle.lv_lexer.specs.declared.terminals.Class.{Class}
+use Rattle.lv_lexer.specs.contracts.terminals.Class.{the_type}
 use denote.Enum.Declared.{tag_of}
-use Rattle.lv_parser.specs.declared.terminals.Terminal.{Terminal}
+use Rattle.lv_lexer.specs.declared.terminals.Terminal.{Terminal}
 
 -- the number of a class, in the order of its enum
 abbrev pub code : Class → ℕ

@@ -1,6 +1,6 @@
 -- The grammar of a line, from the bottom: a block for each line of the grammar that docs/LANGUAGE.md prints.
 use Rattle.std.specs.Prelude.{ℕ, zero, suc, ℤ, pos, ◌-ℤ◌, Bool, true, false, List, [], ◌∷◌, Option, Some, None, unwrap_or}
-use Rattle.lv_parser.specs.declared.terminals.Class.TheVariants as k
+use Rattle.lv_lexer.specs.declared.terminals.Class.TheVariants as k
 use Rattle.lv_parser.specs.declared.conditions.Within.{Within}
 use Rattle.lv_parser.specs.declared.conditions.Within.TheVariants as w
 use Rattle.lv_parser.specs.declared.sources.Joined.{Joined}

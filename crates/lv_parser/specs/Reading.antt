@@ -1,7 +1,7 @@
 -- Reading from the left, by the next token alone.
 use Rattle.std.specs.Prelude.{◌≡◌, ℕ, zero, suc, Bool, true, false, if◌then◌else◌, List, [], ◌∷◌, ◌++◌, length, Option, Some, None, Result, Ok, Err}
-use Rattle.lv_parser.specs.declared.terminals.Class.{Class}
-use Rattle.lv_parser.specs.declared.terminals.Terminal.{Terminal}
+use Rattle.lv_lexer.specs.declared.terminals.Class.{Class}
+use Rattle.lv_lexer.specs.declared.terminals.Terminal.{Terminal}
 use Rattle.lv_parser.specs.declared.stop.Stop.{Stop}
 use Rattle.lv_parser.specs.declared.stop.Stop.TheVariants.{Syntax, NoMemory}
 use Rattle.lv_parser.specs.Class.{same}

@@ -1,8 +1,8 @@
 -- What a rule of a grammar reads, and what its fronts are. A list of tokens is given by two of its ends:
 -- the tokens of `all` up to `rest`.
 use Rattle.std.specs.Prelude.{◌≡◌, Bool, List, [], ◌∷◌, ◌⊎◌, Option, Some, None}
-use Rattle.lv_parser.specs.declared.terminals.Class.{Class}
-use Rattle.lv_parser.specs.declared.terminals.Terminal.{Terminal}
+use Rattle.lv_lexer.specs.declared.terminals.Class.{Class}
+use Rattle.lv_lexer.specs.declared.terminals.Terminal.{Terminal}
 
 pub record Rule (A : Type 0) : Type 1 where
   -- the tokens of the first list up to the second are a whole reading, which gives this

@@ -8,7 +8,7 @@ ghost use Rattle.lv_parser.specs.Reading.{Gives, sees, expect, next, next_class}
 ghost use Rattle.lv_parser.specs.Numbers.{AreSmall, IsSmall};
 
 use crate::stop::Stop;
-use crate::terminals::{Class, Terminal};
+use lv_lexer::{Class, Terminal};
 use lv_values::Items;
 use std::marker::Model;
 
@@ -21,7 +21,7 @@ pub(crate) struct Cursor {
 
 impl Model for Cursor {
     ghost use Rattle.std.specs.Prelude.{List, reverse};
-    ghost use Rattle.lv_parser.specs.declared.terminals.Terminal.{Terminal};
+    ghost use Rattle.lv_lexer.specs.declared.terminals.Terminal.{Terminal};
     ghost use Rattle.lv_parser.specs.Numbers.{AreSmall};
 
     ghost Value = { List Terminal };

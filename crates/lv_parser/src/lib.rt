@@ -5,7 +5,6 @@ mod conditions;
 mod cursor;
 mod sources;
 mod stop;
-mod terminals;
 mod tree;
 
 pub use tree::{
