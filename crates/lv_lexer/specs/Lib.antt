@@ -1,5 +1,6 @@
 pub mod Bytes
 pub mod Keywords
+pub mod Meaning
 pub mod Piece
 pub mod Scan
 pub mod Signs

@@ -3,11 +3,13 @@
 
 mod keywords;
 mod pieces;
+mod reading;
 mod scanning;
 mod signs;
 mod terminals;
 mod token;
 
+pub use reading::read_token;
 pub use scanning::tokens;
 pub use terminals::{Class, Terminal};
 pub use token::{Scan, Token, TokenKind, Tokens};
