@@ -7,9 +7,11 @@ mod reading;
 mod scanning;
 mod signs;
 mod terminals;
+#[cfg(test)]
+mod tests;
 mod token;
 
-pub use reading::read_token;
+pub use reading::{read_token, read_tokens};
 pub use scanning::tokens;
-pub use terminals::{Class, Terminal};
+pub use terminals::{Class, Terminal, Terminals};
 pub use token::{Scan, Token, TokenKind, Tokens};

@@ -1,6 +1,6 @@
 //! What a token says.
 
-ghost use Rattle.std.specs.Prelude.{◌≡◌, ◌+◌, ◌-◌, ◌<◌, ◌≤◌, ◌^◌, ◌==◌, ◌&&◌, length, slice_index, IfOk, IsUtf8};
+ghost use Rattle.std.specs.Prelude.{◌≡◌, ◌+◌, ◌-◌, ◌<◌, ◌≤◌, ◌^◌, ◌==◌, ◌&&◌, length, slice_index, map, All, IfOk, IsUtf8};
 ghost use Rattle.std.specs.Str.{str_to_ascii_lowercase};
 ghost use Rattle.std.specs.Str.Parse.{digits_value};
 ghost use Rattle.lv_lexer.specs.declared.token.TokenKind.TheVariants as sort;
@@ -10,7 +10,7 @@ ghost use Rattle.lv_lexer.specs.Signs as spec;
 
 use crate::keywords::keyword_of;
 use crate::signs::sign_at;
-use crate::terminals::{Class, Terminal};
+use crate::terminals::{Class, Terminal, Terminals};
 use crate::token::{Token, TokenKind};
 use lv_values::{Bytes, NoMemory, Text, TextFault};
 use std::alloc::Global;
@@ -163,4 +163,17 @@ pub fn read_token(alloc: Global, line: &Text, token: &Token) -> Result<Terminal,
 {
     let bytes = &line.as_bytes()[token.start as usize..token.end as usize];
     read_bytes(alloc, bytes, token.kind, token.start + 1)
+}
+
+/// What the tokens of the line say, in their order. Cost: linear in the line.
+pub fn read_tokens(alloc: Global, line: &Text, tokens: &[Token]) -> Result<Terminals, NoMemory>
+    requires { All (IsTokenOf line.now) tokens.now }
+    ensures said { IfOk result (λ ts. ts ≡ map (terminal_of line.now) tokens.now) }
+    ensures small { IfOk result (All (λ t. t.number < 10 ^ 38)) }
+{
+    let mut terminals = Terminals::new(alloc);
+    for token in tokens {
+        terminals.push(read_token(alloc, line, token)?)?;
+    }
+    Ok(terminals)
 }
