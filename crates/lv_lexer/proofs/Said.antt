@@ -1,11 +1,11 @@
 -- What is known of the bytes of a token of each kind.
-use Rattle.std.proofs.Common.{◌≡◌, ℕ, zero, suc, ◌+◌, ◌-◌, ◌*◌, ◌^◌, ◌≤◌, ◌<◌, Bool, true, false, cond, nat_eq, nat_le, List, [], ◌∷◌, ◌++◌, length, get_or, take, drop, slice_range, Some, refl, sym, ap, ◌∙◌, subst, arith, ◌⊎◌, inl, inr, eqb-true, ◌||◌, length-drop}
+use Rattle.std.proofs.Common.{◌≡◌, ℕ, zero, suc, ◌+◌, ◌-◌, ◌*◌, ◌^◌, ◌≤◌, ◌<◌, Bool, true, false, cond, List, [], ◌∷◌, length, get_or, take, drop, slice_range, refl, sym, ap, ◌∙◌, subst, arith, inl, inr, eqb-true, length-drop}
 use Rattle.std.proofs.lemmas.Bool.{cases_lt, leb-true}
 use Rattle.std.proofs.lemmas.Bool.Decides.{nat_tests}
 use Rattle.std.proofs.lemmas.List.{get_or_past, take_all, length-take-le}
 use Rattle.std.proofs.lemmas.Grind.{common_steps}
 use Rattle.std.specs.Char.{digit_value, to_ascii_lowercase}
-use Rattle.std.specs.Str.{IsCharBoundary, IsUtf8, IsAscii, str_to_ascii_lowercase, encode_utf8_all}
+use Rattle.std.specs.Str.{IsCharBoundary, IsUtf8, IsAscii, str_to_ascii_lowercase}
 use Rattle.std.specs.Str.Parse.{digits_value, AllDigits}
 use Rattle.std.proofs.lemmas.Str.{IsUtf8-between, IsCharBoundary-after_ascii, IsCharBoundary-before_ascii, IsUtf8-from_ascii}
 use Rattle.std.proofs.lemmas.Str.Ascii.{IsAscii-map, lowercase_ascii}
@@ -13,12 +13,12 @@ use Rattle.std.proofs.lemmas.Int.Digits.{digits_value_more}
 use Rattle.std.proofs.lemmas.Str.Parse.{digits_value-take-le, digits_value_short, numerals_by_value, tells_digits}
 use Rattle.lv_lexer.specs.declared.token.Token.{Token}
 use Rattle.lv_lexer.specs.declared.token.TokenKind.{TokenKind}
-use Rattle.lv_lexer.specs.declared.token.TokenKind.TheVariants.{Word, Number, Text, Sign}
+use Rattle.lv_lexer.specs.declared.token.TokenKind.TheVariants.{Word, Number, Text}
 use Rattle.lv_lexer.specs.Bytes.{is_letter, is_digit, is_word_byte, run}
-use Rattle.lv_lexer.specs.Piece.{piece, closing}
+use Rattle.lv_lexer.specs.Piece.{piece}
 use Rattle.lv_lexer.specs.Scan.{Spells, IsTokenOf, text_in}
 use Rattle.lv_lexer.proofs.Sorts.{IsPiece, piece_is}
-use Rattle.lv_lexer.proofs.Fronts.{Closes, closes}
+use Rattle.lv_lexer.proofs.Fronts.{closes}
 
 -- where a run is all of the bytes, each of them passes
 run_all : (p : ℕ → Bool) (bytes : List ℕ) → run p bytes ≡ length bytes → (i : ℕ) → i < length bytes → p (get_or bytes i 0) ≡ true
@@ -84,8 +84,8 @@ is_ascii_word [] e i = absurd cc
 is_ascii_word (b ∷ bytes) e i =
     let known : IsPiece b bytes Word (suc (length bytes)) = piece_is b bytes Word (suc (length bytes)) e in
     elim (cases_lt i (suc (length bytes))) [
-      inl h ↦ word_byte_small (get_or (b ∷ bytes) i 0) (each_from is_word_byte b bytes (letter_in_word b known.0) (omega (arith, known.1)) i h)
-    | inr h ↦ omega (arith, get_or_past (b ∷ bytes) i 0 h)
+      | inl h ↦ word_byte_small (get_or (b ∷ bytes) i 0) (each_from is_word_byte b bytes (letter_in_word b known.0) (omega (arith, known.1)) i h)
+      | inr h ↦ omega (arith, get_or_past (b ∷ bytes) i 0 h)
     ]
 
 -- in lower case it is a text
@@ -137,7 +137,7 @@ token_is_utf8 line t known kind u =
     let first : get_or line (t.start + 0) 0 ≡ 39 = sym (at_slice line t.start t.end 0 (omega arith)) ∙ q.first in
     let last_at : t.start + (length (text_in line t) - 1) ≡ t.end - 1 = omega arith in
     let last : get_or line (t.end - 1) 0 ≡ 39 =
-        ap (λ (i : ℕ). get_or line i 0) (sym last_at) ∙ sym (at_slice line t.start t.end (length (text_in line t) - 1) (omega arith)) ∙ q.last in
+    ap (λ (i : ℕ). get_or line i 0) (sym last_at) ∙ sym (at_slice line t.start t.end (length (text_in line t) - 1) (omega arith)) ∙ q.last in
     let begin = IsCharBoundary-before_ascii line (t.start + 0) (omega arith) (omega arith) in
     let end = IsCharBoundary-after_ascii line (t.end - 1) u (omega arith) (omega arith) in
     let B : ℕ → Type 0 = λ i. IsCharBoundary line i in

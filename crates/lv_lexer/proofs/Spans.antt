@@ -1,5 +1,5 @@
 -- What is known of the tokens of a line: where they stand, and that a line has one list of them.
-use Rattle.std.proofs.Common.{◌≡◌, ℕ, ◌+◌, ◌-◌, ◌≤◌, ◌<◌, Bool, true, false, List, [], ◌∷◌, length, take, drop, slice_range, Option, Some, None, refl, sym, ap, ◌∙◌, subst, arith, length-drop}
+use Rattle.std.proofs.Common.{◌≡◌, ℕ, ◌+◌, ◌-◌, ◌≤◌, ◌<◌, false, List, [], ◌∷◌, length, take, drop, Option, Some, None, refl, sym, ap, ◌∙◌, subst, arith, length-drop}
 use Rattle.std.proofs.lemmas.List.{length-take-le}
 use Rattle.std.specs.List.{All}
 use Rattle.std.proofs.lemmas.Bool.{false≢true}
@@ -8,7 +8,7 @@ use Rattle.lv_lexer.specs.declared.token.TokenKind.{TokenKind}
 use Rattle.lv_lexer.specs.declared.token.Token.{Token}
 use Rattle.lv_lexer.specs.Bytes.{run, is_blank}
 use Rattle.lv_lexer.specs.Piece.{piece}
-use Rattle.lv_lexer.specs.Scan.{Scans, is_over, after_blanks, text_in, Spells, IsTokenOf, AreInOrder}
+use Rattle.lv_lexer.specs.Scan.{Scans, is_over, after_blanks, text_in, IsTokenOf, AreInOrder}
 use Rattle.lv_lexer.proofs.Fronts.{IsFront, is_front}
 use Rattle.lv_lexer.proofs.Lines.{drop_twice}
 

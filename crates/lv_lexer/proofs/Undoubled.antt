@@ -1,5 +1,5 @@
 -- A text in which pairs of quotes become one quote is still a text.
-use Rattle.std.proofs.Common.{◌≡◌, ◌≢◌, ℕ, ◌+◌, ◌<◌, ◌≤◌, Bool, true, false, cond, ◌&&◌, nat_eq, ltb, ◌/◌, ◌%◌, List, [], ◌∷◌, ◌++◌, length, get_or, refl, sym, ap, ◌∙◌, append_assoc, arith, ◌⊎◌, inl, inr, eqb-true, eq-eqb}
+use Rattle.std.proofs.Common.{◌≡◌, ℕ, ◌+◌, ◌<◌, ◌≤◌, Bool, true, false, cond, ◌&&◌, nat_eq, ltb, ◌/◌, ◌%◌, List, [], ◌∷◌, ◌++◌, length, get_or, refl, sym, ap, ◌∙◌, arith, inl, inr, eqb-true, eq-eqb}
 use Rattle.std.proofs.lemmas.Bool.{cases_lt, false≢true, false_from_ne_true}
 use Rattle.std.proofs.lemmas.Bool.Decides.{nat_tests}
 use Rattle.std.specs.Str.{IsUtf8, encode_utf8_all, all_scalars}
@@ -51,12 +51,12 @@ all_stay (x ∷ xs) rest n = stays x (xs ++ rest) n.0 ∙ ap (λ ys. x ∷ ys) (
 -- a character stays, unless it is a quote that another follows
 character : (c : ℕ) (rest : List ℕ) → (nat_eq c 39 ≡ true → nat_eq (get_or rest 0 0) 39 ≡ false) → undoubled (encode c ++ rest) ≡ encode c ++ undoubled rest
 character c rest last = elim (cases_lt c 128) [
-    inl h ↦
+  | inl h ↦
       let one : encode c ++ rest ≡ c ∷ rest = ap (λ bytes. bytes ++ rest) (encode_ascii c h) in
       let all : encode c ++ undoubled rest ≡ c ∷ undoubled rest = ap (λ bytes. bytes ++ undoubled rest) (encode_ascii c h) in
       ap undoubled one ∙ by (nat_eq c 39) refl ∙ sym all
   | inr h ↦ all_stay (encode c) rest (no_quotes c h)
-  ]
+]
   where
     by : (t : Bool) → nat_eq c 39 ≡ t → undoubled (c ∷ rest) ≡ c ∷ undoubled rest
     by true e = alone c rest (last e)

@@ -126,12 +126,7 @@ fn plain(alloc: Global, class: Class, byte: u32) -> Result<Terminal, NoMemory>
 }
 
 /// What the bytes say, which spell a token of this kind and stand at this byte of the line.
-fn read_bytes(
-    alloc: Global,
-    bytes: &[u8],
-    kind: TokenKind,
-    byte: u32,
-) -> Result<Terminal, NoMemory>
+fn read_bytes(alloc: Global, bytes: &[u8], kind: TokenKind, byte: u32) -> Result<Terminal, NoMemory>
     requires spelled { Spells bytes.now kind }
     requires utf8 { kind ≡ sort.Text → IsUtf8 bytes.now }
     ensures said { IfOk result (λ t. t ≡ said kind bytes.now byte) }

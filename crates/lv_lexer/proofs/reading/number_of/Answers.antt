@@ -14,14 +14,20 @@ overflow_sub-digit c =
 pub overflow_add-number : goal.overflow_add-number
 overflow_add-number c =
     let known = is_number c.args.digits.now c.requires in
-    omega (arith, step_small c.args.digits.now c.loop-digit.digit-index known c.loop-digit-test.true,
-    digit_known (get_or c.args.digits.now c.loop-digit.digit-index 0) (known.each c.loop-digit.digit-index c.loop-digit-test.true))
+    omega (
+      arith,
+      step_small c.args.digits.now c.loop-digit.digit-index known c.loop-digit-test.true,
+      digit_known (get_or c.args.digits.now c.loop-digit.digit-index 0) (known.each c.loop-digit.digit-index c.loop-digit-test.true),
+    )
 
 pub loop-digit-preserved : goal.loop-digit-preserved
 loop-digit-preserved c =
     let known = is_number c.args.digits.now c.requires in
-    omega (arith, digits_value_more 10 c.args.digits.now c.loop-digit.digit-index c.loop-digit-test.true,
-    digit_known (get_or c.args.digits.now c.loop-digit.digit-index 0) (known.each c.loop-digit.digit-index c.loop-digit-test.true))
+    omega (
+      arith,
+      digits_value_more 10 c.args.digits.now c.loop-digit.digit-index c.loop-digit-test.true,
+      digit_known (get_or c.args.digits.now c.loop-digit.digit-index 0) (known.each c.loop-digit.digit-index c.loop-digit-test.true),
+    )
 
 pub returns-clause-small : goal.returns-clause-small
 returns-clause-small c =

@@ -1,4 +1,4 @@
-use Rattle.std.proofs.Common.{List, ℕ, ◌-◌, sym, subst, slice_range}
+use Rattle.std.proofs.Common.{List, ℕ, sym, subst, slice_range}
 use Rattle.std.specs.Str.{IsUtf8}
 use Rattle.lv_lexer.proofs.Said.{token_is_utf8}
 use Rattle.lv_lexer.proofs.reading.read_token.Goals as goal

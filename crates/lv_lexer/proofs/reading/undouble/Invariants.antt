@@ -1,4 +1,4 @@
-use Rattle.std.proofs.Common.{◌≡◌, ◌-◌, ◌≤◌, ◌+◌, ◌++◌, length, drop}
+use Rattle.std.proofs.Common.{◌≡◌, ◌-◌, ◌++◌, length, drop}
 use Rattle.lv_lexer.specs.Meaning.{undoubled}
 use Rattle.lv_lexer.proofs.reading.undouble.Given as goal
 
