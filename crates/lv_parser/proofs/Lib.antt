@@ -1,0 +1,14 @@
+pub mod Cursors
+pub mod Ends
+pub mod Exact
+pub mod Classes
+pub mod Readers
+pub mod Same
+pub mod Regroup
+pub mod Lists
+pub mod Parts
+pub mod Tables
+pub mod Views
+pub mod ExactRules
+pub mod Shift
+pub mod Whole

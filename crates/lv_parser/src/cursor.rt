@@ -1,0 +1,114 @@
+//! The tokens that are still to be read.
+
+ghost use Rattle.std.specs.Prelude.{◌≡◌, ◌↔◌, ◌^◌, ◌<◌, IsTrue, IfOk, IfSome, MatchOption, [], ◌∷◌, length, reverse};
+ghost use Rattle.std.specs.Option.{option_copied};
+ghost use Rattle.lv_parser.specs.Class.{same};
+ghost use Rattle.lv_parser.specs.Fault.{byte_of};
+ghost use Rattle.lv_parser.specs.Reading.{Gives, sees, expect, next, next_class};
+ghost use Rattle.lv_parser.specs.Numbers.{AreSmall, IsSmall};
+
+use crate::stop::Stop;
+use lv_lexer::{Class, Terminal};
+use lv_values::Items;
+use std::marker::Model;
+
+/// The tokens that are still to be read, seen in their order. The next one lies last, so that it is taken off
+/// without a copy. Each number among them has at most 38 digits.
+#[derive(Drop)]
+pub(crate) struct Cursor {
+    rest: Items<Terminal>,
+}
+
+impl Model for Cursor {
+    ghost use Rattle.std.specs.Prelude.{List, reverse};
+    ghost use Rattle.lv_lexer.specs.declared.terminals.Terminal.{Terminal};
+    ghost use Rattle.lv_parser.specs.Numbers.{AreSmall};
+
+    ghost Value = { List Terminal };
+
+    ghost view = { λ c. reverse c.rest };
+
+    ghost invariant = { λ c. AreSmall c.rest };
+}
+
+fn same_class(a: Class, b: Class) -> bool
+    ensures { result ≡ same a b }
+{
+    a == b
+}
+
+impl Cursor {
+    /// The tokens, of which the first to be read is the last of these.
+    pub fn new(backwards: Items<Terminal>) -> Cursor
+        requires { AreSmall backwards }
+        ensures { result ≡ reverse backwards }
+    {
+        Cursor { rest: backwards }
+    }
+
+    /// How many tokens are left.
+    pub fn len(&self) -> usize
+        ensures { result ≡ length self.now }
+    {
+        self.rest.len()
+    }
+
+    /// The next token.
+    fn next(&self) -> Option<&Terminal>
+        ensures { option_copied result ≡ next self.now }
+    {
+        self.rest.as_slice().last()
+    }
+
+    /// Whether a token of this class comes next.
+    pub fn sees(&self, class: Class) -> bool
+        ensures { result ≡ sees class self.now }
+    {
+        match self.next() {
+            None => false,
+            Some(token) => same_class(token.class, class),
+        }
+    }
+
+    /// The class of the next token.
+    pub fn peek(&self) -> Option<Class>
+        ensures { result ≡ next_class self.now }
+    {
+        match self.next() {
+            None => None,
+            Some(token) => Some(token.class),
+        }
+    }
+
+    /// The byte of the next token, or where there is none this one.
+    pub fn byte(&self, end: u32) -> u32
+        ensures { result ≡ byte_of end self.now }
+    {
+        match self.next() {
+            None => end,
+            Some(token) => token.byte,
+        }
+    }
+
+    /// Takes the next token, where there is one.
+    fn take(&mut self) -> Option<Terminal>
+        ensures taken { MatchOption result ((self.old ≡ []) × (self.new ≡ [])) (λ t. self.old ≡ t ∷ self.new) }
+        ensures small { IfSome result IsSmall }
+    {
+        self.rest.pop()
+    }
+
+    /// Takes the next token, which is to be of this class. Else it stays.
+    pub fn expect(&mut self, class: Class) -> Result<Terminal, Stop>
+        ensures given { Gives (expect class self.old) result self.new }
+        ensures small { IfOk result IsSmall }
+    {
+        if !self.sees(class) {
+            return Err(Stop::Syntax);
+        }
+        match self.take() {
+            None => Err(Stop::Syntax),
+            Some(token) => Ok(token),
+        }
+    }
+}

@@ -1,0 +1,14 @@
+//! Reads a line as a statement by the grammar of docs/LANGUAGE.md, or tells the byte of its syntax fault.
+#![tactic(auto)]
+
+mod conditions;
+mod cursor;
+mod sources;
+mod stop;
+mod tree;
+
+pub use tree::{
+    Assign, AssignValue, Assigns, ColName, ColNames, ColumnKind, ColumnTree, ColumnTrees, CondTree,
+    CondTrees, ItemTree, ItemTrees, Literal, Literals, Named, Names, OperandTree, OrderTrees,
+    RefTree, RefTrees, Sign, Stmt, Tuple, Tuples,
+};
