@@ -1,3 +1,4 @@
+pub mod Doubled
 pub mod Fronts
 pub mod Lines
 pub mod Quotes

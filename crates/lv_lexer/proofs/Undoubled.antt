@@ -25,7 +25,7 @@ high : (b : ℕ) → 128 ≤ b → nat_eq b 39 ≡ false
 high b h = grind (arith, nat_tests)
 
 -- no byte of these is a quote
-abbrev NoQuotes : List ℕ → Type 0
+abbrev pub NoQuotes : List ℕ → Type 0
 NoQuotes [] = Unit {0}
 NoQuotes (b ∷ bytes) = (nat_eq b 39 ≡ false) × NoQuotes bytes
 
@@ -34,7 +34,7 @@ either true xs ys x y = x
 either false xs ys x y = y
 
 -- the bytes of a character of more than one byte
-no_quotes : (c : ℕ) → 128 ≤ c → NoQuotes (encode c)
+pub no_quotes : (c : ℕ) → 128 ≤ c → NoQuotes (encode c)
 unfolding encode
 no_quotes c h =
     let tail : (n : ℕ) → nat_eq (128 + n % 64) 39 ≡ false = λ n. high (128 + n % 64) (omega arith) in
@@ -62,7 +62,7 @@ character c rest last = elim (cases_lt c 128) [
     by true e = alone c rest (last e)
     by false e = stays c rest e
 
-quote : encode 39 ≡ 39 ∷ []
+pub quote : encode 39 ≡ 39 ∷ []
 quote = encode_ascii 39 (omega arith)
 
 pair : (c d : ℕ) (rest : List ℕ) → c ≡ 39 → d ≡ 39 → undoubled (encode c ++ (encode d ++ rest)) ≡ 39 ∷ undoubled rest

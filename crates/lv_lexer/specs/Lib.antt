@@ -4,3 +4,4 @@ pub mod Meaning
 pub mod Piece
 pub mod Scan
 pub mod Signs
+pub mod Written

@@ -10,8 +10,10 @@ mod terminals;
 #[cfg(test)]
 mod tests;
 mod token;
+mod writing;
 
 pub use reading::{read_token, read_tokens};
 pub use scanning::tokens;
 pub use terminals::{Class, Terminal, Terminals};
 pub use token::{Scan, Token, TokenKind, Tokens};
+pub use writing::Writer;
