@@ -1,18 +1,18 @@
 -- A piece is told by its own bytes: what follows them can be cut off.
-use Rattle.std.proofs.Common.{◌≡◌, ℕ, zero, suc, ◌+◌, ◌-◌, ◌≤◌, ◌<◌, Bool, true, false, List, [], ◌∷◌, ◌++◌, length, get_or, take, drop, Option, Some, None, option_map, nat_eq, nat_le, nat_lt, ◌&&◌, cond, refl, sym, ap, ◌∙◌, subst, arith, one-add, eqb-true}
+use Rattle.std.proofs.Common.{◌≡◌, ℕ, suc, ◌+◌, ◌-◌, ◌≤◌, ◌<◌, Bool, true, false, List, [], ◌∷◌, ◌++◌, length, get_or, take, Option, Some, None, option_map, nat_eq, nat_lt, ◌&&◌, cond, refl, sym, ap, ◌∙◌, subst, arith, one-add, eqb-true}
 use Rattle.std.specs.List.{starts_with, list_all}
 use borrow.Author.Tests.{ltb-true}
 use Rattle.std.proofs.lemmas.List.Sums.{prefix_len-le-length}
 use Rattle.std.proofs.lemmas.Grind.{common_steps}
-use Rattle.std.proofs.lemmas.List.{length-take-le, length-take}
+use Rattle.std.proofs.lemmas.List.{length-take}
 use Rattle.std.proofs.lemmas.Bool.{false_from_ne_true, false≢true}
 use Rattle.std.specs.Str.{bytes_eq}
 use Rattle.std.proofs.lemmas.Slice.Eq.{bytes_eq-Decides}
 use Rattle.lv_lexer.specs.declared.terminals.Class.{Class}
 use Rattle.lv_lexer.specs.declared.token.TokenKind.{TokenKind}
 use Rattle.lv_lexer.specs.declared.token.TokenKind.TheVariants.{Word, Number, Text, Sign}
-use Rattle.lv_lexer.specs.Bytes.{is_letter, is_digit, is_word_byte, run}
-use Rattle.lv_lexer.specs.Piece.{piece, closing, number_of}
+use Rattle.lv_lexer.specs.Bytes.{is_digit, is_word_byte, run}
+use Rattle.lv_lexer.specs.Piece.{piece, closing}
 use Rattle.lv_lexer.specs.Signs.{sign_at, first_fit, long_signs, short_signs}
 use Rattle.lv_lexer.proofs.Quotes.{further, other_first, two_first}
 use Rattle.lv_lexer.proofs.Sorts.{IsPiece, piece_is, piece_by}
@@ -131,9 +131,9 @@ fits (s ∷ more) bytes class n e = by (starts_with nat_eq bytes s.0) refl e (fi
         let inner = rest e in
         let short : length (take n bytes) ≤ n = omega (arith, length-take n bytes) in
         let none = false_from_ne_true (starts_with nat_eq (take n bytes) s.0) (λ (t : starts_with nat_eq (take n bytes) s.0 ≡ true).
-            let there = begins (take n bytes) s.0 t in
-            let long : length s.0 ≤ n = omega (arith, fits_in (take n bytes) s.0 there) in
-            false≢true (sym q ∙ (bytes_eq-Decides s.0 (take (length s.0) bytes)).1 (there ∙ take_take (length s.0) n bytes long))) in
+        let there = begins (take n bytes) s.0 t in
+        let long : length s.0 ≤ n = omega (arith, fits_in (take n bytes) s.0 there) in
+        false≢true (sym q ∙ (bytes_eq-Decides s.0 (take (length s.0) bytes)).1 (there ∙ take_take (length s.0) n bytes long))) in
         record { within = inner.within; front = rw none inner.front }
 
 -- a sign has bytes
@@ -176,7 +176,7 @@ of_kind b bytes Sign n (l, d, q, (class, s)) =
     let some = fits_some (long_signs ++ short_signs) (b ∷ bytes) class n refl s in
     let one : suc (n - 1) ≡ n = omega arith in
     let front : sign_at (b ∷ take (n - 1) bytes) ≡ Some (class, suc (n - 1)) =
-        let P : ℕ → Type 0 = λ k. sign_at (take k (b ∷ bytes)) ≡ Some (class, k) in subst P (sym one) known.front in
+    let P : ℕ → Type 0 = λ k. sign_at (take k (b ∷ bytes)) ≡ Some (class, k) in subst P (sym one) known.front in
     at_length b bytes Sign n (n - 1) one (omega (arith, known.within)) (piece_by b (take (n - 1) bytes) Sign (suc (n - 1)) (l, d, q, (class, front)))
 
 pub is_front : (bytes : List ℕ) (kind : TokenKind) (n : ℕ) → piece bytes ≡ Some (kind, n) → IsFront bytes kind n

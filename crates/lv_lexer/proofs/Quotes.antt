@@ -1,5 +1,5 @@
 -- The closing quote of a text, looked for from a place on.
-use Rattle.std.proofs.Common.{◌≡◌, ◌≢◌, ℕ, suc, ◌+◌, ◌<◌, Bool, true, false, nat_eq, List, [], ◌∷◌, length, get_or, drop, Option, Some, None, option_map, refl, sym, ap, ◌∙◌, arith, ◌⊎◌, inl, inr, eq-eqb}
+use Rattle.std.proofs.Common.{◌≡◌, ◌≢◌, ℕ, suc, ◌+◌, ◌<◌, true, false, nat_eq, List, [], ◌∷◌, length, get_or, drop, Option, Some, None, option_map, refl, sym, ap, ◌∙◌, arith, ◌⊎◌, inl, inr, eq-eqb}
 use Rattle.std.proofs.Math.Seq.{drop-cons}
 use Rattle.std.proofs.lemmas.Bool.Decides.{eqb_tells}
 use Rattle.lv_lexer.specs.Piece.{closing}
@@ -30,7 +30,7 @@ module _ (s : List ℕ) (at : ℕ) (whole : closing s ≡ further at (closing (d
   after_other : nat_eq (get_or s at 0) 39 ≡ false → closing s ≡ further (at + 1) (closing (drop (suc at) s))
   after_other z =
       whole ∙ (ap (λ r. further at (closing r)) here ∙ (ap (further at) (other_first (get_or s at 0) (drop (suc at) s) z)
-          ∙ further_twice at 1 (closing (drop (suc at) s))))
+      ∙ further_twice at 1 (closing (drop (suc at) s))))
 
   -- past a byte that is no quote
   pub past_other : get_or s at 0 ≢ 39 → closing s ≡ further (at + 1) (closing (drop (at + 1) s))
@@ -42,8 +42,8 @@ module _ (s : List ℕ) (at : ℕ) (whole : closing s ≡ further at (closing (d
       → closing s ≡ further (at + 2) (closing (drop (suc (suc at)) s))
   after_two z l y =
       whole ∙ (ap (λ r. further at (closing r)) (here ∙ ap (λ r. get_or s at 0 ∷ r) (drop-cons s (suc at) 0 l))
-          ∙ (ap (further at) (two_first (get_or s at 0) (get_or s (suc at) 0) (drop (suc (suc at)) s) z y)
-          ∙ further_twice at 2 (closing (drop (suc (suc at)) s))))
+      ∙ (ap (further at) (two_first (get_or s at 0) (get_or s (suc at) 0) (drop (suc (suc at)) s) z y)
+      ∙ further_twice at 2 (closing (drop (suc (suc at)) s))))
 
   -- past two quotes
   pub past_two : get_or s at 0 ≡ 39 → at + 1 < length s → get_or s (at + 1) 0 ≡ 39 → closing s ≡ further (at + 2) (closing (drop (at + 2) s))

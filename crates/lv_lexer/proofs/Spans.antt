@@ -1,12 +1,14 @@
 -- What is known of the tokens of a line: where they stand, and that a line has one list of them.
-use Rattle.std.proofs.Common.{◌≡◌, ℕ, ◌+◌, ◌-◌, ◌≤◌, ◌<◌, Bool, true, false, List, [], ◌∷◌, length, take, drop, slice_range, Option, Some, None, refl, sym, ap, ◌∙◌, subst, arith, length-drop}
+use Rattle.std.proofs.Common.{◌≡◌, ℕ, ◌+◌, ◌-◌, ◌≤◌, ◌<◌, false, List, [], ◌∷◌, length, take, drop, Option, Some, None, refl, sym, ap, ◌∙◌, subst, arith, length-drop}
 use Rattle.std.proofs.lemmas.List.{length-take-le}
+use Rattle.std.specs.List.{All}
 use Rattle.std.proofs.lemmas.Bool.{false≢true}
+use Rattle.std.proofs.lemmas.List.Elements.{All-nil, All-cons}
 use Rattle.lv_lexer.specs.declared.token.TokenKind.{TokenKind}
 use Rattle.lv_lexer.specs.declared.token.Token.{Token}
 use Rattle.lv_lexer.specs.Bytes.{run, is_blank}
 use Rattle.lv_lexer.specs.Piece.{piece}
-use Rattle.lv_lexer.specs.Scan.{Scans, is_over, after_blanks, text_in, Spells, IsTokenOf, AreSpansOf}
+use Rattle.lv_lexer.specs.Scan.{Scans, is_over, after_blanks, text_in, IsTokenOf, AreInOrder}
 use Rattle.lv_lexer.proofs.Fronts.{IsFront, is_front}
 use Rattle.lv_lexer.proofs.Lines.{drop_twice}
 
@@ -50,11 +52,19 @@ module _ (line : List ℕ) (at : ℕ) (bytes : List ℕ) (rest : bytes ≡ drop 
     after : drop (t.end - t.start) (after_blanks bytes) ≡ drop t.end line
     after = ap (drop (t.end - t.start)) from_start ∙ sym (drop_twice t.start (t.end - t.start) line) ∙ ap (λ (n : ℕ). drop n line) (omega arith)
 
-pub spans : (line : List ℕ) (at : ℕ) (bytes : List ℕ) (ts : List Token) (stopped : Option ℕ) → bytes ≡ drop at line → Scans at bytes ts stopped → AreSpansOf line at ts stopped
-spans line at bytes [] None rest h = tt
-spans line at bytes [] (Some stop) rest (o, p, e) = stop_within line at bytes rest stop o e
-spans line at bytes (t ∷ more) stopped rest (o, p, s, le, h) =
-    (omega arith, is_token line at bytes rest t p s le, spans line t.end (drop (t.end - t.start) (after_blanks bytes)) more stopped (after line at bytes rest t p s le) h)
+pub in_order : (line : List ℕ) (at : ℕ) (bytes : List ℕ) (ts : List Token) (stopped : Option ℕ) → bytes ≡ drop at line → at ≤ length line → Scans at bytes ts stopped
+    → AreInOrder (length line) at ts stopped
+in_order line at bytes [] None rest within h = within
+in_order line at bytes [] (Some stop) rest within (o, p, e) = stop_within line at bytes rest stop o e
+in_order line at bytes (t ∷ more) stopped rest within (o, p, s, le, h) =
+    let known = is_token line at bytes rest t p s le in
+    (omega arith, known.order, in_order line t.end (drop (t.end - t.start) (after_blanks bytes)) more stopped (after line at bytes rest t p s le) known.within h)
+
+pub each_token : (line : List ℕ) (at : ℕ) (bytes : List ℕ) (ts : List Token) (stopped : Option ℕ) → bytes ≡ drop at line → Scans at bytes ts stopped → All (IsTokenOf line) ts
+each_token line at bytes [] stopped rest h = All-nil (IsTokenOf line)
+each_token line at bytes (t ∷ more) stopped rest (o, p, s, le, h) =
+    All-cons (IsTokenOf line) t more (is_token line at bytes rest t p s le)
+    (each_token line t.end (drop (t.end - t.start) (after_blanks bytes)) more stopped (after line at bytes rest t p s le) h)
 
 found : TokenKind → ℕ → Option (TokenKind × ℕ)
 found k n = Some (k, n)

@@ -1,5 +1,5 @@
 -- The token that begins some bytes. Its kind is told by the first byte, and it is the longest of that kind.
-use Rattle.std.specs.Prelude.{ℕ, ◌+◌, if◌then◌else◌, ◌==◌, nat_le, List, [], ◌∷◌, Option, Some, None, option_map, option_and_then}
+use Rattle.std.specs.Prelude.{ℕ, ◌+◌, if◌then◌else◌, ◌==◌, nat_le, List, [], ◌∷◌, Option, Some, None, option_map}
 use Rattle.lv_lexer.specs.declared.token.TokenKind.{TokenKind}
 use Rattle.lv_lexer.specs.declared.token.TokenKind.TheVariants.{Word, Number, Text, Sign}
 use Rattle.lv_lexer.specs.Bytes.{is_letter, is_digit, is_word_byte, run}

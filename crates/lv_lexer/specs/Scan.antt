@@ -40,8 +40,9 @@ pub record IsTokenOf (line : List ℕ) (t : Token) : Type 0 where
   pub within : t.end ≤ length line
   pub spelled : Spells (text_in line t) t.kind
 
--- tokens of the line from this offset on, each behind the one before, and then the place of a piece that is no token
-abbrev pub AreSpansOf : List ℕ → ℕ → List Token → Option ℕ → Type 0
-AreSpansOf line at [] None = Unit {0}
-AreSpansOf line at [] (Some stop) = (at ≤ stop) × (stop < length line)
-AreSpansOf line at (t ∷ more) stopped = (at ≤ t.start) × IsTokenOf line t × AreSpansOf line t.end more stopped
+-- Tokens in order, from this offset on and up to the line's length: each has bytes and begins where the one before
+-- ends, or later. What is no token stands behind them.
+abbrev pub AreInOrder : ℕ → ℕ → List Token → Option ℕ → Type 0
+AreInOrder len at [] None = at ≤ len
+AreInOrder len at [] (Some stop) = (at ≤ stop) × (stop < len)
+AreInOrder len at (t ∷ more) stopped = (at ≤ t.start) × (t.start < t.end) × AreInOrder len t.end more stopped

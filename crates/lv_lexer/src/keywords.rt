@@ -63,7 +63,7 @@ fn spelled_by(table: &[(&str, Class)], word: &[u8]) -> Option<Class>
 }
 
 /// The keyword that the word is, in any case. Cost: constant.
-pub fn keyword_of(word: &[u8]) -> Option<Class>
+pub(crate) fn keyword_of(word: &[u8]) -> Option<Class>
     ensures { result ≡ keyword_of (str_to_ascii_lowercase word.now) }
 {
     spelled_by(&KEYWORDS, word)

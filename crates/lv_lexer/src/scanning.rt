@@ -1,8 +1,8 @@
 //! The tokens of a line.
 
-ghost use Rattle.std.specs.Prelude.{◌≡◌, ℕ, ◌-◌, ◌<◌, ◌^◌, List, length, Option, IfOk};
+ghost use Rattle.std.specs.Prelude.{◌≡◌, ℕ, ◌-◌, ◌<◌, ◌^◌, List, length, Option, IfOk, All};
 ghost use Rattle.lv_lexer.specs.declared.token.Token.{Token};
-ghost use Rattle.lv_lexer.specs.Scan.{Scans, AreSpansOf, is_over};
+ghost use Rattle.lv_lexer.specs.Scan.{Scans, IsTokenOf, AreInOrder, is_over};
 
 use crate::pieces::{blanks_len, piece};
 use crate::token::{Scan, Token, Tokens};
@@ -62,8 +62,9 @@ pub fn tokens(alloc: Global, line: &Text) -> Result<Scan, NoMemory>
     ensures only { (list : List Token) (stopped : Option ℕ) → Scans 0 line.now list stopped
         → IfOk result (λ scan. (scan.list ≡ list) × (scan.stopped ≡ stopped)) }
 
-    // They are in order, each one a slice of the line that spells its kind, and what is no token stands behind them.
-    ensures spans { IfOk result (λ scan. AreSpansOf line.now 0 scan.list scan.stopped) }
+    // Each is a slice of the line that spells its kind, and they are in order.
+    ensures each { IfOk result (λ scan. All (IsTokenOf line.now) scan.list) }
+    ensures order { IfOk result (λ scan. AreInOrder (length line.now) 0 scan.list scan.stopped) }
 {
     scan(alloc, line.as_bytes())
 }

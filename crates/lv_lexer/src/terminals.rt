@@ -1,6 +1,6 @@
 //! Tokens as a grammar sees them: keywords apart from names, each sign by itself.
 
-use lv_values::Text;
+use lv_values::{Items, Text};
 
 /// The classes of tokens: a name, a number, a text, each keyword, each sign.
 #[derive(Clone, Copy, Debug, PartialEq, Eq)]
@@ -93,3 +93,6 @@ pub struct Terminal {
     /// The place.
     pub byte: u32,
 }
+
+/// Tokens as a grammar sees them, in their order.
+pub type Terminals = Items<Terminal>;

@@ -1,4 +1,4 @@
-use Rattle.std.proofs.Common.{◌≡◌, ◌∙◌, refl, sym, ap, List, [], ℕ, Bor}
+use Rattle.std.proofs.Common.{◌∙◌, refl, sym, ap, List, [], ℕ, Bor}
 use Rattle.std.proofs.lemmas.Bool.{false≢true}
 use Rattle.std.specs.Str.{str_to_ascii_lowercase}
 use Rattle.lv_lexer.specs.declared.terminals.Class.{Class}
