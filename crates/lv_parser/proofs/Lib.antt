@@ -16,3 +16,4 @@ pub mod Loops
 pub mod Signs
 pub mod Units
 pub mod Apart
+pub mod Answered

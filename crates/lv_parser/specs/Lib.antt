@@ -6,3 +6,4 @@ pub mod Fault
 pub mod Reading
 pub mod Numbers
 pub mod Read
+pub mod Lines

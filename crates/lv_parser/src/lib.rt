@@ -7,12 +7,15 @@ mod creation;
 mod cursor;
 mod lists;
 mod names;
+mod parsing;
 mod queries;
 mod sources;
 mod statements;
 mod stop;
 mod tree;
 
+pub use parsing::parse;
+pub use stop::ParseFault;
 pub use tree::{
     Assign, AssignValue, Assigns, ColName, ColNames, ColumnKind, ColumnTree, ColumnTrees, CondTree,
     CondTrees, ItemTree, ItemTrees, Literal, Literals, Named, Names, OperandTree, OrderTrees,
