@@ -1,3 +1,4 @@
+pub mod Again
 pub mod Doubled
 pub mod Fronts
 pub mod Lines
