@@ -1,6 +1,5 @@
 -- A written line is cut into the tokens that were written.
-use Rattle.std.proofs.Common.{◌≡◌, ℕ, zero, suc, ◌+◌, ◌-◌, ◌≤◌, ◌<◌, Bool, true, false, not, cond, ◌&&◌, ◌||◌, nat_eq, nat_le, List, [], ◌∷◌, ◌++◌, length, take, drop, get_or, slice_range, Option, Some, None, option_map, refl, sym, ap, ◌∙◌, subst, append_assoc, arith, one-add, eqb-true, length-append}
-use Rattle.std.specs.List.{starts_with, slice_index, fold}
+use Rattle.std.proofs.Common.{◌≡◌, ℕ, suc, ◌+◌, ◌-◌, Bool, true, false, not, cond, ◌&&◌, ◌||◌, nat_eq, nat_le, List, [], ◌∷◌, ◌++◌, length, take, drop, get_or, slice_range, Option, Some, None, refl, sym, ap, ◌∙◌, subst, append_assoc, arith, eqb-true, length-append}
 use Rattle.std.proofs.lemmas.Bool.Decides.{nat_tests}
 use Rattle.std.proofs.lemmas.Bool.{false≢true, false_from_ne_true}
 use Rattle.std.proofs.Math.Bool.{and-false}
@@ -11,10 +10,10 @@ use Rattle.lv_lexer.specs.declared.token.TokenKind.{TokenKind}
 use Rattle.lv_lexer.specs.declared.token.TokenKind.TheVariants.{Word, Number, Text, Sign}
 use Rattle.lv_lexer.specs.Bytes.{is_letter, is_digit, is_word_byte, is_blank, run}
 use Rattle.lv_lexer.specs.Piece.{piece, closing}
-use Rattle.lv_lexer.specs.Signs.{sign_at, first_fit, long_signs, short_signs}
-use Rattle.lv_lexer.specs.Scan.{Scans, is_over, after_blanks, Spells, text_in}
-use Rattle.lv_lexer.specs.Written.{Lexeme, Written, is_word, gap, space_if, with_token, with_tokens, nothing, line_of, signs_part, can_follow, CanBeRead}
-use Rattle.lv_lexer.proofs.Quotes.{further, other_first, two_first}
+use Rattle.lv_lexer.specs.Signs.{sign_at, long_signs, short_signs}
+use Rattle.lv_lexer.specs.Scan.{Scans, is_over, after_blanks, Spells}
+use Rattle.lv_lexer.specs.Written.{Lexeme, Written, is_word, gap, space_if, with_token, with_tokens, nothing, line_of, signs_part, can_follow, CanBeRead, AreWritten}
+use Rattle.lv_lexer.proofs.Quotes.{further}
 use Rattle.lv_lexer.specs.declared.terminals.Class.TheVariants as k
 use Rattle.lv_lexer.proofs.Fronts.{fits, found_is}
 use Rattle.lv_lexer.proofs.Sorts.{IsPiece, piece_is, piece_by}
@@ -108,10 +107,10 @@ goes_on b bytes rest kind e ends =
 
 -- ---- first bytes
 
-letter_is : (b : ℕ) → is_letter b ≡ true → (is_digit b ≡ false) × (is_blank b ≡ false) × (nat_eq b 39 ≡ false) × (nat_eq b 45 ≡ false) × (nat_eq b 61 ≡ false) × (nat_eq b 62 ≡ false)
+pub letter_is : (b : ℕ) → is_letter b ≡ true → (is_digit b ≡ false) × (is_blank b ≡ false) × (nat_eq b 39 ≡ false) × (nat_eq b 45 ≡ false) × (nat_eq b 61 ≡ false) × (nat_eq b 62 ≡ false)
 letter_is b e = grind (arith, nat_tests)
 
-digit_is : (b : ℕ) → is_digit b ≡ true → (is_blank b ≡ false) × (nat_eq b 39 ≡ false) × (nat_eq b 45 ≡ false) × (nat_eq b 61 ≡ false) × (nat_eq b 62 ≡ false)
+pub digit_is : (b : ℕ) → is_digit b ≡ true → (is_blank b ≡ false) × (nat_eq b 39 ≡ false) × (nat_eq b 45 ≡ false) × (nat_eq b 61 ≡ false) × (nat_eq b 62 ≡ false)
 digit_is b e = grind (arith, nat_tests)
 
 -- the first byte of a token of this kind
@@ -197,6 +196,7 @@ sign_not_over b bytes rest class s e = by (nat_eq b 45) refl
         let both = (all_false (nat_eq (get_or rest 0 0) 61) (nat_eq (get_or rest 0 0) 62) (nat_eq b 45 && nat_eq (get_or rest 0 0) 45) e).2 in
         minus_alone b rest (ap (λ (t : Bool). t && nat_eq (get_or rest 0 0) 45) (sym q) ∙ both)
     minus (c ∷ bytes) q s = let P : ℕ → Type 0 = λ x. sign_at (x ∷ c ∷ bytes) ≡ Some (class, suc (suc (length bytes))) in absurd (minus_is_short c bytes class (subst P (eqb-true b 45 q) s))
+
     by : (t : Bool) → nat_eq b 45 ≡ t → is_over (b ∷ (bytes ++ rest)) ≡ false
     by true q = minus bytes q s
     by false q = not_minus b (bytes ++ rest) q
@@ -252,10 +252,13 @@ token_scans at space kind b bytes rest more stopped e ends h =
     let len : start + suc (length bytes) - start ≡ suc (length bytes) = omega arith in
     let P : List ℕ → Type 0 = λ left. Scans (start + suc (length bytes)) left more stopped in
     let left : drop (start + suc (length bytes) - start) (after_blanks (gap space kind ++ text)) ≡ rest =
-        ap (drop (start + suc (length bytes) - start)) after ∙ ap (λ (n : ℕ). drop n text) len ∙ drop_front (b ∷ bytes) rest in
-    (ap is_over after ∙ known_not_over b bytes rest kind known ends,
-    ap piece after ∙ goes_on b bytes rest kind e ends ∙ ap (λ (n : ℕ). Some (kind, n)) (sym len),
-    ap (λ (n : ℕ). at + n) (sym blanks), omega arith, subst P (sym left) h)
+    ap (drop (start + suc (length bytes) - start)) after ∙ ap (λ (n : ℕ). drop n text) len ∙ drop_front (b ∷ bytes) rest in (
+      ap is_over after ∙ known_not_over b bytes rest kind known ends,
+      ap piece after ∙ goes_on b bytes rest kind e ends ∙ ap (λ (n : ℕ). Some (kind, n)) (sym len),
+      ap (λ (n : ℕ). at + n) (sym blanks),
+      omega arith,
+      subst P (sym left) h,
+    )
 
 step : (at : ℕ) (space : Bool) (kind : TokenKind) (text rest : List ℕ) (more : List Token) (stopped : Option ℕ)
     → Spells text kind → ((b : ℕ) (bytes : List ℕ) → text ≡ b ∷ bytes → Ends kind b (get_or rest 0 0)) → Scans (at + length (gap space kind) + length text) rest more stopped
@@ -287,18 +290,7 @@ scans_written at space (x ∷ y ∷ more) (e, f, h) =
 
 -- ---- the texts of the tokens
 
--- a token is this one
-pub record IsWritten (line : List ℕ) (t : Token) (x : Lexeme) : Type 0 where
-  pub kind : t.kind ≡ x.kind
-  pub text : text_in line t ≡ x.text
-
-abbrev pub AreWritten : List ℕ → List Token → List Lexeme → Type 0
-AreWritten line [] [] = Unit {0}
-AreWritten line [] (x ∷ xs) = ⊥
-AreWritten line (t ∷ ts) [] = ⊥
-AreWritten line (t ∷ ts) (x ∷ xs) = IsWritten line t x × AreWritten line ts xs
-
-take_front : (text rest : List ℕ) → take (length text) (text ++ rest) ≡ text
+pub take_front : (text rest : List ℕ) → take (length text) (text ++ rest) ≡ text
 take_front [] rest = refl
 take_front (x ∷ text) rest = ap (λ (ys : List ℕ). x ∷ ys) (take_front text rest)
 
@@ -318,7 +310,7 @@ are_written front at space (x ∷ xs) e =
     let start = at + length g in
     let end = start + length x.text in
     let text : slice_range (front ++ (g ++ (x.text ++ rest))) start end ≡ x.text =
-        ap (λ (line : List ℕ). slice_range line start end) here ∙ slice_at (front ++ g) x.text rest start end (omega (arith, length-append front g)) refl in
+    ap (λ (line : List ℕ). slice_range line start end) here ∙ slice_at (front ++ g) x.text rest start end (omega (arith, length-append front g)) refl in
     let more = are_written (front ++ g ++ x.text) end (is_word x.kind) xs (omega (arith, length-append front g, length-append (front ++ g) x.text)) in
     let P : List ℕ → Type 0 = λ line. AreWritten line (placed end (is_word x.kind) xs) xs in
     (record { kind = refl; text = text }, subst P there more)

@@ -6,5 +6,6 @@ pub mod Quotes
 pub mod Said
 pub mod Sorts
 pub mod Spans
+pub mod Spelling
 pub mod Undoubled
 pub mod Words
