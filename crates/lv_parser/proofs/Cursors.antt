@@ -6,7 +6,7 @@ use Rattle.lv_lexer.specs.contracts.terminals.Class.{the_type}
 use Rattle.lv_lexer.specs.declared.terminals.Class.{Class}
 use Rattle.lv_lexer.specs.declared.terminals.Terminal.{Terminal}
 use Rattle.lv_parser.specs.Class.{same}
-use Rattle.lv_parser.specs.Reading.{Outcome, sees, expect, next}
+use Rattle.lv_parser.specs.Reading.{Outcome, sees, expect, optional, next}
 use Rattle.lv_parser.specs.Numbers.{IsSmall, AreSmall}
 use Rattle.lv_parser.proofs.Classes.{same_class, same-refl}
 
@@ -78,3 +78,10 @@ pub taken_small : (last : Option Terminal) (all rest : List Terminal) → AreSma
     → MatchOption last ((all ≡ []) × (rest ≡ [])) (λ t. all ≡ rest ++ t ∷ []) → IfSome last IsSmall
 taken_small None all rest h e = tt
 taken_small (Some t) all rest h e = (small_behind rest t (subst AreSmall e h)).1
+
+pub allow_taken : (k : Class) (all : List Terminal) (found : Option Terminal) (rest : List Terminal) → sees k all ≡ true
+    → MatchOption found ((all ≡ []) × (rest ≡ [])) (λ t. all ≡ t ∷ rest) → optional (sees k) (expect k) all ≡ Ok (found, rest)
+unfolding sees
+allow_taken k [] found rest s e = cc
+allow_taken k (t ∷ all) None rest s e = let q : t ∷ all ≡ [] = e.0 in cc
+allow_taken k (t ∷ all) (Some u) rest s e = rw (s, expect_taken k (t ∷ all) u rest s e) refl

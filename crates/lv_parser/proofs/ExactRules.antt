@@ -31,8 +31,8 @@ use Rattle.lv_parser.specs.Reading.{Reader, Outcome, ◌>>=◌, ◌>>◌, pure, 
 use Rattle.lv_parser.proofs.Readers.{Reads, then_reads, pure_reads, token_reads, or_reads, optional_reads, many_reads, as_reads, wider_reads, sees_tests, either_tests, Tests}
 use Rattle.lv_parser.proofs.Same.{Same, same_reads, joint}
 use Rattle.lv_parser.proofs.Regroup.{same_swapped, same_self, same_after, same_bind}
-use Rattle.lv_parser.proofs.Views.{same_item, same_select, same_statement}
-use Rattle.lv_parser.proofs.Lists.{separated_reads, more_reads}
+use Rattle.lv_parser.proofs.Views.{same_item, same_update, same_delete, same_select, same_statement}
+use Rattle.lv_parser.proofs.Onward.{separated_reads, more_reads}
 use Rattle.lv_parser.proofs.Parts as part
 
 abbrev Set : Type 0
@@ -181,8 +181,8 @@ pub alias_reads : Reads (r.◌>>◌ (r.optional (r.token k.As)) rule.name) read.
 unfolding read.alias
 alias_reads = wider_reads ref_more [] (then_reads (optional_reads (sees_tests k.As) (token_reads k.As)) (λ _. name_reads) refl) refl refl
 
-pub ref_reads : Reads rule.ref read.ref (only k.Name) ref_more false
-unfolding rule.ref read.ref read.is_alias
+pub ref_reads : Reads rule.ref read.table (only k.Name) ref_more false
+unfolding rule.ref read.table read.is_alias
 ref_reads =
     then_reads name_reads
     (λ table. then_reads (optional_reads (either_tests (sees_tests k.As) (sees_tests k.Name)) alias_reads)
@@ -235,13 +235,16 @@ unfolding read.column_kind
 kind_reads =
     or_reads (sees_tests k.Int) (then_reads (token_reads k.Int) (λ _. pure_reads kind.Int) refl) (then_reads (token_reads k.Text) (λ _. pure_reads kind.Text) refl) refl
 
+mark_reads : Reads part.mark read.mark (only k.Not) (only k.Not) true
+unfolding read.mark
+mark_reads = optional_reads (sees_tests k.Not) (then_reads (token_reads k.Not) (λ _. token_reads k.Null) refl)
+
 pub column_reads : Reads rule.column read.column (only k.Name) (only k.Not) false
 unfolding rule.column read.column
 column_reads =
     then_reads name_reads
     (λ name. then_reads kind_reads
-    (λ held. then_reads (optional_reads (sees_tests k.Not) (then_reads (token_reads k.Not) (λ _. token_reads k.Null) refl))
-    (λ _. pure_reads (let t : ColumnTree = record { name = name; kind = held } in t)) refl) refl) refl
+    (λ held. then_reads mark_reads (λ _. pure_reads (let t : ColumnTree = record { name = name; kind = held } in t)) refl) refl) refl
 
 column_comma_reads : Reads part.column_comma read.column_comma (only k.Name) [] false
 unfolding read.column_comma
@@ -380,26 +383,32 @@ assign_reads =
     (λ set. then_reads (token_reads k.Equal)
     (λ _. then_reads assign_value_reads (λ value. pure_reads (let t : Assign = record { column = set; value = value } in t)) refl) refl) refl)
 
+condition_reads : Reads part.condition read.condition (only k.Where) filter_more true
+unfolding read.condition
+condition_reads = wider_reads (only k.Where) filter_more (then_reads (filter_reads w.Query) (λ kept. pure_reads (tree.cond_or_true kept)) refl) refl refl
+
 abbrev update_more : Set
 update_more = code k.Comma ∷ code k.Plus ∷ code k.Minus ∷ filter_more
 
 update_reads : Reads rule.update read.update (only k.Update) update_more false
-unfolding rule.update read.update
+unfolding read.update
 update_reads =
     wider_reads (only k.Update) update_more
+    (same_reads _ _ same_update
     (then_reads (token_reads k.Update)
     (λ _. then_reads name_reads
     (λ table. then_reads (token_reads k.Set)
     (λ _. then_reads (separated_reads k.Comma assign_reads refl)
-    (λ sets. then_reads (filter_reads w.Query) (λ kept. pure_reads (st.Update table sets (tree.cond_or_true kept))) refl) refl) refl) refl) refl)
+    (λ sets. then_reads condition_reads (λ kept. pure_reads (st.Update table sets kept)) refl) refl) refl) refl) refl))
     refl refl
 
 delete_reads : Reads rule.delete read.delete (only k.Delete) filter_more false
-unfolding rule.delete read.delete
+unfolding read.delete
 delete_reads =
-    then_reads (token_reads k.Delete)
+    same_reads _ _ same_delete
+    (then_reads (token_reads k.Delete)
     (λ _. then_reads (token_reads k.From)
-    (λ _. then_reads name_reads (λ table. then_reads (filter_reads w.Query) (λ kept. pure_reads (st.Delete table (tree.cond_or_true kept))) refl) refl) refl) refl
+    (λ _. then_reads name_reads (λ table. then_reads condition_reads (λ kept. pure_reads (st.Delete table kept)) refl) refl) refl) refl)
 
 -- ---- queries
 
@@ -464,6 +473,12 @@ tasks_reads = then_reads (then_reads (token_reads k.Show) (λ _. token_reads k.T
 word_reads : (class : Class) (stmt : Stmt) → Reads (r.◌>>◌ (r.token class) (r.pure stmt)) (expect class >> pure stmt) (only class) [] false
 word_reads class stmt = then_reads (token_reads class) (λ _. pure_reads stmt) refl
 
+short_reads : Reads part.short read.short (code k.Begin ∷ code k.Commit ∷ code k.Rollback ∷ code k.Show ∷ []) [] false
+unfolding read.short read.ending
+short_reads =
+    or_reads (sees_tests k.Begin) (word_reads k.Begin st.Begin)
+    (or_reads (sees_tests k.Commit) (word_reads k.Commit st.Commit) (or_reads (sees_tests k.Rollback) (word_reads k.Rollback st.Rollback) tasks_reads refl) refl) refl
+
 abbrev line_first : Set
 line_first =
     code k.Create ∷ code k.Insert ∷ code k.Update ∷ code k.Delete ∷ code k.Select ∷ code k.Begin ∷ code k.Commit ∷ code k.Rollback ∷ code k.Show ∷ []
@@ -472,7 +487,7 @@ abbrev statement_more : Set
 statement_more = code k.Plus ∷ code k.Minus ∷ code k.Group ∷ select_more
 
 pub statement_reads : Reads rule.statement read.statement line_first statement_more false
-unfolding read.statement
+unfolding read.statement read.other
 statement_reads =
     wider_reads line_first statement_more
     (same_reads _ _ same_statement

@@ -5,10 +5,14 @@ pub mod Classes
 pub mod Readers
 pub mod Same
 pub mod Regroup
-pub mod Lists
+pub mod Onward
 pub mod Parts
 pub mod Tables
 pub mod Views
 pub mod ExactRules
 pub mod Shift
 pub mod Whole
+pub mod Loops
+pub mod Signs
+pub mod Units
+pub mod Apart

@@ -1,6 +1,7 @@
 -- Parts of rules, grouped as their readers group them.
 use Rattle.std.proofs.Common.{ℤ, pos, ◌-ℤ◌, Bool, true, false, List, [], ◌∷◌, Option, Some, None}
 use Rattle.lv_lexer.specs.declared.terminals.Class.TheVariants as k
+use Rattle.lv_lexer.specs.declared.terminals.Terminal.{Terminal}
 use Rattle.lv_parser.specs.declared.conditions.Within.{Within}
 use Rattle.lv_parser.specs.declared.conditions.Within.TheVariants as w
 use Rattle.lv_parser.specs.declared.sources.Joined.{Joined}
@@ -12,11 +13,13 @@ use Rattle.lv_parser.specs.declared.tree.ColumnTree.{ColumnTree}
 use Rattle.lv_parser.specs.declared.tree.ItemTree.{ItemTree}
 use Rattle.lv_parser.specs.declared.tree.ItemTree.TheVariants as i
 use Rattle.lv_parser.specs.declared.tree.AssignValue.{AssignValue}
+use Rattle.lv_parser.specs.declared.tree.CondTree.{CondTree}
 use Rattle.lv_parser.specs.declared.tree.Stmt.{Stmt}
 use Rattle.lv_parser.specs.declared.tree.Stmt.TheVariants as st
 use Rattle.lv_parser.specs.Rule.{Rule, token, pure, ◌>>=◌, ◌>>◌, ◌<$>◌, ◌or◌, optional, many, separated}
-use Rattle.lv_parser.specs.Grammar.{name, ref, cond, column, col, item, from, filter, ord, insert, update, delete}
-use Rattle.lv_parser.specs.Trees.{tables_of, condition_of, list_or_none, source_of}
+use Rattle.lv_parser.specs.Grammar.{name, ref, cond, column, col, item, from, filter, assign, ord}
+use Rattle.lv_parser.specs.Grammar as g
+use Rattle.lv_parser.specs.Trees.{tables_of, condition_of, list_or_none, cond_or_true, source_of}
 
 abbrev pub plain : Rule Joined
 plain = do
@@ -35,6 +38,9 @@ join within = do
 
 abbrev pub column_kind : Rule ColumnKind
 column_kind = (token k.Int >> pure kind.Int) or (token k.Text >> pure kind.Text)
+
+abbrev pub mark : Rule (Option Terminal)
+mark = optional (token k.Not >> token k.Null)
 
 -- a column and the comma behind it
 abbrev pub column_comma : Rule ColumnTree
@@ -153,6 +159,26 @@ source = do
   found ← optional amount
   pure (source_of other found)
 
+abbrev pub condition : Rule CondTree
+condition = cond_or_true <$> filter w.Query
+
+abbrev pub update : Rule Stmt
+update = do
+  token k.Update
+  table ← name
+  token k.Set
+  sets ← separated k.Comma assign
+  kept ← condition
+  pure (st.Update table sets kept)
+
+abbrev pub delete : Rule Stmt
+delete = do
+  token k.Delete
+  token k.From
+  table ← name
+  kept ← condition
+  pure (st.Delete table kept)
+
 abbrev pub listed : Rule (Option (List ColName))
 listed = (token k.Star >> pure None) or (Some <$> separated k.Comma col)
 
@@ -194,8 +220,10 @@ printed_count = do
 abbrev pub create : Rule Stmt
 create = token k.Create >> (made_table or made_view)
 
-abbrev pub other : Rule Stmt
-other =
-    insert or update or delete or select
-    or (token k.Begin >> pure st.Begin) or (token k.Commit >> pure st.Commit) or (token k.Rollback >> pure st.Rollback)
+abbrev pub short : Rule Stmt
+short =
+    (token k.Begin >> pure st.Begin) or (token k.Commit >> pure st.Commit) or (token k.Rollback >> pure st.Rollback)
     or (token k.Show >> token k.Tasks >> pure st.ShowTasks)
+
+abbrev pub other : Rule Stmt
+other = g.insert or g.update or g.delete or select or short

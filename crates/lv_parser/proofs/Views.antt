@@ -4,7 +4,7 @@ use Rattle.lv_lexer.specs.declared.terminals.Class.TheVariants as k
 use Rattle.lv_parser.specs.declared.tree.Stmt.{Stmt}
 use Rattle.lv_parser.specs.Rule.{Rule}
 use Rattle.lv_parser.specs.Rule as rule
-use Rattle.lv_parser.specs.Trees.{list_or_none}
+use Rattle.lv_parser.specs.Trees.{list_or_none, cond_or_true}
 use Rattle.lv_parser.specs.Grammar as grammar
 use Rattle.lv_parser.proofs.Parts as part
 use Rattle.lv_parser.proofs.Same.{Same, joint}
@@ -20,6 +20,14 @@ pub same_view : Same part.printed_view part.made_view
 same_view =
     same_after _ (λ _. same_after _ (λ view. same_after _ (λ _. same_after _ (λ _. same_after _ (λ items. same_after _ (λ sources. same_after _ (λ kept.
     same_end _ list_or_none _ (λ by all. refl))))))))
+
+pub same_update : Same grammar.update part.update
+unfolding grammar.update
+same_update = same_after _ (λ _. same_after _ (λ table. same_after _ (λ _. same_after _ (λ sets. same_end _ cond_or_true _ (λ kept all. refl)))))
+
+pub same_delete : Same grammar.delete part.delete
+unfolding grammar.delete
+same_delete = same_after _ (λ _. same_after _ (λ _. same_after _ (λ table. same_end _ cond_or_true _ (λ kept all. refl))))
 
 pub same_select : Same grammar.select part.select
 unfolding grammar.select

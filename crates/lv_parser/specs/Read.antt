@@ -108,11 +108,11 @@ is_alias all = sees k.As all || sees k.Name all
 unfoldable pub alias : Reader Named
 alias = optional (sees k.As) (expect k.As) >> name
 
-unfoldable pub ref : Reader RefTree
-ref = do
-  table ← name
+unfoldable pub table : Reader RefTree
+table = do
+  called ← name
   other ← optional is_alias alias
-  pure (record { name = table; alias = other })
+  pure (record { name = called; alias = other })
 
 unfoldable pub is_more : List Terminal → Bool
 is_more all = sees k.Comma all || (sees k.Inner all || sees k.Join all)
@@ -120,17 +120,17 @@ is_more all = sees k.Comma all || (sees k.Inner all || sees k.Join all)
 unfoldable pub plain : Reader Joined
 plain = do
   expect k.Comma
-  table ← ref
-  pure (record { table = table; on = None })
+  found ← table
+  pure (record { table = found; on = None })
 
 unfoldable pub join : Within → Reader Joined
 join within = do
   optional (sees k.Inner) (expect k.Inner)
   expect k.Join
-  table ← ref
+  found ← table
   expect k.On
   on ← cond within
-  pure (record { table = table; on = Some on })
+  pure (record { table = found; on = Some on })
 
 unfoldable pub joined : Within → Reader Joined
 joined within = choice (sees k.Comma) plain (join within)
@@ -138,7 +138,7 @@ joined within = choice (sees k.Comma) plain (join within)
 unfoldable pub from : Within → Reader (List Joined)
 from within = do
   expect k.From
-  first ← ref
+  first ← table
   many_more is_more (joined within) (record { table = first; on = None } ∷ [])
 
 -- ---- CREATE
@@ -146,11 +146,14 @@ from within = do
 unfoldable pub column_kind : Reader ColumnKind
 column_kind = choice (sees k.Int) (expect k.Int >> pure kind.Int) (expect k.Text >> pure kind.Text)
 
+unfoldable pub mark : Reader (Option Terminal)
+mark = optional (sees k.Not) (expect k.Not >> expect k.Null)
+
 unfoldable pub column : Reader ColumnTree
 column = do
   column_name ← name
   held ← column_kind
-  optional (sees k.Not) (expect k.Not >> expect k.Null)
+  mark
   pure (record { name = column_name; kind = held })
 
 -- A comma stands behind each column: behind the last one PRIMARY follows it.
@@ -272,22 +275,25 @@ assign = do
   value ← assign_value
   pure (record { column = set; value = value })
 
+unfoldable pub condition : Reader CondTree
+condition = cond_or_true <$> filter w.Query
+
 unfoldable pub update : Reader Stmt
 update = do
   expect k.Update
   table ← name
   expect k.Set
   sets ← separated k.Comma assign
-  kept ← filter w.Query
-  pure (st.Update table sets (cond_or_true kept))
+  kept ← condition
+  pure (st.Update table sets kept)
 
 unfoldable pub delete : Reader Stmt
 delete = do
   expect k.Delete
   expect k.From
   table ← name
-  kept ← filter w.Query
-  pure (st.Delete table (cond_or_true kept))
+  kept ← condition
+  pure (st.Delete table kept)
 
 -- ---- queries
 
@@ -323,16 +329,17 @@ select = do
 unfoldable pub tasks : Reader Stmt
 tasks = expect k.Show >> expect k.Tasks >> pure st.ShowTasks
 
+unfoldable pub ending : Reader Stmt
+ending = choice (sees k.Commit) (expect k.Commit >> pure st.Commit) (choice (sees k.Rollback) (expect k.Rollback >> pure st.Rollback) tasks)
+
+unfoldable pub short : Reader Stmt
+short = choice (sees k.Begin) (expect k.Begin >> pure st.Begin) ending
+
+unfoldable pub other : Reader Stmt
+other = choice (sees k.Delete) delete (choice (sees k.Select) select short)
+
 unfoldable pub statement : Reader Stmt
-statement =
-    choice (sees k.Create) create
-    (choice (sees k.Insert) insert
-    (choice (sees k.Update) update
-    (choice (sees k.Delete) delete
-    (choice (sees k.Select) select
-    (choice (sees k.Begin) (expect k.Begin >> pure st.Begin)
-    (choice (sees k.Commit) (expect k.Commit >> pure st.Commit)
-    (choice (sees k.Rollback) (expect k.Rollback >> pure st.Rollback) tasks)))))))
+statement = choice (sees k.Create) create (choice (sees k.Insert) insert (choice (sees k.Update) update other))
 
 unfoldable pub line : Reader Stmt
 line = do

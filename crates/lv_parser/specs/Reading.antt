@@ -71,9 +71,13 @@ many test p = λ all. many_from test p (length all) [] all
 unfoldable pub many_more : {A : Type 0} → (List Terminal → Bool) → Reader A → List A → Reader (List A)
 many_more test p found = λ all. many_from test p (length all) found all
 
+-- behind a token of this class
+abbrev pub behind : {A : Type 0} → Class → Reader A → Reader A
+behind class p = expect class >> p
+
 -- one or more, with a token of this class between
 unfoldable pub separated : {A : Type 0} → Class → Reader A → Reader (List A)
-separated class p = p >>= λ first. many_more (sees class) (expect class >> p) (first ∷ [])
+separated class p = p >>= λ first. many_more (sees class) (behind class p) (first ∷ [])
 
 -- ---- what a function that reads ensures
 

@@ -1,10 +1,10 @@
 //! The tokens that are still to be read.
 
-ghost use Rattle.std.specs.Prelude.{◌≡◌, ◌↔◌, ◌^◌, ◌<◌, IsTrue, IfOk, IfSome, MatchOption, [], ◌∷◌, length, reverse};
+ghost use Rattle.std.specs.Prelude.{◌≡◌, ◌↔◌, ◌^◌, ◌<◌, IsTrue, IfOk, IfSome, MatchOption, [], ◌∷◌, Ok, IsSome, drop, length, reverse};
 ghost use Rattle.std.specs.Option.{option_copied};
 ghost use Rattle.lv_parser.specs.Class.{same};
 ghost use Rattle.lv_parser.specs.Fault.{byte_of};
-ghost use Rattle.lv_parser.specs.Reading.{Gives, sees, expect, next, next_class};
+ghost use Rattle.lv_parser.specs.Reading.{Gives, sees, expect, optional, next, next_class};
 ghost use Rattle.lv_parser.specs.Numbers.{AreSmall, IsSmall};
 
 use crate::stop::Stop;
@@ -110,5 +110,20 @@ impl Cursor {
             None => Err(Stop::Syntax),
             Some(token) => Ok(token),
         }
+    }
+
+    /// Takes the next token where it is of this class.
+    pub fn allow(&mut self, class: Class) -> Option<Terminal>
+        ensures { optional (sees class) (expect class) self.old ≡ Ok (result, self.new) }
+    {
+        if self.sees(class) { self.take() } else { None }
+    }
+
+    /// Goes past the next token.
+    pub fn skip(&mut self)
+        requires { IsSome (next_class self.old) }
+        ensures { self.new ≡ drop 1 self.old }
+    {
+        self.take();
     }
 }

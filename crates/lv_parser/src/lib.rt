@@ -1,9 +1,15 @@
 //! Reads a line as a statement by the grammar of docs/LANGUAGE.md, or tells the byte of its syntax fault.
 #![tactic(auto)]
 
+mod changes;
 mod conditions;
+mod creation;
 mod cursor;
+mod lists;
+mod names;
+mod queries;
 mod sources;
+mod statements;
 mod stop;
 mod tree;
 
