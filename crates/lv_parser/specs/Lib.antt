@@ -6,3 +6,5 @@ pub mod Fault
 pub mod Reading
 pub mod Numbers
 pub mod Read
+pub mod Printed
+pub mod Bare

@@ -7,6 +7,7 @@ mod creation;
 mod cursor;
 mod lists;
 mod names;
+mod print_names;
 mod queries;
 mod sources;
 mod statements;
