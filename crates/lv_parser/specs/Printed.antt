@@ -108,31 +108,28 @@ single tokens = record { chain = Single; tokens = tokens; parts = tokens ∷ [] 
 abbrev pub no_condition : Shown
 no_condition = record { chain = Single; tokens = []; parts = [] }
 
--- as a part of an Or: an Or stands in parentheses
-abbrev pub in_or : Shown → List Lexeme
-in_or c = wrapped c.chain
-  where
-    wrapped : Chain → List Lexeme
-    wrapped Ors = in_parens c.tokens
-    wrapped _ = c.tokens
+-- whether a condition as a part stands in parentheses: an Or does, and in an And and under NOT an And too
+abbrev pub is_wrapped : Bool → Chain → Bool
+is_wrapped in_and Single = false
+is_wrapped in_and Ands = in_and
+is_wrapped in_and Ors = true
 
--- as a part of an And or under NOT: an And stands in parentheses too
-abbrev pub in_and : Shown → List Lexeme
-in_and c = wrapped c.chain
-  where
-    wrapped : Chain → List Lexeme
-    wrapped Single = c.tokens
-    wrapped _ = in_parens c.tokens
+-- a part of an And, or under NOT; or a part of an Or
+abbrev pub part_tokens : Bool → Shown → List Lexeme
+part_tokens in_and c = if is_wrapped in_and c.chain then in_parens c.tokens else c.tokens
+
+abbrev pub comparison_tokens : Sign → OperandTree → OperandTree → List Lexeme
+comparison_tokens op left right = operand_tokens left ++ op_token op ∷ operand_tokens right
 
 -- one level, whose parts are printed
 abbrev pub shown_step : CondTree-F Shown → Shown
 shown_step CondTree-F.True = no_condition
-shown_step (CondTree-F.Cmp op left right) = single (operand_tokens left ++ op_token op ∷ operand_tokens right)
-shown_step (CondTree-F.And parts) = record { chain = Ands; tokens = between (the "and") (map in_and parts); parts = map (λ p. p.tokens) parts }
-shown_step (CondTree-F.Or parts) = let tokens = between (the "or") (map in_or parts) in record { chain = Ors; tokens = tokens; parts = tokens ∷ [] }
-shown_step (CondTree-F.Not part) = single (the "not" ∷ in_and part)
+shown_step (CondTree-F.Cmp op left right) = single (comparison_tokens op left right)
+shown_step (CondTree-F.And parts) = record { chain = Ands; tokens = between (the "and") (map (part_tokens true) parts); parts = map (λ p. p.tokens) parts }
+shown_step (CondTree-F.Or parts) = let tokens = between (the "or") (map (part_tokens false) parts) in record { chain = Ors; tokens = tokens; parts = tokens ∷ [] }
+shown_step (CondTree-F.Not part) = single (the "not" ∷ part_tokens true part)
 
-unfoldable pub shown : CondTree → Shown
+abbrev pub shown : CondTree → Shown
 shown = fold-CondTree Shown shown_step
 
 abbrev pub where_tokens : List (List Lexeme) → List Lexeme

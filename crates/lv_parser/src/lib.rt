@@ -7,6 +7,8 @@ mod creation;
 mod cursor;
 mod lists;
 mod names;
+mod print_conditions;
+mod print_lists;
 mod print_names;
 mod queries;
 mod sources;
