@@ -1,8 +1,8 @@
 -- A text between quotes: it is a text again, and says what it was made of.
-use Rattle.std.proofs.Common.{◌≡◌, ℕ, suc, ◌+◌, ◌-◌, ◌<◌, ◌≤◌, Bool, true, false, cond, ◌&&◌, nat_eq, List, [], ◌∷◌, ◌++◌, length, take, drop, slice_range, get_or, Option, Some, None, option_map, refl, sym, ap, ◌∙◌, subst, append_assoc, arith, ◌⊎◌, inl, inr, eqb-true, length-append, codes}
-use Rattle.std.proofs.lemmas.Bool.{cases_lt, false≢true}
+use Rattle.std.proofs.Common.{◌≡◌, ℕ, Bool, true, false, cond, ◌&&◌, nat_eq, List, [], ◌∷◌, ◌++◌, refl, sym, ap, ◌∙◌, arith, inl, inr, eqb-true, codes}
+use Rattle.std.proofs.lemmas.Bool.{cases_lt}
 use Rattle.std.specs.Str.{IsUtf8, is_utf8, encode_utf8_all, all_scalars}
-use Rattle.std.proofs.lemmas.Str.{encode_ascii, IsUtf8-append, IsUtf8-from_is_utf8, is_utf8-from_IsUtf8, IsUtf8-from_ascii, IsUtf8-nil}
+use Rattle.std.proofs.lemmas.Str.{encode_ascii, IsUtf8-append, IsUtf8-from_is_utf8, is_utf8-from_IsUtf8}
 use lib.Utf8.{encode, scalar}
 use Rattle.lv_values.specs.Print.{doubled, quoted}
 use Rattle.lv_lexer.proofs.Undoubled.{NoQuotes, no_quotes, quote}
@@ -22,15 +22,15 @@ doubled-encodes (c ∷ cs) = by (nat_eq c 39) refl (doubled-encodes cs)
     by true e more =
         let one : encode c ≡ 39 ∷ [] = ap encode (eqb-true c 39 e) ∙ quote in
         let two : encode_utf8_all (39 ∷ 39 ∷ doubled cs) ≡ 39 ∷ 39 ∷ encode_utf8_all (doubled cs) =
-            ap (λ (bytes : List ℕ). bytes ++ (encode 39 ++ encode_utf8_all (doubled cs))) quote ∙ ap (λ (bytes : List ℕ). 39 ∷ (bytes ++ encode_utf8_all (doubled cs))) quote in
+        ap (λ (bytes : List ℕ). bytes ++ (encode 39 ++ encode_utf8_all (doubled cs))) quote ∙ ap (λ (bytes : List ℕ). 39 ∷ (bytes ++ encode_utf8_all (doubled cs))) quote in
         ap (λ (bytes : List ℕ). doubled (bytes ++ encode_utf8_all cs)) one ∙ ap (λ (bytes : List ℕ). 39 ∷ 39 ∷ bytes) more ∙ sym two
     by false e more = elim (cases_lt c 128) [
-        inl h ↦
+      | inl h ↦
           let one = encode_ascii c h in
           let first : doubled (c ∷ encode_utf8_all cs) ≡ c ∷ doubled (encode_utf8_all cs) = rw e refl in
           ap (λ (bytes : List ℕ). doubled (bytes ++ encode_utf8_all cs)) one ∙ first ∙ ap (λ (bytes : List ℕ). c ∷ bytes) more ∙ sym (ap (λ (bytes : List ℕ). bytes ++ encode_utf8_all (doubled cs)) one)
       | inr h ↦ stay (encode c) (encode_utf8_all cs) (no_quotes c h) ∙ ap (λ (bytes : List ℕ). encode c ++ bytes) more
-      ]
+    ]
 
 scalars-doubled : (cs : List ℕ) → all_scalars cs ≡ true → all_scalars (doubled cs) ≡ true
 scalars-doubled [] h = h

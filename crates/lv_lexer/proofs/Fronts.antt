@@ -100,7 +100,7 @@ pub record Fits (table : List (List ℕ × Class)) (bytes : List ℕ) (class : C
   pub within : n ≤ length bytes
   pub front : first_fit table (take n bytes) ≡ Some (class, n)
 
-found_is : (c d : Class) (m n : ℕ) → ◌≡◌ {A = Option (Class × ℕ)} (Some (c, m)) (Some (d, n)) → (c ≡ d) × (m ≡ n)
+pub found_is : (c d : Class) (m n : ℕ) → ◌≡◌ {A = Option (Class × ℕ)} (Some (c, m)) (Some (d, n)) → (c ≡ d) × (m ≡ n)
 found_is c d m n e =
     let at : Option (Class × ℕ) → Class × ℕ = λ o. elim o [ None ↦ (c, m) | Some p ↦ p ] in (ap (λ o. (at o).0) e, ap (λ o. (at o).1) e)
 

@@ -1,3 +1,4 @@
+pub mod Again
 pub mod Doubled
 pub mod Fronts
 pub mod Lines
@@ -5,5 +6,6 @@ pub mod Quotes
 pub mod Said
 pub mod Sorts
 pub mod Spans
+pub mod Spelling
 pub mod Undoubled
 pub mod Words

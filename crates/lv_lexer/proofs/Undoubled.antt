@@ -8,7 +8,7 @@ use lib.Utf8.{encode, next, scalar}
 use Rattle.lv_lexer.specs.Meaning.{undoubled}
 
 -- a byte that is no quote stays
-stays : (b : ℕ) (bytes : List ℕ) → nat_eq b 39 ≡ false → undoubled (b ∷ bytes) ≡ b ∷ undoubled bytes
+pub stays : (b : ℕ) (bytes : List ℕ) → nat_eq b 39 ≡ false → undoubled (b ∷ bytes) ≡ b ∷ undoubled bytes
 stays b [] e = refl
 stays b (c ∷ bytes) e = rw e refl
 

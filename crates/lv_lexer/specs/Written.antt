@@ -4,7 +4,8 @@ use Rattle.std.specs.Coded.{Coded, code_by, coded×, coded_ℕ, coded_list, code
 use Rattle.lv_values.specs.Print.{quoted}
 use Rattle.lv_lexer.specs.declared.token.TokenKind.{TokenKind}
 use Rattle.lv_lexer.specs.declared.token.TokenKind.TheVariants.{Word, Number, Text, Sign}
-use Rattle.lv_lexer.specs.Scan.{Spells}
+use Rattle.lv_lexer.specs.declared.token.Token.{Token}
+use Rattle.lv_lexer.specs.Scan.{Spells, text_in}
 
 -- a token to be written: its kind and its spelling
 pub record Lexeme : Type 0 where
@@ -81,3 +82,15 @@ abbrev pub CanBeRead : List Lexeme → Type 0
 CanBeRead [] = Unit {0}
 CanBeRead (x ∷ []) = Spells x.text x.kind
 CanBeRead (x ∷ y ∷ more) = Spells x.text x.kind × (can_follow x y ≡ true) × CanBeRead (y ∷ more)
+
+-- a token of the line that is this one
+pub record IsWritten (line : List ℕ) (t : Token) (x : Lexeme) : Type 0 where
+  pub kind : t.kind ≡ x.kind
+  pub text : text_in line t ≡ x.text
+
+-- tokens of the line that are these, one by one
+abbrev pub AreWritten : List ℕ → List Token → List Lexeme → Type 0
+AreWritten line [] [] = Unit {0}
+AreWritten line [] (x ∷ xs) = ⊥
+AreWritten line (t ∷ ts) [] = ⊥
+AreWritten line (t ∷ ts) (x ∷ xs) = IsWritten line t x × AreWritten line ts xs

@@ -16,4 +16,4 @@ pub use reading::{read_token, read_tokens};
 pub use scanning::tokens;
 pub use terminals::{Class, Terminal, Terminals};
 pub use token::{Scan, Token, TokenKind, Tokens};
-pub use writing::Writer;
+pub use writing::{Writer, spelling_says_value, written_is_read};

@@ -1,6 +1,6 @@
 //! Lines and their tokens, from the rules of the language.
 
-use crate::{Class, Terminals, TokenKind, read_tokens, tokens};
+use crate::{Class, Terminals, Writer, read_tokens, tokens};
 use lv_values::{NoMemory, Text};
 use std::alloc::Global;
 use std::test::Fail;
@@ -77,5 +77,22 @@ fn tokens_say_what_they_spell(rt: HostRuntime) -> Result<(), Fail> {
         assert_eq!(rt; found.number, *number);
         assert_eq!(rt; found.byte, *byte);
     }
+    Ok(())
+}
+
+/// A line of a word, a number, a text, a sign and a word.
+fn written(alloc: Global) -> Result<Text, NoMemory> {
+    let mut writer = Writer::new(alloc);
+    writer.word("limit")?;
+    writer.number(18)?;
+    writer.text(alloc, &Text::from_str(alloc, "it's")?)?;
+    writer.sign("(")?;
+    writer.word("x")?;
+    writer.finish(alloc)
+}
+
+#[test]
+fn tokens_are_written(rt: HostRuntime) -> Result<(), Fail> {
+    assert_eq!(rt; written(rt.alloc())?.as_str(), "limit 18'it''s'(x");
     Ok(())
 }

@@ -1,8 +1,13 @@
 //! Tokens written to a line, so that they are read again.
 
-ghost use Rattle.std.specs.Prelude.{◌≡◌, ◌++◌, Bool, true, OnOk, IfOk, IsUtf8};
+ghost use Rattle.std.specs.Prelude.{◌≡◌, ℕ, ◌++◌, ◌<◌, ◌^◌, Bool, true, List, None, OnOk, IfOk, IsUtf8, decimal};
 ghost use Rattle.std.specs.Str.{is_utf8};
 ghost use Rattle.lv_values.specs.Print.{doubled, quoted};
+ghost use Rattle.std.specs.Str.Parse.{digits_value};
+ghost use Rattle.lv_lexer.specs.declared.token.Token.{Token};
+ghost use Rattle.lv_lexer.specs.declared.token.TokenKind.TheVariants as sort;
+ghost use Rattle.lv_lexer.specs.Meaning.{unquoted};
+ghost use Rattle.lv_lexer.specs.Scan.{Scans, Spells};
 ghost use Rattle.lv_lexer.specs.Written as spec;
 
 use itoa::Buffer;
@@ -133,3 +138,16 @@ impl Writer {
         Ok(())
     }
 }
+
+/// What is written is read again: the line is cut into the tokens that were written, each with its spelling, and is then
+/// over.
+pub fn written_is_read()
+    ensures { (xs : List spec.Lexeme) → spec.CanBeRead xs
+        → (ts : List Token) × Scans 0 (spec.line_of xs) ts None × spec.AreWritten (spec.line_of xs) ts xs }
+{}
+
+/// A number of at most 38 digits and any text spell a token that says them.
+pub fn spelling_says_value()
+    ensures number { (n : ℕ) → n < 10 ^ 38 → Spells (decimal n) sort.Number × (digits_value 10 (decimal n) ≡ n) }
+    ensures text { (t : List ℕ) → Spells (quoted t) sort.Text × (unquoted (quoted t) ≡ t) }
+{}

@@ -7,3 +7,5 @@ pub mod Reading
 pub mod Numbers
 pub mod Read
 pub mod Lines
+pub mod Printed
+pub mod Bare

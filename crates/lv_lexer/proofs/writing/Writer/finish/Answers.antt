@@ -1,4 +1,4 @@
-use Rattle.std.proofs.Common.{◌≡◌, ◌∙◌, List, ℕ, Result, Err, sym, ap, subst}
+use Rattle.std.proofs.Common.{◌∙◌, List, ℕ, Err, sym, ap, subst}
 use Rattle.std.specs.Str.{IsUtf8}
 use Rattle.std.proofs.lemmas.Str.{IsUtf8-from_is_utf8}
 use Rattle.lv_lexer.proofs.writing.Writer.finish.Goals as goal

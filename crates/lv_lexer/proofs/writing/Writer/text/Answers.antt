@@ -1,4 +1,4 @@
-use Rattle.std.proofs.Common.{◌≡◌, ◌∙◌, List, ℕ, sym, ap, subst}
+use Rattle.std.proofs.Common.{◌∙◌, List, ℕ, sym, subst}
 use Rattle.std.specs.Str.{IsUtf8}
 use Rattle.lv_lexer.proofs.Doubled.{quoted_is_utf8}
 use Rattle.lv_lexer.proofs.writing.Writer.text.Goals as goal
