@@ -4,5 +4,5 @@
 mod entry;
 mod program;
 
-pub use entry::{Entries, Entry, ForcedSteps, Reply, TaskList};
+pub use entry::{Entries, Entry, MarkOutcome, Reply, TaskList};
 pub use program::{Order, OrderItem, Program, Script, Scripts, Texts};

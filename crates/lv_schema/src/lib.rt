@@ -1,8 +1,36 @@
 //! Bound types, and the definitions of what a database, a view, a query and a change mean.
 #![tactic(auto)]
 
+mod action;
+mod bound;
+mod change;
+mod cond;
+mod directed;
 mod fault;
 mod forced;
+mod holding;
+mod logic;
+mod net;
+mod pending;
+mod query;
+mod rec;
+mod signed;
+mod table;
+mod view;
 
+pub use action::{Action, ActionKind, Actions, DeltaEntries, DeltaEntry};
+pub use bound::Bound;
+pub use change::{Change, Set, SetValue, Sets};
+pub use cond::{Col, Cols, Cond, Conds, Op, Operand};
+pub use directed::Directed;
 pub use fault::{Fault, LimitKind, ProfileRule};
-pub use forced::Forced;
+pub use forced::{Forced, ForcedSteps};
+pub use holding::{holds, listed, truth, value_at};
+pub use logic::Truth;
+pub use net::{Net, Nets};
+pub use pending::{Pending, Pendings};
+pub use query::{OrderCols, Query, Rel, Rels};
+pub use rec::Rec;
+pub use signed::{Joined, Signed, SignedRow, Sums};
+pub use table::{Column, Columns, Kind, Positions, TableDef, TableDefs};
+pub use view::{Item, TableNumbers, ViewDef, ViewDefs, ViewItems};
