@@ -1,13 +1,14 @@
 -- Numbers are read from their decimal texts alone, and these are read as the numbers.
 use Rattle.std.proofs.Common.{◌≡◌, ◌≢◌, ℕ, zero, suc, ◌+◌, ◌-◌, ◌*◌, ◌/◌, ◌%◌, ◌^◌, ◌<◌, ◌≤◌, Bool, true, false, cond, ◌&&◌, eqb, nat_lt, nat_le, List, [], ◌∷◌, ◌++◌, length, take, get_or, Option, Some, None, refl, sym, ap, subst, ◌∙◌, length-append, arith}
 use Rattle.std.specs.Prelude.{decimal, codes, option_and_then, ℤ, pos, negsuc, ◌-ℤ◌}
+use Rattle.std.specs.Char.{is_ascii_digit}
 use Rattle.std.specs.Fmt.{signed_decimal}
 use Rattle.std.specs.List.{list_all}
 use Rattle.std.proofs.lemmas.List.{take_more, take_all, length-take-le}
 use Rattle.std.proofs.lemmas.Int.{ints}
 use Rattle.std.proofs.lemmas.Fmt.{decimal_digit, decimal_step_wide, decimal_by_steps_wide}
 use Rattle.lv_reading.specs.Reading.{begins, stops}
-use Rattle.lv_reading.specs.Numbers.{is_digit, longer, number_on, number_of, has_leading_zero, wide, natural, IsWide, plain, negated, positive, negative, number}
+use Rattle.lv_reading.specs.Numbers.{longer, number_on, number_of, has_leading_zero, wide, natural, IsWide, plain, negated, positive, negative, number}
 use Rattle.lv_reading.proofs.Digits.{number_is}
 use Rattle.lv_reading.proofs.Again.{run_again, begins_again, expect_again}
 use Rattle.lv_reading.proofs.Takes.{Takes, then_takes, given_takes, below_takes, choice_takes, expect_takes, run_takes}
@@ -18,10 +19,10 @@ number_on_push (b ∷ bs) d o = number_on_push bs d (option_and_then (λ n. long
 
 -- ---- what is read was written
 
-longer_some : (n d m : ℕ) → longer n d ≡ Some m → (is_digit d ≡ true) × (n * 10 + (d - 48) ≡ m) × (m < 2 ^ 128)
+longer_some : (n d m : ℕ) → longer n d ≡ Some m → (is_ascii_digit d ≡ true) × (n * 10 + (d - 48) ≡ m) × (m < 2 ^ 128)
 longer_some n d m e = grind arith
 
-digit_bounds : (d : ℕ) → is_digit d ≡ true → (48 ≤ d) × (d ≤ 57)
+digit_bounds : (d : ℕ) → is_ascii_digit d ≡ true → (48 ≤ d) × (d ≤ 57)
 digit_bounds d e = grind arith
 
 option_some : {A B : Type 0} (f : A → Option B) (o : Option A) (y : B) → option_and_then f o ≡ Some y → (x : A) × (o ≡ Some x) × (f x ≡ Some y)
@@ -81,7 +82,7 @@ number_of_takes (d ∷ ds) n e = at (has_leading_zero (d ∷ ds)) refl e where
 
 pub wide_takes : Takes (λ n. n < 2 ^ 128) decimal [] wide
 unfolding wide
-wide_takes = then_takes (run_takes is_digit) (λ ds _. given_takes (λ n e. number_of_takes ds n e))
+wide_takes = then_takes (run_takes is_ascii_digit) (λ ds _. given_takes (λ n e. number_of_takes ds n e))
 
 pub natural_takes : (limit : ℕ) → Takes (λ n. n < limit) decimal [] (natural limit)
 unfolding natural
@@ -119,12 +120,12 @@ number_takes = choice_takes _ (then_takes (expect_takes _) (λ _ _. then_takes w
 
 -- the digits of a number
 record IsDecimal (n : ℕ) (ds : List ℕ) : Type 0 where
-  digits : list_all is_digit ds ≡ true
+  digits : list_all is_ascii_digit ds ≡ true
   some : 0 < length ds
   above : 0 < n → 48 < get_or ds 0 0
   value : n < 2 ^ 128 → number_on ds (Some 0) ≡ Some n
 
-digit_is : (d : ℕ) → d < 10 → is_digit (48 + d) ≡ true
+digit_is : (d : ℕ) → d < 10 → is_ascii_digit (48 + d) ≡ true
 digit_is d h = grind arith
 
 longer_is : (n d : ℕ) → d < 10 → n * 10 + d < 2 ^ 128 → longer n (48 + d) ≡ Some (n * 10 + d)
@@ -157,7 +158,7 @@ decimal_is = decimal_by_steps_wide IsDecimal one more where
       let low : n % 10 < 10 = omega arith in
       let up : 0 < n / 10 = omega arith in
       record {
-        digits = list_all_push is_digit ds (48 + n % 10) so_far.digits (digit_is (n % 10) low);
+        digits = list_all_push is_ascii_digit ds (48 + n % 10) so_far.digits (digit_is (n % 10) low);
         some = omega (arith, length-append ds ((48 + n % 10) ∷ []));
         above = λ p. rw (first_push ds (48 + n % 10) so_far.some) (so_far.above up);
         value = λ fits.
@@ -177,34 +178,34 @@ decimal_plain zero fits = rw (decimal_digit 0 (omega arith)) refl
 decimal_plain (suc n) fits = plain_first (decimal (suc n)) ((decimal_is (suc n) fits).above (omega arith))
 
 -- the digits of a number are digits, and there is one
-pub decimal_digits : (n : ℕ) → n < 2 ^ 128 → list_all is_digit (decimal n) ≡ true
+pub decimal_digits : (n : ℕ) → n < 2 ^ 128 → list_all is_ascii_digit (decimal n) ≡ true
 decimal_digits n fits = (decimal_is n (omega arith)).digits
 
 pub decimal_some : (n : ℕ) → n < 2 ^ 128 → 0 < length (decimal n)
 decimal_some n fits = (decimal_is n (omega arith)).some
 
-pub wide_again : (n : ℕ) (rest : List ℕ) → n < 2 ^ 128 → stops is_digit rest ≡ true → wide (decimal n ++ rest) ≡ Some (n, rest)
+pub wide_again : (n : ℕ) (rest : List ℕ) → n < 2 ^ 128 → stops is_ascii_digit rest ≡ true → wide (decimal n ++ rest) ≡ Some (n, rest)
 unfolding wide
 wide_again n rest fits e =
     let room : n < 10 ^ 64 = omega arith in
     let d = decimal_is n room in
-    rw (run_again is_digit (decimal n) rest d.digits e, number_is (decimal n) d.some (decimal_plain n room), d.value fits) refl
+    rw (run_again is_ascii_digit (decimal n) rest d.digits e, number_is (decimal n) d.some (decimal_plain n room), d.value fits) refl
 
-pub natural_again : (limit n : ℕ) (rest : List ℕ) → limit ≤ 2 ^ 128 → n < limit → stops is_digit rest ≡ true → natural limit (decimal n ++ rest) ≡ Some (n, rest)
+pub natural_again : (limit n : ℕ) (rest : List ℕ) → limit ≤ 2 ^ 128 → n < limit → stops is_ascii_digit rest ≡ true → natural limit (decimal n ++ rest) ≡ Some (n, rest)
 unfolding natural
 natural_again limit n rest room fits e =
     let test : nat_lt n limit ≡ true = grind arith in
     rw (wide_again n rest (omega arith) e, test) refl
 
-no_minus : (ds rest : List ℕ) → list_all is_digit ds ≡ true → 0 < length ds → begins (codes "-") (ds ++ rest) ≡ false
+no_minus : (ds rest : List ℕ) → list_all is_ascii_digit ds ≡ true → 0 < length ds → begins (codes "-") (ds ++ rest) ≡ false
 unfolding begins
 no_minus [] rest h some = absurd (omega arith)
 no_minus (d ∷ ds) rest h some =
-    let digit : is_digit d ≡ true = (and_parts (is_digit d) (list_all is_digit ds) h).0 in
+    let digit : is_ascii_digit d ≡ true = (and_parts (is_ascii_digit d) (list_all is_ascii_digit ds) h).0 in
     let other : eqb 45 d ≡ false = grind arith in
     rw other refl
 
-pub number_again : (z : ℤ) (rest : List ℕ) → IsWide z → stops is_digit rest ≡ true → number (signed_decimal z ++ rest) ≡ Some (z, rest)
+pub number_again : (z : ℤ) (rest : List ℕ) → IsWide z → stops is_ascii_digit rest ≡ true → number (signed_decimal z ++ rest) ≡ Some (z, rest)
 unfolding number positive negative
 number_again (pos n) rest fits e =
     let wider : n < 2 ^ 128 = omega arith in

@@ -5,7 +5,7 @@ use Rattle.std.specs.Str.{bytes_eq}
 use Rattle.std.proofs.lemmas.List.{append-nil, get_or-append-add, take-append-drop}
 use Rattle.std.proofs.lemmas.Bool.{ltb-true}
 use Rattle.std.proofs.lemmas.Slice.Eq.{bytes_eq-Decides}
-use Rattle.lv_reading.specs.Reading.{Reader, Outcome, IsBytes, and_then, ◌>>=◌, ◌>>◌, pure, fail, given, check, below, choose, choice, begins, expect, run, many_from, many_onto, many, separated, times_from, times}
+use Rattle.lv_reading.specs.Reading.{Reader, Outcome, IsBytes, and_then, ◌>>=◌, ◌>>◌, pure, fail, given, check, below, choose, choice, begins, expect, byte, run, many_from, many_onto, many, separated, times_from, times}
 
 pub IsBytes-behind : (front rest bytes : List ℕ) → bytes ≡ front ++ rest → IsBytes bytes → IsBytes rest
 IsBytes-behind front rest bytes e h i = let P : List ℕ → Type 0 = λ b. get_or b (length front + i) 0 < 256 in rw (← get_or-append-add front rest i 0) (subst P e (h (length front + i)))
@@ -95,6 +95,13 @@ expect_takes text = record {
       let after : drop (length text) bytes ≡ rest = ap (λ z. z.1) s.1 in
       (sym (take-append-drop (length text) bytes) ∙ ap (λ (t : List ℕ). t ++ drop (length text) bytes) (sym same) ∙ ap (λ (t : List ℕ). text ++ t) after, tt);
 }
+
+pub byte_takes : Takes (λ b. b < 256) (λ b. b ∷ []) [] byte
+unfolding byte
+byte_takes = record { takes = λ bytes b rest is e. at bytes b rest is e } where
+  at : (bytes : List ℕ) (b : ℕ) (rest : List ℕ) → IsBytes bytes → byte bytes ≡ Some (b, rest) → (bytes ≡ b ∷ rest) × (b < 256)
+  at [] b rest is e = absurd cc
+  at (c ∷ cs) b rest is e = let s = pair_is c b cs rest e in (ap (λ (k : ℕ). k ∷ cs) s.0 ∙ ap (λ (r : List ℕ). b ∷ r) s.1, omega (arith, is 0, s.0))
 
 pub prefix_passes : (p : ℕ → Bool) (bytes : List ℕ) → list_all p (take (prefix_len p bytes) bytes) ≡ true
 prefix_passes p [] = refl

@@ -1,13 +1,11 @@
 -- Numbers in decimal, as they are read: no leading zeros, and no minus before 0.
 use Rattle.std.specs.Prelude.{ℕ, ℤ, pos, negsuc, ◌-ℤ◌, ◌<◌, ◌+◌, ◌*◌, ◌-◌, ◌^◌, Bool, false, ◌&&◌, nat_le, nat_lt, ◌==◌, if◌then◌else◌, List, [], ◌∷◌, Option, Some, None, option_and_then, codes}
+use Rattle.std.specs.Char.{is_ascii_digit}
 use Rattle.lv_reading.specs.Reading.{Reader, ◌>>=◌, ◌>>◌, given, below, choice, begins, expect, run}
-
-abbrev pub is_digit : ℕ → Bool
-is_digit b = nat_le 48 b && nat_le b 57
 
 -- the number of 128 bits with one digit more
 abbrev pub longer : ℕ → ℕ → Option ℕ
-longer n d = if is_digit d && nat_lt (n * 10 + (d - 48)) (2 ^ 128) then Some (n * 10 + (d - 48)) else None
+longer n d = if is_ascii_digit d && nat_lt (n * 10 + (d - 48)) (2 ^ 128) then Some (n * 10 + (d - 48)) else None
 
 -- the number that goes on with these digits
 abbrev pub number_on : List ℕ → Option ℕ → Option ℕ
@@ -26,7 +24,7 @@ number_of (d ∷ ds) = if has_leading_zero (d ∷ ds) then None else number_on (
 
 -- a number of 128 bits, as many digits as come next
 unfoldable pub wide : Reader ℕ
-wide = run is_digit >>= λ ds. given (number_of ds)
+wide = run is_ascii_digit >>= λ ds. given (number_of ds)
 
 -- a number below the limit
 unfoldable pub natural : ℕ → Reader ℕ

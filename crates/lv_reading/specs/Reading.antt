@@ -66,6 +66,11 @@ begins text bytes = bytes_eq text (take (length text) bytes)
 unfoldable pub expect : List ℕ → Reader (Unit {0})
 expect text bytes = if begins text bytes then Some (tt, drop (length text) bytes) else None
 
+-- the next byte
+unfoldable pub byte : Reader ℕ
+byte [] = None
+byte (b ∷ bytes) = Some (b, bytes)
+
 -- as many bytes that pass the test as there are
 unfoldable pub run : (ℕ → Bool) → Reader (List ℕ)
 run p bytes = Some (take (prefix_len p bytes) bytes, drop (prefix_len p bytes) bytes)

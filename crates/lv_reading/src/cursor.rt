@@ -1,6 +1,6 @@
 //! The bytes that are still to be read.
 ghost use Rattle.std.specs.Prelude.{◌≡◌, ◌≤◌, ◌↔◌, IsTrue, [], length, take, drop};
-ghost use Rattle.lv_reading.specs.Reading.{Gives, begins, expect};
+ghost use Rattle.lv_reading.specs.Reading.{Gives, begins, byte, expect};
 
 use crate::stop::Stop;
 use std::marker::Model;
@@ -73,6 +73,20 @@ impl<'a> Cursor<'a> {
         }
         self.rest = &self.rest[text.len()..];
         Ok(())
+    }
+
+    /// Takes the next byte. `Bad` comes where there is none.
+    #[tactic(auto, unfolding(crate::specs::Reading::byte))]
+    pub fn byte(&mut self) -> Result<u8, Stop>
+        ensures { Gives (byte self.old) result self.new }
+    {
+        match self.rest.split_first() {
+            None => Err(Stop::Bad),
+            Some((first, rest)) => {
+                self.rest = rest;
+                Ok(*first)
+            }
+        }
     }
 
     /// Takes the next `count` bytes, of which there are as many.

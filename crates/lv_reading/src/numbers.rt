@@ -1,5 +1,6 @@
 //! Numbers in decimal, without leading zeros.
 ghost use Rattle.std.specs.Prelude.{◌≡◌, ◌≤◌, ◌^◌, length};
+ghost use Rattle.std.specs.Char.{is_ascii_digit};
 ghost use Rattle.std.specs.List.{prefix_len};
 ghost use Rattle.lv_reading.specs.Reading.{Gives};
 ghost use Rattle.lv_reading.specs.Numbers as read;
@@ -10,18 +11,12 @@ use crate::stop::Stop;
 /// The least number of 128 bits, without its minus.
 const LEAST: u128 = 170141183460469231731687303715884105728;
 
-fn is_digit(byte: u8) -> bool
-    ensures { result ≡ read.is_digit byte }
-{
-    byte >= b'0' && byte <= b'9'
-}
-
 /// The number of digits that come next.
 fn digits_len(bytes: &[u8]) -> usize
-    ensures value { result ≡ prefix_len read.is_digit bytes.now }
+    ensures value { result ≡ prefix_len is_ascii_digit bytes.now }
     ensures within { result ≤ length bytes.now }
 {
-    bytes.iter().take_while(|byte| is_digit(**byte)).count()
+    bytes.iter().take_while(|byte| byte.is_ascii_digit()).count()
 }
 
 /// Whether a 0 stands before more digits.
@@ -38,7 +33,7 @@ fn has_leading_zero(digits: &[u8]) -> bool
 fn longer(number: u128, byte: u8) -> Option<u128>
     ensures { result ≡ read.longer number byte }
 {
-    if !is_digit(byte) {
+    if !byte.is_ascii_digit() {
         return None;
     }
     number.checked_mul(10)?.checked_add(u128::from(byte - b'0'))
@@ -91,7 +86,7 @@ impl<'a> Cursor<'a> {
     /// Takes the digits that come next.
     #[tactic(auto, unfolding(crate::specs::Reading::run))]
     fn digits(&mut self) -> &'a [u8]
-        ensures { run read.is_digit self.old ≡ Some (result.now, self.new) }
+        ensures { run is_ascii_digit self.old ≡ Some (result.now, self.new) }
     {
         let count = digits_len(self.rest());
         self.take(count)
