@@ -1,9 +1,10 @@
 -- What was written is read again: how this follows for a reader from its parts.
-use Rattle.std.proofs.Common.{◌≡◌, ℕ, zero, suc, ◌<◌, ◌≤◌, Bool, true, false, ◌&&◌, not, List, [], ◌∷◌, ◌++◌, length, Some, refl, sym, ap, subst, ◌∙◌, append_assoc, length-append, arith}
+use Rattle.std.proofs.Common.{◌≡◌, ℕ, zero, suc, ◌<◌, ◌≤◌, Bool, true, false, ◌&&◌, not, List, [], ◌∷◌, ◌++◌, length, Option, Some, None, refl, sym, ap, subst, ◌∙◌, append_assoc, length-append, arith}
 use Rattle.std.specs.List.{flat_map, join_by, list_all, prefix_len, AllByRecursion}
 use Rattle.std.proofs.lemmas.List.{append-nil, take_at, drop_at}
 use Rattle.std.proofs.lemmas.Slice.Eq.{bytes_eq-Decides}
-use Rattle.lv_reading.specs.Reading.{Reader, ◌>>◌, begins, expect, run, stops, many_from, many_onto, many, separated, times_from, times}
+use Rattle.lv_reading.proofs.Takes.{until_text}
+use Rattle.lv_reading.specs.Reading.{Reader, ◌>>◌, begins, expect, run, stops, many_from, many_onto, many, separated, times_from, times, until_from, until}
 
 -- ---- texts that are given, and runs of bytes
 
@@ -84,6 +85,32 @@ module _ {A : Type 0} (p : Reader A) (text : A → List ℕ) (Fits : A → Type 
 
   pub times_again : (all : List A) (rest : List ℕ) → AllByRecursion Fits all → times p (length all) (flat_map text all ++ rest) ≡ Some (all, rest)
   times_again all rest fits = times_from_again all [] rest fits
+
+-- ---- until nothing is given
+
+module _ {A : Type 0} (p : Reader (Option A)) (text : Option A → List ℕ) (Fits : A → Type 0)
+    (again : (a : A) (rest : List ℕ) → Fits a → p (text (Some a) ++ rest) ≡ Some (Some a, rest))
+    (long : (a : A) → Fits a → 0 < length (text (Some a))) (end : 0 < length (text None)) where
+  until_from_again : (all : List A) (n : ℕ) (found : List A) (rest : List ℕ) → AllByRecursion Fits all → length all < n → p (text None ++ rest) ≡ Some (None, rest)
+      → until_from p n found (flat_map (λ a. text (Some a)) all ++ (text None ++ rest)) ≡ Some (found ++ all, rest)
+  unfolding until_from
+  until_from_again all zero found rest fits lt e = absurd (omega arith)
+  until_from_again [] (suc n) found rest fits lt e = rw e (ap (λ (xs : List A). Some (xs, rest)) (sym (append-nil found)))
+  until_from_again (a ∷ all) (suc n) found rest fits lt e =
+      let later = until_from_again all n (found ++ a ∷ []) rest fits.1 (omega arith) e in
+      rw (append_assoc (text (Some a)) (flat_map (λ b. text (Some b)) all) (text None ++ rest), again a (flat_map (λ b. text (Some b)) all ++ (text None ++ rest)) fits.0)
+          (later ∙ ap (λ (xs : List A). Some (xs, rest)) (append_assoc found (a ∷ []) all))
+
+  shorter_than : (all : List A) (rest : List ℕ) → AllByRecursion Fits all → length all < length (flat_map (λ a. text (Some a)) all ++ (text None ++ rest))
+  shorter_than [] rest fits = omega (arith, end, length-append (text None) rest)
+  shorter_than (a ∷ all) rest fits =
+      omega (arith, long a fits.0, shorter_than all rest fits.1, length-append (text (Some a) ++ flat_map (λ b. text (Some b)) all) (text None ++ rest), length-append (text (Some a)) (flat_map (λ b. text (Some b)) all), length-append (flat_map (λ b. text (Some b)) all) (text None ++ rest))
+
+  pub until_again : (all : List A) (rest : List ℕ) → AllByRecursion Fits all → p (text None ++ rest) ≡ Some (None, rest) → until p (until_text text all ++ rest) ≡ Some (all, rest)
+  unfolding until
+  until_again all rest fits e =
+      let shape : until_text text all ++ rest ≡ flat_map (λ a. text (Some a)) all ++ (text None ++ rest) = append_assoc (flat_map (λ a. text (Some a)) all) (text None) rest in
+      rw shape (until_from_again all (length (flat_map (λ a. text (Some a)) all ++ (text None ++ rest))) [] rest fits (shorter_than all rest fits) e)
 
 -- ---- with a text between
 

@@ -1,6 +1,6 @@
 -- A loop that reads one after the other: from each turn on, what is still to read gives the same.
-use Rattle.std.proofs.Common.{◌≡◌, ℕ, suc, ◌+◌, ◌-◌, ◌≤◌, ◌<◌, Bool, true, false, List, [], ◌∷◌, ◌++◌, length, Some, None, Err, refl, sym, ap, ◌∙◌, arith}
-use Rattle.lv_reading.specs.Reading.{Outcome, Reader, many_from, many_onto, times_from, Gives}
+use Rattle.std.proofs.Common.{◌≡◌, ℕ, suc, ◌+◌, ◌-◌, ◌≤◌, ◌<◌, Bool, true, false, List, [], ◌∷◌, ◌++◌, length, Option, Some, None, Err, refl, sym, ap, ◌∙◌, arith}
+use Rattle.lv_reading.specs.Reading.{Outcome, Reader, many_from, many_onto, times_from, until_from, until, Gives}
 use Rattle.lv_reading.specs.declared.stop.Stop.{Stop}
 use Rattle.lv_reading.specs.declared.stop.Stop.TheVariants.{Bad, NoMemory}
 
@@ -66,6 +66,43 @@ module _ {A : Type 0} (p : Reader A) where
       let k : count - i ≡ 0 = omega arith in
       let one : times_from p (count - i) found bytes ≡ Some (found, bytes) = rw k refl in
       sym so_far ∙ one
+
+module _ {A : Type 0} (p : Reader (Option A)) where
+  pub until_more : (count i : ℕ) (found : List A) (bytes : List ℕ) (a : A) (rest : List ℕ) (total : Outcome (List A)) → i < count → p bytes ≡ Some (Some a, rest)
+      → until_from p (count - i) found bytes ≡ total → until_from p (count - (i + 1)) (found ++ a ∷ []) rest ≡ total
+  unfolding until_from
+  until_more count i found bytes a rest total lt e so_far =
+      let k : count - i ≡ suc (count - (i + 1)) = omega arith in
+      let one : until_from p (count - i) found bytes ≡ until_from p (count - (i + 1)) (found ++ a ∷ []) rest = rw (k, e) refl in
+      sym one ∙ so_far
+
+  pub until_stop : (count i : ℕ) (found : List A) (bytes : List ℕ) (total : Outcome (List A)) → i < count → p bytes ≡ None
+      → until_from p (count - i) found bytes ≡ total → total ≡ None
+  unfolding until_from
+  until_stop count i found bytes total lt e so_far =
+      let k : count - i ≡ suc (count - (i + 1)) = omega arith in
+      let one : until_from p (count - i) found bytes ≡ None = rw (k, e) refl in
+      sym so_far ∙ one
+
+  pub until_done : (count i : ℕ) (found : List A) (bytes rest : List ℕ) (total : Outcome (List A)) → i < count → p bytes ≡ Some (None, rest)
+      → until_from p (count - i) found bytes ≡ total → total ≡ Some (found, rest)
+  unfolding until_from
+  until_done count i found bytes rest total lt e so_far =
+      let k : count - i ≡ suc (count - (i + 1)) = omega arith in
+      let one : until_from p (count - i) found bytes ≡ Some (found, rest) = rw (k, e) refl in
+      sym so_far ∙ one
+
+  pub until_full : (count i : ℕ) (found : List A) (bytes : List ℕ) (total : Outcome (List A)) → count ≤ i
+      → until_from p (count - i) found bytes ≡ total → total ≡ None
+  unfolding until_from
+  until_full count i found bytes total le so_far =
+      let k : count - i ≡ 0 = omega arith in
+      let one : until_from p (count - i) found bytes ≡ None = rw k refl in
+      sym so_far ∙ one
+
+  pub until_begin : (bytes : List ℕ) → until_from p (length bytes - 0) [] bytes ≡ until p bytes
+  unfolding until
+  until_begin bytes = let k : length bytes - 0 ≡ length bytes = omega arith in ap (λ (n : ℕ). until_from p n [] bytes) k
 
 -- what a function ensures where a step of it stops
 pub gives_err : {A B : Type 0} (o : Outcome A) (e : Stop) (rest : List ℕ) (o' : Outcome B) → Gives o (Err e) rest → (o ≡ None → o' ≡ None) → Gives o' (Err e) rest

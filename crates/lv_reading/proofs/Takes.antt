@@ -5,7 +5,7 @@ use Rattle.std.specs.Str.{bytes_eq}
 use Rattle.std.proofs.lemmas.List.{append-nil, get_or-append-add, take-append-drop}
 use Rattle.std.proofs.lemmas.Bool.{ltb-true}
 use Rattle.std.proofs.lemmas.Slice.Eq.{bytes_eq-Decides}
-use Rattle.lv_reading.specs.Reading.{Reader, Outcome, IsBytes, and_then, ◌>>=◌, ◌>>◌, pure, fail, given, check, below, choose, choice, begins, expect, byte, run, many_from, many_onto, many, separated, times_from, times}
+use Rattle.lv_reading.specs.Reading.{Reader, Outcome, IsBytes, and_then, ◌>>=◌, ◌>>◌, pure, fail, given, check, below, choose, choice, begins, expect, byte, run, many_from, many_onto, many, separated, times_from, times, if_more, until_from, until}
 
 pub IsBytes-behind : (front rest bytes : List ℕ) → bytes ≡ front ++ rest → IsBytes bytes → IsBytes rest
 IsBytes-behind front rest bytes e h i = let P : List ℕ → Type 0 = λ b. get_or b (length front + i) 0 < 256 in rw (← get_or-append-add front rest i 0) (subst P e (h (length front + i)))
@@ -161,6 +161,38 @@ module _ {A : Type 0} {Fits : A → Type 0} {text : A → List ℕ} {p : Reader 
 
   pub times_takes : (n : ℕ) → Takes (λ all. AllByRecursion Fits all × (length all ≡ n)) (flat_map text) [] (times p n)
   times_takes n = record { takes = λ bytes b rest is e. (let s = (times_from_takes n [] tt).takes bytes b rest is e in (s.0, (s.1.0, omega (arith, s.1.1)))) }
+
+-- ---- until nothing is given
+
+pub if_more_takes : {A B : Type 0} {Fits : B → Type 0} {text : B → List ℕ} {front : List ℕ} {f : A → Reader B} {q : Reader B} (o : Option A)
+    → ((a : A) → o ≡ Some a → Takes Fits text front (f a)) → (o ≡ None → Takes Fits text front q) → Takes Fits text front (if_more o f q)
+if_more_takes (Some a) x y = x a refl
+if_more_takes None x y = y refl
+
+-- the text of all of them, and of the end
+abbrev pub until_text : {A : Type 0} → (Option A → List ℕ) → List A → List ℕ
+until_text text all = flat_map (λ a. text (Some a)) all ++ text None
+
+module _ {A : Type 0} {Fits : Option A → Type 0} {text : Option A → List ℕ} {p : Reader (Option A)} (x : Takes Fits text [] p) where
+  abbrev AreMore : List A → Type 0
+  AreMore = AllByRecursion (λ a. Fits (Some a))
+
+  some_is : (o : Option A) (a : A) → o ≡ Some a → Fits o → Fits (Some a)
+  some_is o a e fits = subst Fits e fits
+
+  until_from_takes : (n : ℕ) (found : List A) → AreMore found → Takes AreMore (until_text text) (flat_map (λ a. text (Some a)) found) (until_from p n found)
+  unfolding until_from
+  until_from_takes zero found fits = fail_takes
+  until_from_takes (suc n) found fits =
+      then_takes x (λ o f. if_more_takes o
+          (λ a e. front_takes (flat_map (λ b. text (Some b)) (found ++ a ∷ [])) (flat_map (λ b. text (Some b)) found ++ text o)
+              (sym (flat_map_push (λ b. text (Some b)) found a) ∙ ap (λ (q : Option A). flat_map (λ b. text (Some b)) found ++ text q) (sym e))
+              (until_from_takes n (found ++ a ∷ []) (all_push (λ b. Fits (Some b)) found a fits (some_is o a e f))))
+          (λ e. pure_takes (ap (λ (q : Option A). flat_map (λ b. text (Some b)) found ++ text q) e) fits))
+
+  pub until_takes : Takes AreMore (until_text text) [] (until p)
+  unfolding until
+  until_takes = record { takes = λ bytes b rest is e. (until_from_takes (length bytes) [] tt).takes bytes b rest is e }
 
 -- ---- with a text between
 

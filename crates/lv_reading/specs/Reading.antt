@@ -58,6 +58,11 @@ choose false p q = q
 abbrev pub choice : {A : Type 0} → (List ℕ → Bool) → Reader A → Reader A → Reader A
 choice test p q = λ bytes. choose (test bytes) p q bytes
 
+-- goes on with what is there, or where nothing is
+abbrev pub if_more : {A B : Type 0} → Option A → (A → Reader B) → Reader B → Reader B
+if_more (Some a) f p = f a
+if_more None f p = p
+
 -- whether this text comes next
 unfoldable pub begins : List ℕ → List ℕ → Bool
 begins text bytes = bytes_eq text (take (length text) bytes)
@@ -95,6 +100,15 @@ many test p = many_onto test p []
 -- one or more, with this text between any two
 unfoldable pub separated : {A : Type 0} → List ℕ → Reader A → Reader (List A)
 separated between p = p >>= λ first. many_onto (begins between) (expect between >> p) (first ∷ [])
+
+-- at most so many more, behind those that were found, until the reader gives nothing
+unfoldable pub until_from : {A : Type 0} → Reader (Option A) → ℕ → List A → Reader (List A)
+until_from p zero found = fail
+until_from p (suc n) found = p >>= λ o. if_more o (λ a. until_from p n (found ++ a ∷ [])) (pure found)
+
+-- one after the other until the reader gives nothing; there are never more than bytes
+unfoldable pub until : {A : Type 0} → Reader (Option A) → Reader (List A)
+until p bytes = until_from p (length bytes) [] bytes
 
 -- so many more, behind those that were found
 unfoldable pub times_from : {A : Type 0} → Reader A → ℕ → List A → Reader (List A)

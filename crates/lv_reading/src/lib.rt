@@ -9,7 +9,7 @@ mod stop;
 
 pub use cursor::Cursor;
 pub use laws::{decimals_both_ways, signed_decimals_both_ways};
-pub use part::{Part, Repeated, read_many, read_separated, read_times};
+pub use part::{Part, Repeated, read_many, read_separated, read_times, read_until};
 pub use stop::Stop;
 
 #[cfg(test)]

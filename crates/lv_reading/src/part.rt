@@ -1,6 +1,6 @@
 //! Parts that are read one after the other.
 ghost use Rattle.std.specs.Prelude.{◌≡◌, List, ℕ, Bool};
-ghost use Rattle.lv_reading.specs.Reading.{Reader, Gives, ◌>>◌, begins, expect, many, many_onto, times, separated};
+ghost use Rattle.lv_reading.specs.Reading.{Reader, Gives, ◌>>◌, begins, expect, many, many_onto, times, separated, until};
 
 use crate::cursor::Cursor;
 use crate::stop::Stop;
@@ -42,6 +42,24 @@ pub fn read_times<T: Drop, P: Part<T>>(
         found.push(item)?;
     }
     Ok(found)
+}
+
+/// Reads the part until it gives nothing. `Bad` comes where the bytes end before that. Cost: that of the parts.
+pub fn read_until<T: Drop, P: Part<Option<T>>>(
+    alloc: Global,
+    part: &P,
+    cursor: &mut Cursor<'_>,
+) -> Result<Items<T>, Stop>
+    ensures { Gives (until (P.reader part.now) cursor.old) result cursor.new }
+{
+    let mut found = Items::new(alloc);
+    'each: for _ in 0..cursor.len() {
+        match part.read(alloc, cursor)? {
+            None => return Ok(found),
+            Some(item) => found.push(item)?,
+        }
+    }
+    Err(Stop::Bad)
 }
 
 /// Reads the part while it comes next, and puts what it gives behind what was found.
