@@ -4,7 +4,9 @@
 mod names;
 mod printing;
 mod printing_faults;
+mod reading_faults;
 mod transcript;
+mod words;
 
 pub use names::Names;
 pub use printing::print_entry;

@@ -81,7 +81,7 @@ fn print_table_key(
     Ok(())
 }
 
-fn limit_word(which: LimitKind) -> &'static [u8]
+pub(crate) fn limit_word(which: LimitKind) -> &'static [u8]
     ensures { result.now ≡ limit_word which }
 {
     match which {
@@ -98,7 +98,7 @@ fn limit_word(which: LimitKind) -> &'static [u8]
     }
 }
 
-fn rule_word(which: ProfileRule) -> &'static [u8]
+pub(crate) fn rule_word(which: ProfileRule) -> &'static [u8]
     ensures { result.now ≡ rule_word which }
 {
     match which {
