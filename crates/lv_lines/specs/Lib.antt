@@ -1,0 +1,4 @@
+pub mod Entries
+pub mod Readers
+pub mod Transcript
+pub mod Words
