@@ -1,10 +1,10 @@
--- Whether bytes are UTF-8, as a test.
-use Rattle.std.proofs.Common.{◌≡◌, ℕ, Bool, true, false, List, refl}
+-- UTF-8 as a test.
+use Rattle.std.proofs.Common.{◌≡◌, ℕ, Bool, true, false, List, refl, ap}
 use Rattle.std.specs.Str.{is_utf8, IsUtf8}
 use Rattle.std.proofs.lemmas.Str.{IsUtf8-from_is_utf8}
 
-pub is_utf8-false : (bytes : List ℕ) → (IsUtf8 bytes → ⊥) → is_utf8 bytes ≡ false
-is_utf8-false bytes none = at (is_utf8 bytes) refl where
+pub not_utf8 : (bytes : List ℕ) → (IsUtf8 bytes → ⊥) → is_utf8 bytes ≡ false
+not_utf8 bytes h = at (is_utf8 bytes) refl where
   at : (t : Bool) → is_utf8 bytes ≡ t → is_utf8 bytes ≡ false
-  at true e = absurd (none (IsUtf8-from_is_utf8 bytes e))
+  at true e = absurd (h (IsUtf8-from_is_utf8 bytes e))
   at false e = e

@@ -1,3 +1,7 @@
+pub mod Entries
+pub mod Readers
+pub mod Transcript
+pub mod Words
 pub mod FirstFault
 pub mod Judged
 pub mod OrderLine

@@ -1,3 +1,9 @@
+pub mod Programs
+pub mod Turns
+pub mod Events
+pub mod LegalTurns
+pub mod Machine
+pub mod Legal
 pub mod Difference
 pub mod Names
 pub mod Program

@@ -1,0 +1,56 @@
+-- Events, and the order in which a program asks for them.
+use Rattle.std.specs.Prelude.{ℕ, ◌-◌, ◌==◌, nat_lt, max, Bool, false, List, [], ◌∷◌, ◌++◌, length, map, filter, replicate}
+use Rattle.std.specs.List.{flat_map, range_with_len, count_by}
+use Rattle.lv_plain.specs.declared.program.OrderItem.{OrderItem}
+use Rattle.lv_plain.specs.declared.program.OrderItem.TheVariants as item
+use Rattle.lv_plain.specs.declared.program.Program.{Program}
+use Rattle.lv_plain.specs.Programs.{lines_of}
+
+-- what may happen: a session's next statement, what a worker does, a mark of the view with this name, a clean-up
+pub data Event : Type 0 where
+  turn_of : ℕ → Event
+  fetch_of : ℕ → Event
+  install_of : ℕ → Event
+  release_of : ℕ → Event
+  mark_of : List ℕ → Event
+  clean_up : Event
+
+-- the events of an item of the order
+abbrev pub item_events : OrderItem → List Event
+item_events (item.Turn session) = turn_of session ∷ []
+item_events (item.Fetch worker) = fetch_of worker ∷ []
+item_events (item.Install worker) = install_of worker ∷ []
+item_events (item.Work worker) = fetch_of worker ∷ install_of worker ∷ []
+item_events (item.Mark view) = mark_of view ∷ []
+item_events (item.Clean) = clean_up ∷ []
+
+-- whether an item is the session's turn
+abbrev pub is_turn_of : ℕ → OrderItem → Bool
+is_turn_of session (item.Turn other) = other == session
+is_turn_of session (item.Fetch worker) = false
+is_turn_of session (item.Install worker) = false
+is_turn_of session (item.Work worker) = false
+is_turn_of session (item.Mark view) = false
+is_turn_of session (item.Clean) = false
+
+-- how many statements of a session the order leaves
+abbrev pub left_over : Program → ℕ → ℕ
+left_over p session = length (lines_of p session) - count_by (is_turn_of session) p.order
+
+abbrev pub greatest : List ℕ → ℕ
+greatest [] = 0
+greatest (n ∷ ns) = max n (greatest ns)
+
+-- rounds over the sessions as declared: in each, one turn for each that has a statement left
+abbrev pub round : List ℕ → (ℕ → ℕ) → ℕ → List Event
+round sessions left k = map turn_of (filter (λ session. nat_lt k (left session)) sessions)
+
+abbrev pub rounds : List ℕ → (ℕ → ℕ) → List Event
+rounds sessions left = flat_map (round sessions left) (range_with_len 0 (greatest (map left sessions)))
+
+-- the setup; the order; and what the order leaves, in rounds
+abbrev pub schedule : Program → List Event
+schedule p =
+    replicate (length p.setup) (turn_of 0)
+    ++ flat_map item_events p.order
+    ++ rounds (range_with_len 1 (length p.sessions)) (left_over p)
