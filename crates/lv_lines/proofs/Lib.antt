@@ -1,8 +1,7 @@
 pub mod Clear
 pub mod FirstFaults
 pub mod LastSession
-pub mod LowerNames
-pub mod NamesAreText
+pub mod SpelledNames
 pub mod Pieces
 pub mod Sound
 pub mod SoundItems
@@ -10,4 +9,4 @@ pub mod SoundLimits
 pub mod SoundNames
 pub mod SoundOrder
 pub mod Steps
-pub mod Utf8
+pub mod LineText
