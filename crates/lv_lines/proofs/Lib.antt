@@ -1,1 +1,10 @@
+pub mod AgainEntries
+pub mod AgainFaults
+pub mod AgainReplies
+pub mod AgainWords
+pub mod Fails
+pub mod TakesEntries
+pub mod TakesFaults
+pub mod TakesWords
 pub mod Utf8
+pub mod Whole
