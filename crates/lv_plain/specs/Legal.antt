@@ -1,5 +1,5 @@
 -- Which lists of entries a program may give: each entry is that of its own event, with the outcome that it shows.
-use Rattle.std.specs.Prelude.{◌≡◌, ℕ, ◌≤◌, ◌<◌, Bool, true, false, List, [], ◌∷◌, length, nat_lt, if◌then◌else◌, slice_index_or, Option, Some, None, IsSome}
+use Rattle.std.specs.Prelude.{◌≡◌, ℕ, ◌≤◌, ◌<◌, Bool, true, false, List, [], ◌∷◌, length, nat_lt, if◌then◌else◌, Option, Some, None, IsSome}
 use Rattle.lv_schema.specs.declared.fault.Fault.{Fault}
 use Rattle.lv_schema.specs.declared.fault.Fault.TheVariants.{Store}
 use Rattle.lv_schema.specs.Names.{is_lower_name}
@@ -13,8 +13,8 @@ use Rattle.lv_plain.specs.declared.entry.Reply.{Reply}
 use Rattle.lv_plain.specs.declared.entry.Reply.TheVariants as reply
 use Rattle.lv_plain.specs.declared.program.Program.{Program}
 use Rattle.lv_plain.specs.Events.{Event, turn_of, fetch_of, install_of, release_of, mark_of, clean_up}
-use Rattle.lv_plain.specs.Machine.{Settings, State, Given, give}
-use Rattle.lv_plain.specs.Programs.{Places, first_places, may_turn, setup_answered, all_answered}
+use Rattle.lv_plain.specs.Machine.{Settings, State, give}
+use Rattle.lv_plain.specs.Programs.{first_places, may_turn, setup_answered, all_answered}
 use Rattle.lv_plain.specs.Turns.{Reading}
 
 -- whether an entry shows that the disk failed

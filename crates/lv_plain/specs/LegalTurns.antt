@@ -1,6 +1,6 @@
 -- Which lists of entries a program's sessions may give by themselves, over whole snapshots: no view is stored, so no
 -- statement forces a step, and every record is written.
-use Rattle.std.specs.Prelude.{◌≡◌, ℕ, ◌+◌, Bool, true, List, [], ◌∷◌, map, slice_index, slice_set, Result}
+use Rattle.std.specs.Prelude.{◌≡◌, ℕ, ◌+◌, true, List, [], ◌∷◌, slice_index, slice_set}
 use Rattle.lv_schema.specs.declared.rec.Rec.{Rec}
 use Rattle.lv_schema.specs.Cases.{Outcome, good}
 use Rattle.lv_schema.specs.World.{Visible, nothing_visible}

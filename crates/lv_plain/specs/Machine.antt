@@ -1,5 +1,5 @@
 -- The plain machine: what each event gives, its entry and the state after it.
-use Rattle.std.specs.Prelude.{◌≡◌, ℕ, ◌+◌, ◌≤◌, ◌<◌, Bool, true, false, List, [], slice_index, slice_set, Option, Some, None, IsSome, Result, Ok, Err}
+use Rattle.std.specs.Prelude.{ℕ, ◌+◌, Bool, List, [], slice_index, slice_set, Option, Some, None, Result, Ok, Err}
 use Rattle.std.specs.List.{position}
 use Rattle.std.specs.Str.{bytes_eq}
 use Rattle.lv_schema.specs.declared.bound.Bound.{Bound}
@@ -8,7 +8,7 @@ use Rattle.lv_schema.specs.declared.fault.Fault.{Fault}
 use Rattle.lv_schema.specs.declared.forced.Forced.{Forced}
 use Rattle.lv_schema.specs.declared.view.ViewDef.{ViewDef}
 use Rattle.lv_schema.specs.Upkeep.{pending_tasks}
-use Rattle.lv_schema.specs.UpkeepCases.{outcome_of, with_record, with_steps, forced_by, Fetched, Installed, Marking, Cleaned, busy, idle, fetched, empty, installed, moved, fetching, installing, released, marking, cleaning}
+use Rattle.lv_schema.specs.UpkeepCases.{outcome_of, with_record, with_steps, forced_by, Fetched, Installed, busy, idle, fetched, empty, installed, moved, fetching, installing, released, marking, cleaning}
 use Rattle.lv_schema.specs.World.{Upkeep, World}
 use Rattle.lv_plain.specs.declared.entry.Entry.{Entry}
 use Rattle.lv_plain.specs.declared.entry.Entry.TheVariants as entry
@@ -17,7 +17,7 @@ use Rattle.lv_plain.specs.declared.entry.MarkOutcome.TheVariants.{Upto, Already,
 use Rattle.lv_plain.specs.declared.program.Program.{Program}
 use Rattle.lv_plain.specs.Events.{Event, turn_of, fetch_of, install_of, release_of, mark_of, clean_up}
 use Rattle.lv_plain.specs.Programs.{Places, next_line}
-use Rattle.lv_plain.specs.Turns.{Reading, Turn, bound_line, read_turn}
+use Rattle.lv_plain.specs.Turns.{Reading, bound_line, read_turn}
 
 -- how many tasks one step may combine, the limit of the journal's length, and the kind of the policy
 pub record Settings : Type 0 where

@@ -1,3 +1,6 @@
+pub mod Bound
+pub mod Catalog
+pub mod Names
 pub mod Tuples
 pub mod Truth
 pub mod Seen
@@ -7,7 +10,9 @@ pub mod Once
 pub mod Groups
 pub mod Nets
 pub mod Differences
+pub mod SignedRows
 pub mod World
+pub mod AnswerOrder
 pub mod Answers
 pub mod Effects
 pub mod Records
@@ -15,5 +20,6 @@ pub mod Commits
 pub mod Cases
 pub mod Upkeep
 pub mod UpkeepCases
-pub mod Names
-pub mod Bound
+pub mod Greatest
+pub mod Versions
+pub mod Profile

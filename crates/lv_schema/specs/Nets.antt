@@ -1,9 +1,12 @@
 -- The net change from one database to another: for each table the rows that go and those that come.
-use Rattle.std.specs.Prelude.{Bool, not, List, [], ◌∷◌, filter}
+use Rattle.std.specs.Prelude.{ℕ, Bool, not, List, [], ◌∷◌, ◌++◌, filter}
 use Rattle.std.specs.List.{list_any}
 use Rattle.lv_values.specs.declared.value.Value.{Value}
+use Rattle.lv_values.specs.Ascending.{ascending}
 use Rattle.lv_values.specs.Order.{row_eq}
+use Rattle.lv_values.specs.Rows.{key_cmp}
 use Rattle.lv_schema.specs.declared.net.Net.{Net}
+use Rattle.lv_schema.specs.declared.table.TableDef.{TableDef}
 use Rattle.lv_schema.specs.Databases.{Db}
 
 -- whether a row is among the rows
@@ -24,3 +27,11 @@ nets_of [] [] = []
 nets_of [] (after ∷ db') = net_of [] after ∷ nets_of [] db'
 nets_of (before ∷ db) [] = net_of before [] ∷ nets_of db []
 nets_of (before ∷ db) (after ∷ db') = net_of before after ∷ nets_of db db'
+
+-- a table with a net change, in the order of its keys, and each table
+abbrev pub with_net : List ℕ → Net → List (List Value) → List (List Value)
+with_net key net rows = ascending (key_cmp key) (lacking rows net.minus ++ net.plus)
+
+abbrev pub with_nets : List TableDef → List Net → Db → Db
+with_nets (def ∷ defs) (net ∷ nets) (rows ∷ db) = with_net def.key net rows ∷ with_nets defs nets db
+with_nets defs nets db = []

@@ -1,12 +1,13 @@
 -- Tasks, planned steps, forced steps, what policies see, and the floor of a clean-up.
-use Rattle.std.specs.Prelude.{ℕ, zero, suc, ◌+◌, ◌-◌, min, Bool, false, not, cond, ◌&&◌, ◌==◌, nat_lt, nat_le, List, [], ◌∷◌, ◌++◌, length, filter, map, take, sum, sum_by, slice_index, slice_set, Option, Some, None, option_map}
-use Rattle.std.specs.List.{list_any, flat_map, filter_map, range_with_len, take_while, last_or}
+use Rattle.std.specs.Prelude.{ℕ, zero, suc, ◌+◌, ◌-◌, min, Bool, false, not, cond, ◌&&◌, ◌==◌, nat_lt, nat_le, List, [], ◌∷◌, ◌++◌, length, filter, map, take, slice_index, slice_set, Option, Some, None, option_map}
+use Rattle.std.specs.List.{list_any, flat_map, filter_map, range_with_len, take_while, last_or, sum_by}
+use Rattle.lv_values.specs.declared.value.Value.{Value}
 use Rattle.lv_schema.specs.declared.action.Action.{Action}
 use Rattle.lv_schema.specs.declared.forced.Forced.{Forced}
-use Rattle.lv_schema.specs.declared.net.Net.{Net}
 use Rattle.lv_schema.specs.declared.pending.Pending.{Pending}
 use Rattle.lv_schema.specs.declared.view.ViewDef.{ViewDef}
-use Rattle.lv_schema.specs.Nets.{nets_of}
+use Rattle.lv_schema.specs.Databases.{rows_of}
+use Rattle.lv_schema.specs.Nets.{lacking}
 use Rattle.lv_schema.specs.World.{Visible, Upkeep, World, last, snap, commit_at, numbers, view_at, live, point}
 
 -- how many of the actions are on the view's tables
@@ -90,7 +91,7 @@ pending_by w v [] = None
 pending_by w v (t ∷ ts) = Some (record {
   view = v;
   oldest = t;
-  actions = sum (map (λ k. actions_on (view_at w.visible.views v) (commit_at w.visible.commits k)) (t ∷ ts));
+  actions = sum_by (λ k. actions_on (view_at w.visible.views v) (commit_at w.visible.commits k)) (t ∷ ts);
 })
 
 -- whether a worker has claimed a step of the view
@@ -131,11 +132,14 @@ commits_above s floor = filter (nat_lt floor) (numbers (last s))
 
 -- what a clean-up keeps. Of the deltas: the actions of the commits above the floor.
 abbrev pub deltas_kept : Visible → ℕ → ℕ
-deltas_kept s floor = sum (map (λ k. length (commit_at s.commits k)) (commits_above s floor))
+deltas_kept s floor = sum_by (λ k. length (commit_at s.commits k)) (commits_above s floor)
 
 -- Of the versions: the rows at the floor and, for each later commit, its rows that the state before lacks.
-abbrev pub rows_gained : Visible → ℕ → ℕ
-rows_gained s k = sum (map (λ net. length net.plus) (nets_of (snap s (k - 1)) (snap s k)))
+abbrev pub rows_gained : Visible → ℕ → ℕ → List (List Value)
+rows_gained s table k = lacking (rows_of (snap s k) table) (rows_of (snap s (k - 1)) table)
+
+abbrev pub table_versions : Visible → ℕ → ℕ → ℕ
+table_versions s floor table = length (rows_of (snap s floor) table) + sum_by (λ k. length (rows_gained s table k)) (commits_above s floor)
 
 abbrev pub versions_kept : Visible → ℕ → ℕ
-versions_kept s floor = sum (map length (snap s floor)) + sum (map (rows_gained s) (commits_above s floor))
+versions_kept s floor = sum_by (table_versions s floor) (range_with_len 0 (length s.tables))

@@ -41,7 +41,6 @@ impl<T: Exact> Items<T> {
     {
         self.sort_unstable();
     }
-
 }
 
 impl<T: Exact + Drop> Items<T> {

@@ -10,6 +10,8 @@ mod printing;
 mod room;
 mod rows;
 mod steps;
+#[cfg(test)]
+mod tests;
 mod text;
 mod value;
 
