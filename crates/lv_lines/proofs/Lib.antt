@@ -8,6 +8,7 @@ pub mod FirstFaults
 pub mod LastSession
 pub mod LowerNames
 pub mod NamesAreText
+pub mod NamesAreWords
 pub mod Pieces
 pub mod Sound
 pub mod SoundItems

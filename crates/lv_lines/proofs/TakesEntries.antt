@@ -4,7 +4,7 @@ use Rattle.std.specs.Prelude.{codes, decimal}
 use Rattle.std.specs.List.{flat_map, AllByRecursion}
 use Rattle.std.proofs.lemmas.List.{append-nil}
 use Rattle.lv_values.specs.Print.{row_line}
-use Rattle.lv_schema.specs.Names.{continues_name}
+use Rattle.lv_schema.specs.Names.{continues_word}
 use Rattle.lv_schema.specs.declared.fault.Fault.{Fault}
 use Rattle.lv_schema.specs.declared.fault.Fault.TheVariants.{Store, JournalFull}
 use Rattle.lv_schema.specs.declared.forced.Forced.{Forced}
@@ -219,7 +219,7 @@ module _ (names : Names) where
 
   of_mark_takes : Takes FitsEntry (entry_text names) [] (of_mark names)
   unfolding of_mark word
-  of_mark_takes = then_takes (expect_takes _) (λ _ _. then_takes (run_takes continues_name) (λ w _. then_takes (expect_takes _) (λ _ _. choice_takes _ (mark_unknown_takes w) (marked_takes w))))
+  of_mark_takes = then_takes (expect_takes _) (λ _ _. then_takes (run_takes continues_word) (λ w _. then_takes (expect_takes _) (λ _ _. choice_takes _ (mark_unknown_takes w) (marked_takes w))))
 
   cleaned_takes : Takes FitsEntry (entry_text names) [] cleaned
   unfolding cleaned

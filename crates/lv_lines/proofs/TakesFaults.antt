@@ -7,7 +7,7 @@ use Rattle.lv_values.specs.declared.value.Value.{Value}
 use Rattle.lv_schema.specs.declared.fault.Fault.{Fault}
 use Rattle.lv_schema.specs.declared.fault.LimitKind.{LimitKind}
 use Rattle.lv_schema.specs.declared.fault.ProfileRule.{ProfileRule}
-use Rattle.lv_schema.specs.Names.{continues_name}
+use Rattle.lv_schema.specs.Names.{continues_word}
 use Rattle.lv_reading.proofs.Takes.{Takes, then_takes, last_takes, pure_takes, choice_takes, given_takes, expect_takes, run_takes}
 use Rattle.lv_reading.proofs.Decimals.{natural_takes, number_takes}
 use Rattle.lv_lines.specs.declared.names.Names.{Names}
@@ -50,12 +50,12 @@ find_passes {A} p (y ∷ ys) x e = at (p y) refl e (λ f. find_passes p ys x f) 
 
 any_limit_takes : Takes (λ _. Unit {0}) limit_word [] any_limit
 unfolding any_limit word
-any_limit_takes = then_takes (run_takes continues_name) (λ w _. given_takes (λ which e.
+any_limit_takes = then_takes (run_takes continues_word) (λ w _. given_takes (λ which e.
     (sym ((bytes_eq-Decides (limit_word which) w).0 (find_passes (λ k. bytes_eq (limit_word k) w) limits which e)), tt)))
 
 any_rule_takes : Takes (λ _. Unit {0}) rule_word [] any_rule
 unfolding any_rule word
-any_rule_takes = then_takes (run_takes continues_name) (λ w _. given_takes (λ which e.
+any_rule_takes = then_takes (run_takes continues_word) (λ w _. given_takes (λ which e.
     (sym ((bytes_eq-Decides (rule_word which) w).0 (find_passes (λ k. bytes_eq (rule_word k) w) rules which e)), tt)))
 
 module _ (names : Names) where

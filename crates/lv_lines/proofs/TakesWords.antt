@@ -11,7 +11,7 @@ use Rattle.std.proofs.lemmas.Str.{IsUtf8-from_is_utf8}
 use Rattle.lv_values.specs.declared.value.Value.{Value}
 use Rattle.lv_values.specs.declared.value.Value.TheVariants.{Num, Text}
 use Rattle.lv_values.specs.Print.{doubled, value_text, values_behind, values_text, row_line}
-use Rattle.lv_schema.specs.Names.{continues_name}
+use Rattle.lv_schema.specs.Names.{continues_word}
 use Rattle.lv_reading.specs.Reading.{pure, until}
 use Rattle.lv_reading.proofs.Takes.{Takes, then_takes, last_takes, pure_takes, choice_takes, choose_takes, check_takes, below_takes, given_takes, expect_takes, byte_takes, run_takes, separated_takes, until_text, until_takes}
 use Rattle.lv_reading.proofs.Decimals.{number_takes}
@@ -44,7 +44,7 @@ IsPlace names i = (i < length names) × (i < 2 ^ 32)
 
 pub name_takes : (names : List (List ℕ)) → Takes (IsPlace names) (name_of names) [] (name_in names)
 unfolding name_in word
-name_takes names = then_takes (run_takes continues_name) (λ w _. last_takes (place_takes names w) (λ i place. (append-nil w ∙ place.is, (place.named, place.fits))))
+name_takes names = then_takes (run_takes continues_word) (λ w _. last_takes (place_takes names w) (λ i place. (append-nil w ∙ place.is, (place.named, place.fits))))
 
 -- a word that was read before: nothing more is taken
 pub own_takes : (w : List ℕ) → Takes (λ n. (w ≡ n) × IsWord n) (λ _. []) [] (own w)
@@ -53,7 +53,7 @@ own_takes w = check_takes w (λ h. (refl, (refl, (and_parts _ _ h).0)))
 
 pub own_word_takes : Takes IsWord (λ w. w) [] own_word
 unfolding own_word word
-own_word_takes = then_takes (run_takes continues_name) (λ w _. last_takes (own_takes w) (λ n is. (append-nil w ∙ is.0, is.1)))
+own_word_takes = then_takes (run_takes continues_word) (λ w _. last_takes (own_takes w) (λ n is. (append-nil w ∙ is.0, is.1)))
 
 -- ---- texts
 

@@ -46,9 +46,3 @@ pub fn read_entries(alloc: Global, names: &Names, bytes: &[u8]) -> Result<Option
         Err(Stop::NoMemory) => Err(NoMemory),
     }
 }
-
-/// The text determines the entries.
-pub fn text_tells_entries(names: &Names)
-    requires { IsNames names.now }
-    ensures { (a b : List AnEntry) → AreEntries names.now a → AreEntries names.now b → text_of names.now a ≡ text_of names.now b → a ≡ b }
-{}
