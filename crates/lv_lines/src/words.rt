@@ -29,7 +29,10 @@ fn word_len(bytes: &[u8]) -> usize
     ensures value { result ≡ read.word_len bytes.now }
     ensures within { result ≤ length bytes.now }
 {
-    bytes.iter().take_while(|byte| continues_name(**byte)).count()
+    bytes
+        .iter()
+        .take_while(|byte| continues_name(**byte))
+        .count()
 }
 
 /// Whether all bytes go on a name.
