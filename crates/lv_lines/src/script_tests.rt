@@ -219,19 +219,48 @@ fn scripts_are_read(rt: HostRuntime) -> Result<(), Fail> {
 #[test]
 fn programs_are_told_apart(rt: HostRuntime) -> Result<(), Fail> {
     let cases: [(&[u8], Option<(u32, u32)>); 9] = [
-        (b"@setup\nx\ny\n@session a\nb\n@session c\n@order a mark v", None),
-        (b"@setup\nx\nz\n@session a\nb\n@session c\n@order a mark w", Some((0, 0))),
-        (b"@setup\nx\nz\n@session a\nc\n@session c\n@order a mark v", Some((0, 2))),
-        (b"@setup\nx\ny\ny\n@session a\nb\n@session c\n@order a mark v", Some((0, 3))),
-        (b"@setup\nx\ny\n@session b\nc\n@session c\n@order b mark v", Some((1, 0))),
-        (b"@setup\nx\ny\n@session a\nc\n@session d\n@order a mark v", Some((1, 1))),
-        (b"@setup\nx\ny\n@session a\nb\nb\n@session c\n@order a mark v", Some((1, 2))),
-        (b"@setup\nx\ny\n@session a\nb\n@order a mark v", Some((2, 0))),
-        (b"@setup\nx\ny\n@session a\nb\n@session c\n@session d\n@order a mark v", Some((3, 0))),
+        (
+            b"@setup\nx\ny\n@session a\nb\n@session c\n@order a mark v",
+            None,
+        ),
+        (
+            b"@setup\nx\nz\n@session a\nb\n@session c\n@order a mark w",
+            Some((0, 0)),
+        ),
+        (
+            b"@setup\nx\nz\n@session a\nc\n@session c\n@order a mark v",
+            Some((0, 2)),
+        ),
+        (
+            b"@setup\nx\ny\ny\n@session a\nb\n@session c\n@order a mark v",
+            Some((0, 3)),
+        ),
+        (
+            b"@setup\nx\ny\n@session b\nc\n@session c\n@order b mark v",
+            Some((1, 0)),
+        ),
+        (
+            b"@setup\nx\ny\n@session a\nc\n@session d\n@order a mark v",
+            Some((1, 1)),
+        ),
+        (
+            b"@setup\nx\ny\n@session a\nb\nb\n@session c\n@order a mark v",
+            Some((1, 2)),
+        ),
+        (
+            b"@setup\nx\ny\n@session a\nb\n@order a mark v",
+            Some((2, 0)),
+        ),
+        (
+            b"@setup\nx\ny\n@session a\nb\n@session c\n@session d\n@order a mark v",
+            Some((3, 0)),
+        ),
     ];
     for (other, place) in cases {
         let first = b"@setup\nx\ny\n@session a\nb\n@session c\n@order a mark v";
-        let a = read_script(rt.alloc(), first.as_slice()).ok().ok_or("a fault")?;
+        let a = read_script(rt.alloc(), first.as_slice())
+            .ok()
+            .ok_or("a fault")?;
         let b = read_script(rt.alloc(), other).ok().ok_or("a fault")?;
         assert_eq!(rt; same(&a, &b), place);
     }
