@@ -4,10 +4,9 @@
 use lv_outside::{StdSink, StdSource};
 use lv_runner::{Status, run};
 use lv_values::{Items, NoMemory, Text};
-use std::env;
 use std::env::{Env, FillError};
-use std::io;
 use std::process::ExitCode;
+use std::{env, io};
 
 /// What stands for the words where one of them is not UTF-8.
 const UNREADABLE: &str = "?";

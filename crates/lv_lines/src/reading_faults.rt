@@ -42,7 +42,12 @@ fn of_table(words: &[u8], names: &Names, cursor: &mut Cursor<'_>) -> Result<u32,
 
 /// Reads words, a table's name and a key.
 #[tactic(auto, unfolding(crate::specs::Readers::of_key))]
-fn of_key(alloc: Global, words: &[u8], names: &Names, cursor: &mut Cursor<'_>) -> Result<(u32, Row), Stop>
+fn of_key(
+    alloc: Global,
+    words: &[u8],
+    names: &Names,
+    cursor: &mut Cursor<'_>,
+) -> Result<(u32, Row), Stop>
     ensures { Gives (read.of_key words.now names.now cursor.old) result cursor.new }
 {
     let table = of_table(words, names, cursor)?;
@@ -108,7 +113,10 @@ const LIMITS: [LimitKind; 10] = [
 fn limit_among(limits: &[LimitKind], word: &[u8]) -> Option<LimitKind>
     ensures { result ≡ find (λ which. bytes_eq (limit_word which) word.now) limits.now }
 {
-    limits.iter().copied().find(|which| limit_word(*which) == word)
+    limits
+        .iter()
+        .copied()
+        .find(|which| limit_word(*which) == word)
 }
 
 /// The limit of this word.
@@ -150,7 +158,10 @@ const RULES: [ProfileRule; 4] = [
 fn rule_among(rules: &[ProfileRule], word: &[u8]) -> Option<ProfileRule>
     ensures { result ≡ find (λ which. bytes_eq (rule_word which) word.now) rules.now }
 {
-    rules.iter().copied().find(|which| rule_word(*which) == word)
+    rules
+        .iter()
+        .copied()
+        .find(|which| rule_word(*which) == word)
 }
 
 /// The rule of this word.
@@ -363,7 +374,11 @@ fn fault_from_4(alloc: Global, names: &Names, cursor: &mut Cursor<'_>) -> Result
 
 /// Reads a fault: its number, and what it says.
 #[tactic(auto, unfolding(crate::specs::Readers::any_fault))]
-pub(crate) fn any_fault(alloc: Global, names: &Names, cursor: &mut Cursor<'_>) -> Result<Fault, Stop>
+pub(crate) fn any_fault(
+    alloc: Global,
+    names: &Names,
+    cursor: &mut Cursor<'_>,
+) -> Result<Fault, Stop>
     ensures { Gives (read.any_fault names.now cursor.old) result cursor.new }
 {
     if cursor.sees(b"1 ") {

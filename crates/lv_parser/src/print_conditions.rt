@@ -80,7 +80,12 @@ pub(crate) fn print_cond(alloc: Global, out: &mut Writer, cond: &CondTree) -> Re
 
 /// Writes a part of an And or of an Or, in parentheses where they are needed.
 #[cycle(printing)]
-fn print_part(alloc: Global, out: &mut Writer, part: &CondTree, in_and: bool) -> Result<(), NoMemory>
+fn print_part(
+    alloc: Global,
+    out: &mut Writer,
+    part: &CondTree,
+    in_and: bool,
+) -> Result<(), NoMemory>
     ensures { OnOk result (out.new ≡ with_tokens out.old (printed.part_tokens in_and (printed.shown part.now))) }
 {
     if is_wrapped(part, in_and) {

@@ -30,7 +30,11 @@ fn print_behind<T: Print>(alloc: Global, out: &mut Writer, items: &[T]) -> Resul
 }
 
 /// Writes these with commas between.
-pub(crate) fn print_all<T: Print>(alloc: Global, out: &mut Writer, items: &[T]) -> Result<(), NoMemory>
+pub(crate) fn print_all<T: Print>(
+    alloc: Global,
+    out: &mut Writer,
+    items: &[T],
+) -> Result<(), NoMemory>
     ensures { OnOk result (out.new ≡ with_tokens out.old (between comma (map T.tokens items.now))) }
 {
     match items {

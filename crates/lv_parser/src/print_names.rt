@@ -38,7 +38,11 @@ pub(crate) fn print_number(out: &mut Writer, n: i128) -> Result<(), NoMemory>
 }
 
 /// Writes a value.
-pub(crate) fn print_literal(alloc: Global, out: &mut Writer, literal: &Literal) -> Result<(), NoMemory>
+pub(crate) fn print_literal(
+    alloc: Global,
+    out: &mut Writer,
+    literal: &Literal,
+) -> Result<(), NoMemory>
     ensures { OnOk result (out.new ≡ with_tokens out.old (printed.literal_tokens literal.now)) }
 {
     match &literal.value {

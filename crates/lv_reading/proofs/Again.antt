@@ -99,7 +99,7 @@ module _ {A : Type 0} (p : Reader (Option A)) (text : Option A → List ℕ) (Fi
   until_from_again (a ∷ all) (suc n) found rest fits lt e =
       let later = until_from_again all n (found ++ a ∷ []) rest fits.1 (omega arith) e in
       rw (append_assoc (text (Some a)) (flat_map (λ b. text (Some b)) all) (text None ++ rest), again a (flat_map (λ b. text (Some b)) all ++ (text None ++ rest)) fits.0)
-          (later ∙ ap (λ (xs : List A). Some (xs, rest)) (append_assoc found (a ∷ []) all))
+      (later ∙ ap (λ (xs : List A). Some (xs, rest)) (append_assoc found (a ∷ []) all))
 
   shorter_than : (all : List A) (rest : List ℕ) → AllByRecursion Fits all → length all < length (flat_map (λ a. text (Some a)) all ++ (text None ++ rest))
   shorter_than [] rest fits = omega (arith, end, length-append (text None) rest)

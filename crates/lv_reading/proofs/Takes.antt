@@ -185,10 +185,10 @@ module _ {A : Type 0} {Fits : Option A → Type 0} {text : Option A → List ℕ
   until_from_takes zero found fits = fail_takes
   until_from_takes (suc n) found fits =
       then_takes x (λ o f. if_more_takes o
-          (λ a e. front_takes (flat_map (λ b. text (Some b)) (found ++ a ∷ [])) (flat_map (λ b. text (Some b)) found ++ text o)
-              (sym (flat_map_push (λ b. text (Some b)) found a) ∙ ap (λ (q : Option A). flat_map (λ b. text (Some b)) found ++ text q) (sym e))
-              (until_from_takes n (found ++ a ∷ []) (all_push (λ b. Fits (Some b)) found a fits (some_is o a e f))))
-          (λ e. pure_takes (ap (λ (q : Option A). flat_map (λ b. text (Some b)) found ++ text q) e) fits))
+      (λ a e. front_takes (flat_map (λ b. text (Some b)) (found ++ a ∷ [])) (flat_map (λ b. text (Some b)) found ++ text o)
+      (sym (flat_map_push (λ b. text (Some b)) found a) ∙ ap (λ (q : Option A). flat_map (λ b. text (Some b)) found ++ text q) (sym e))
+      (until_from_takes n (found ++ a ∷ []) (all_push (λ b. Fits (Some b)) found a fits (some_is o a e f))))
+      (λ e. pure_takes (ap (λ (q : Option A). flat_map (λ b. text (Some b)) found ++ text q) e) fits))
 
   pub until_takes : Takes AreMore (until_text text) [] (until p)
   unfolding until

@@ -38,8 +38,8 @@ pub use laws::{
     planned_step_is_greatest, truth_goes_by_kind, view_rows_are_distinct,
 };
 pub use logic::Truth;
-pub use open::{Database, Open};
 pub use net::{Net, Nets};
+pub use open::{Database, Open};
 pub use pending::{Pending, Pendings};
 pub use query::{OrderCols, Query, Rel, Rels};
 pub use rec::Rec;

@@ -13,7 +13,7 @@ returns-in_err-read g c =
     let reader = g.P.Part.reader c.args.part.now in
     let lt : c.each.counter < length c.args.cursor.now = omega (arith, c.len-end.ensures) in
     rw (p.1, p.2) (gives_err (reader c.each.cursor) c.in_err-read.field-0.0 c.read.new.cursor (until reader c.args.cursor.now) c.in_err-read.ensures
-        (λ e. until_stop reader (length c.args.cursor.now) c.each.counter c.each.found c.each.cursor (until reader c.args.cursor.now) lt e c.each.invariant))
+    (λ e. until_stop reader (length c.args.cursor.now) c.each.counter c.each.found c.each.cursor (until reader c.args.cursor.now) lt e c.each.invariant))
 
 pub returns-in-None : goal.returns-in-None
 returns-in-None g c =
@@ -26,7 +26,7 @@ each-preserved g c =
     let reader = g.P.Part.reader c.args.part.now in
     let lt : c.each.counter < length c.args.cursor.now = omega (arith, c.len-end.ensures) in
     rw c.in_ok-push-in-Some.ensures.added
-        (until_more reader (length c.args.cursor.now) c.each.counter c.each.found c.each.cursor c.in-Some.item c.read.new.cursor (until reader c.args.cursor.now) lt (rw c.in-Some.is at c.in_ok-read.ensures) c.each.invariant)
+    (until_more reader (length c.args.cursor.now) c.each.counter c.each.found c.each.cursor c.in-Some.item c.read.new.cursor (until reader c.args.cursor.now) lt (rw c.in-Some.is at c.in_ok-read.ensures) c.each.invariant)
 
 pub returns : goal.returns
 returns g c =
