@@ -1,0 +1,23 @@
+//! The groups of a view.
+ghost use Rattle.std.specs.Prelude.{◌≡◌, IfOk};
+
+use lv_schema::{Cols, SignedRow, ViewItems};
+use std::marker::Model;
+
+/// The groups of a view with their counts and sums, each once, in ascending order.
+#[derive(Drop)]
+pub struct Groups {
+    by: Cols,
+    items: ViewItems,
+    groups: Vec<SignedRow>,
+}
+
+impl Model for Groups {
+    ghost use Rattle.std.specs.Prelude.{◌-◌};
+    ghost use Rattle.std.specs.Vec.{vec_len, vec_capacity};
+    ghost use Rattle.lv_group.specs.Gathered.{Gathered};
+
+    ghost Value = { Gathered };
+
+    ghost view = { λ g. record { by = g.by; items = g.items; groups = g.groups.items; spare = vec_capacity g.groups - vec_len g.groups } };
+}

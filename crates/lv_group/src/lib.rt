@@ -1,0 +1,9 @@
+//! Groups of tuples, with their counts and sums.
+#![tactic(auto)]
+
+mod entry;
+mod gathering;
+mod grouped;
+mod places;
+
+pub use grouped::Groups;
