@@ -6,7 +6,7 @@ ghost use Rattle.std.specs.List.Sorted.{IsSorted};
 ghost use Rattle.std.specs.Ordering.{is_eq};
 ghost use Rattle.lv_schema.specs.Differences.{summed_column};
 ghost use Rattle.lv_schema.specs.Groups.{total, number_at};
-ghost use Rattle.lv_group.specs.Entries.{group_of, entry_cmp, numbers_of};
+ghost use Rattle.lv_group.specs.Entries.{group_of, entry_cmp, numbers_of, gathered};
 ghost use Rattle.lv_group.specs.Gathered.{groups_among};
 
 use crate::entry::Entry;
@@ -99,4 +99,25 @@ fn run_len(first: &Entry<'_>, entries: &[Entry<'_>]) -> usize
         }
     }
     entries.len()
+}
+
+/// The groups of entries that ascend by their groups, each once, in ascending order.
+fn gather(
+    alloc: Global,
+    sums: &[Col],
+    entries: &[Entry<'_>],
+) -> Result<Vec<SignedRow>, NoMemory>
+    requires { IsSorted entry_cmp entries.now }
+    ensures { IfOk result (λ groups. groups.items ≡ gathered sums.now entries.now) }
+{
+    let mut groups = Vec::new(alloc);
+    let mut at = 0;
+    while at < entries.len() {
+        let rest = entries.split_at(at).1;
+        let first = &rest[0];
+        let len = run_len(first, rest);
+        groups.push(numbers_of(alloc, sums, first, rest.split_at(len).0)?)?;
+        at += len;
+    }
+    Ok(groups)
 }
