@@ -1,5 +1,5 @@
 -- The groups of a view with their numbers, and the rows that they give.
-use Rattle.std.specs.Prelude.{ℕ, ℤ, pos, cond, List, [], ◌∷◌, map}
+use Rattle.std.specs.Prelude.{◌≡◌, ℕ, ℤ, pos, cond, List, [], ◌∷◌, map}
 use Rattle.lv_values.specs.declared.value.Value.{Value}
 use Rattle.lv_values.specs.declared.value.Value.TheVariants.{Num}
 use Rattle.lv_values.specs.Ascending.{ascending}
@@ -20,6 +20,11 @@ pub record Gathered : Type 0 where
   pub items : List Item
   pub groups : List SignedRow
   pub spare : ℕ
+
+-- groups of this view
+pub record IsOfView (view : ViewDef) (g : Gathered) : Type 0 where
+  pub by : g.by ≡ view.groups
+  pub items : g.items ≡ view.items
 
 -- the groups of these tuples with their numbers, each once, in ascending order
 abbrev pub groups_among : ViewDef → List Tuple → List SignedRow

@@ -7,7 +7,7 @@ ghost use Rattle.std.specs.Ordering.{is_eq};
 ghost use Rattle.lv_schema.specs.Differences.{summed_column};
 ghost use Rattle.lv_schema.specs.Groups.{total, number_at};
 ghost use Rattle.lv_group.specs.Entries.{group_of, entry_cmp, numbers_of, gathered};
-ghost use Rattle.lv_group.specs.Gathered.{groups_among};
+ghost use Rattle.lv_group.specs.Gathered.{groups_among, IsOfView};
 
 use crate::entry::Entry;
 use crate::grouped::Groups;
@@ -120,4 +120,21 @@ fn gather(
         at += len;
     }
     Ok(groups)
+}
+
+/// The groups of a grouped view's tuples, each with its count and its sums: the tuples whose values in the group
+/// columns are the same. A group without tuples is not there. A sum is wrapped to 128 bits, so it is exact wherever
+/// it fits, as it does for up to 2 ^ 64 tuples with numbers of 64 bits. A text counts as 0 in a sum.
+///
+/// Cost: a sort of the tuples where they lie, n log n comparisons for n tuples, and then one pass for each sum.
+pub fn fold(alloc: Global, view: &ViewDef, tuples: &Joined) -> Result<Groups, NoMemory>
+    requires { view.now.grouped ≡ true }
+    ensures of_view { IfOk result (IsOfView view.now) }
+    ensures groups { IfOk result (λ g. g.groups ≡ groups_among view.now tuples.now) }
+{
+    let sums = summed_columns(alloc, view.items.as_slice())?;
+    let mut entries = entries_of(alloc, view.groups.as_slice(), tuples.as_slice())?;
+    entries.sort_unstable();
+    let groups = gather(alloc, &sums, &entries)?;
+    Ok(Groups::new(view.groups.copy(alloc)?, view.items.copy(alloc)?, groups))
 }

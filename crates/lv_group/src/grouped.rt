@@ -21,3 +21,14 @@ impl Model for Groups {
 
     ghost view = { λ g. record { by = g.by; items = g.items; groups = g.groups.items; spare = vec_capacity g.groups - vec_len g.groups } };
 }
+
+impl Groups {
+    /// These groups, with the columns that tell them apart, and a view's list.
+    pub(crate) fn new(by: Cols, items: ViewItems, groups: Vec<SignedRow>) -> Groups
+        ensures by { result.by ≡ by }
+        ensures items { result.items ≡ items }
+        ensures groups { result.groups ≡ groups.items }
+    {
+        Groups { by, items, groups }
+    }
+}

@@ -6,4 +6,5 @@ mod gathering;
 mod grouped;
 mod places;
 
+pub use gathering::fold;
 pub use grouped::Groups;
