@@ -1,7 +1,10 @@
 //! The groups of a view.
 ghost use Rattle.std.specs.Prelude.{◌≡◌, IfOk};
 
+use crate::listing::listed_rows;
 use lv_schema::{Cols, SignedRow, ViewItems};
+use lv_values::{NoMemory, Rows};
+use std::alloc::Global;
 use std::marker::Model;
 
 /// The groups of a view with their counts and sums, each once, in ascending order.
@@ -23,6 +26,8 @@ impl Model for Groups {
 }
 
 impl Groups {
+    ghost use Rattle.lv_group.specs.Gathered.{rows_of};
+
     /// These groups, with the columns that tell them apart, and a view's list.
     pub(crate) fn new(by: Cols, items: ViewItems, groups: Vec<SignedRow>) -> Groups
         ensures by { result.by ≡ by }
@@ -30,5 +35,20 @@ impl Groups {
         ensures groups { result.groups ≡ groups.items }
     {
         Groups { by, items, groups }
+    }
+
+    /// The row of each group with the view's listed values, in ascending order. Cost: a copy of the listed values,
+    /// and n log n comparisons for n groups.
+    pub fn rows(&self, alloc: Global) -> Result<Rows, NoMemory>
+        ensures { IfOk result (λ rows. rows ≡ rows_of self.now) }
+    {
+        let mut rows = listed_rows(
+            alloc,
+            self.by.as_slice(),
+            self.items.as_slice(),
+            &self.groups,
+        )?;
+        rows.sort();
+        Ok(rows)
     }
 }

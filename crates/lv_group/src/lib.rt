@@ -4,6 +4,7 @@
 mod entry;
 mod gathering;
 mod grouped;
+mod listing;
 mod places;
 
 pub use gathering::fold;
