@@ -1,10 +1,9 @@
 -- The groups of sorted entries are those of the tuples.
-use Rattle.std.proofs.Common.{◌≡◌, ℕ, suc, ◌+◌, ◌<◌, ℤ, pos, negsuc, ◌+ℤ◌, ◌-ℤ◌, Bool, true, false, cond, not, ◌&&◌, ◌||◌, if◌then◌else◌, List, [], ◌∷◌, ◌++◌, map, filter, length, Some, None, refl, sym, ap, ◌∙◌, subst, arith, append_assoc}
+use Rattle.std.proofs.Common.{◌≡◌, ℕ, ◌<◌, ℤ, pos, ◌-ℤ◌, Bool, true, false, cond, not, ◌&&◌, ◌||◌, if◌then◌else◌, List, [], ◌∷◌, ◌++◌, map, filter, length, Some, None, refl, sym, ap, ◌∙◌, subst, arith, append_assoc}
 use Rattle.std.proofs.lemmas.Int.{ints}
 use Rattle.std.proofs.lemmas.List.{length-map}
-use Rattle.std.proofs.lemmas.List.Sums.{sum_by-cons}
 use Rattle.std.proofs.lemmas.List.Sorted.{sum_by-IsPermutation, IsPermutation-map, list_any-IsPermutation}
-use Rattle.std.specs.List.{list_any, list_all, sum_by, AllByRecursion}
+use Rattle.std.specs.List.{list_any, list_all, AllByRecursion}
 use Rattle.std.specs.List.Sorted.{IsPermutation}
 use Rattle.std.specs.Int.{int_wrap, w128}
 use Rattle.std.specs.Ordering.{is_eq, int_eq}
@@ -17,13 +16,14 @@ use Rattle.lv_values.specs.OrderLaws.{row_total, row_exact}
 use Rattle.lv_schema.specs.declared.cond.Col.{Col}
 use Rattle.lv_schema.specs.declared.signed.SignedRow.{SignedRow}
 use Rattle.lv_schema.specs.declared.view.ViewDef.{ViewDef}
-use Rattle.lv_schema.specs.Differences.{summed_columns, key_columns, key_of, tuples_of, change_of, changes, is_change}
+use Rattle.lv_schema.specs.Differences.{summed_columns, key_columns, key_of, tuples_of, change_of, is_change}
 use Rattle.lv_schema.specs.JoinViews.{plain_columns}
 use Rattle.lv_schema.specs.Groups.{total, number_at}
 use Rattle.lv_schema.specs.Once.{once}
 use Rattle.lv_schema.specs.Tuples.{Tuple, listed}
-use Rattle.lv_schema.proofs.OnceLists.{entry_at, same_tables, is_equal}
-use Rattle.lv_schema.proofs.Totals.{total_same, total-map, total-filter, total-ones}
+use Rattle.lv_schema.proofs.OnceLists.{same_tables, is_equal}
+use Rattle.lv_schema.proofs.Totals.{total-map, total-filter, total-ones}
+use Rattle.lv_group.proofs.Bounds.{above, below, total_apart}
 use Rattle.lv_group.specs.Entries.{AnEntry, group_of, entries_of, numbers_of, gathered}
 use Rattle.lv_group.specs.Gathered.{groups_among}
 
@@ -31,23 +31,6 @@ abbrev Group : Type 0
 Group = List Value
 
 -- ---- totals do not depend on the order
-above : ℤ → ℕ
-above (pos n) = n
-above (negsuc n) = 0
-
-below : ℤ → ℕ
-below (pos n) = 0
-below (negsuc n) = suc n
-
-apart : (z : ℤ) → pos (above z) -ℤ pos (below z) ≡ z
-unfolding above below
-apart (pos n) = omega (arith, ints)
-apart (negsuc n) = omega (arith, ints)
-
-total_apart : {X : Type 0} (f : X → ℤ) (xs : List X) → total f xs ≡ pos (sum_by (λ x. above (f x)) xs) -ℤ pos (sum_by (λ x. below (f x)) xs)
-total_apart f [] = refl
-total_apart f (x ∷ xs) = omega (arith, ints, total_apart f xs, apart (f x), sum_by-cons (λ x. above (f x)) x xs, sum_by-cons (λ x. below (f x)) x xs)
-
 pub total_moved : {X : Type 0} (f : X → ℤ) (xs ys : List X) → IsPermutation xs ys → total f ys ≡ total f xs
 total_moved f xs ys p =
     total_apart f ys
@@ -57,7 +40,7 @@ total_moved f xs ys p =
 kept_moved : {X : Type 0} (p : X → Bool) (f : X → ℤ) (xs ys : List X) → IsPermutation xs ys → total f (filter p ys) ≡ total f (filter p xs)
 kept_moved p f xs ys moved = total-filter f p ys ∙ total_moved (λ x. cond (p x) (f x) (pos 0)) xs ys moved ∙ sym (total-filter f p xs)
 
-map_same : {X Y : Type 0} (f g : X → Y) → ((x : X) → f x ≡ g x) → (xs : List X) → map f xs ≡ map g xs
+pub map_same : {X Y : Type 0} (f g : X → Y) → ((x : X) → f x ≡ g x) → (xs : List X) → map f xs ≡ map g xs
 map_same f g h [] = refl
 map_same f g h (x ∷ xs) = λ i. h x i ∷ map_same f g h xs i
 
@@ -66,7 +49,7 @@ numbers_moved : (sums : List Col) (q : Group) (xs ys : List AnEntry) → IsPermu
 numbers_moved sums q xs ys moved =
     let own : AnEntry → Bool = λ e. row_eq q (group_of e) in
     let count : pos (length (filter own ys)) ≡ pos (length (filter own xs)) =
-      sym (total-ones (filter own ys)) ∙ kept_moved own (λ _. pos 1) xs ys moved ∙ total-ones (filter own xs) in
+    sym (total-ones (filter own ys)) ∙ kept_moved own (λ _. pos 1) xs ys moved ∙ total-ones (filter own xs) in
     λ i. record {
       row = q;
       count = count i;
@@ -92,10 +75,10 @@ own_entries by q (t ∷ ts) = case (row_eq q (listed by t)) (own_entries by q ts
     case true e = ap (λ l. entry by t ∷ l) e
     case false e = e
 
-minus_none : (n : ℤ) → n -ℤ pos 0 ≡ n
+pub minus_none : (n : ℤ) → n -ℤ pos 0 ≡ n
 minus_none n = omega (arith, ints)
 
-key_by : (view : ViewDef) → view.grouped ≡ true → key_columns view ≡ view.groups
+pub key_by : (view : ViewDef) → view.grouped ≡ true → key_columns view ≡ view.groups
 key_by view grouped = λ i. if grouped i then view.groups else plain_columns view.items
 
 numbers_are : (view : ViewDef) (q : Group) (ts : List Tuple) → view.grouped ≡ true → numbers_of (summed_columns view) q (entries_of q (map (entry view.groups) ts)) ≡ change_of view [] ts q
@@ -117,7 +100,7 @@ or_true : (a : Bool) → (a || true) ≡ true
 or_true true = refl
 or_true false = refl
 
-all_in : (before rows : List Group) → AllByRecursion (λ q. list_any (row_eq q) (before ++ rows) ≡ true) rows
+pub all_in : (before rows : List Group) → AllByRecursion (λ q. list_any (row_eq q) (before ++ rows) ≡ true) rows
 all_in before [] = tt
 all_in before (q ∷ rows) = (
   list_any-append (row_eq q) before (q ∷ rows) ∙ (λ i. list_any (row_eq q) before || (is_eq (tied_itself row_total q i) || list_any (row_eq q) rows)) ∙ or_true (list_any (row_eq q) before),
@@ -156,7 +139,7 @@ all_present view ts =
     (λ q h. positive (length (tuples_of view q ts)) (list_all (λ n. int_eq n (pos 0)) (change_of view [] ts q).sums) (some_tuple view q ts h))
     (map (key_of view) ts) (all_in [] (map (key_of view) ts))))
 
-map_twice : {X Y Z : Type 0} (f : Y → Z) (g : X → Y) (xs : List X) → map f (map g xs) ≡ map (λ x. f (g x)) xs
+pub map_twice : {X Y Z : Type 0} (f : Y → Z) (g : X → Y) (xs : List X) → map f (map g xs) ≡ map (λ x. f (g x)) xs
 map_twice f g [] = refl
 map_twice f g (x ∷ xs) = ap (λ l. f (g x) ∷ l) (map_twice f g xs)
 

@@ -1,5 +1,5 @@
 -- Entries that ascend by their groups fall into runs, one for each group.
-use Rattle.std.proofs.Common.{◌≡◌, ℕ, zero, suc, add-one, ◌+◌, ◌<◌, ◌≤◌, Bool, true, false, cond, List, [], ◌∷◌, ◌++◌, map, filter, length, take, drop, Some, None, slice_get, refl, sym, ap, ◌∙◌, subst, arith}
+use Rattle.std.proofs.Common.{◌≡◌, ℕ, zero, suc, add-one, ◌+◌, ◌<◌, Bool, true, false, cond, List, [], ◌∷◌, ◌++◌, map, take, drop, Some, slice_get, refl, sym, ap, ◌∙◌, subst, arith}
 use Rattle.std.specs.List.{AllByRecursion, prefix_len}
 use Rattle.std.specs.List.Sorted.{IsSorted}
 use Rattle.std.specs.Ordering.{is_eq, is_gt, is_lt, ordering_reverse}
@@ -148,9 +148,9 @@ gathered_run sums k e es rest s a =
     let at : Group → SignedRow = λ q. numbers_of sums q (entries_of q whole) in
     let higher = higher_once k rest a in
     let own : entries_of k whole ≡ e ∷ es =
-      filter-append (λ x. row_eq k (group_of x)) (e ∷ es) rest ∙ (λ i. all_own k (e ∷ es) s i ++ none_above k rest a i) ∙ append-nil (e ∷ es) in
+    filter-append (λ x. row_eq k (group_of x)) (e ∷ es) rest ∙ (λ i. all_own k (e ∷ es) s i ++ none_above k rest a i) ∙ append-nil (e ∷ es) in
     let theirs : (q : Group) → row_cmp k q ≡ Less → entries_of q whole ≡ entries_of q rest = λ q l.
-      filter-append (λ x. row_eq q (group_of x)) (e ∷ es) rest ∙ ap (λ l. l ++ entries_of q rest) (none_below k q (e ∷ es) l s) in
+    filter-append (λ x. row_eq q (group_of x)) (e ∷ es) rest ∙ ap (λ l. l ++ entries_of q rest) (none_below k q (e ∷ es) l s) in
     ap (map at) (ap (once row_cmp) (map-append (e ∷ es) rest) ∙ once_run k e es (map group_of rest) s higher)
     ∙ (λ i. numbers_of sums k (own i) ∷ map at (once row_cmp (map group_of rest)))
     ∙ ap (λ l. numbers_of sums k (e ∷ es) ∷ l)
@@ -182,7 +182,7 @@ falls sums first n [] at r is = cc
 falls sums first n (e ∷ es) at r is =
     let same : e ≡ first = same_Some e first at in
     let here : prefix_len (λ x. is_eq (entry_cmp e x)) (e ∷ es) ≡ suc (run (group_of e) es) =
-      (λ i. cond (is_eq (tied_itself row_total (group_of e) i)) (1 + run (group_of e) es) 0) ∙ one_more (run (group_of e) es) in
+    (λ i. cond (is_eq (tied_itself row_total (group_of e) i)) (1 + run (group_of e) es) 0) ∙ one_more (run (group_of e) es) in
     subst (λ (m : ℕ). Falls sums first m (e ∷ es)) (sym (is ∙ ap (λ f. prefix_len (λ x. is_eq (entry_cmp f x)) (e ∷ es)) (sym same) ∙ here))
     (subst (λ (f : AnEntry). Falls sums f (suc (run (group_of e) es)) (e ∷ es)) same (falls_at sums e es r))
 

@@ -1,5 +1,5 @@
 -- Tuples to be grouped, each with the columns that tell groups apart.
-use Rattle.std.specs.Prelude.{ℤ, pos, List, [], ◌∷◌, map, filter, length}
+use Rattle.std.specs.Prelude.{pos, List, map, filter, length}
 use Rattle.std.specs.Int.{int_wrap, w128}
 use Rattle.std.specs.Ordering.{on}
 use Rattle.std.specs.declared.cmp.Ordering.{Ordering}

@@ -1,5 +1,6 @@
 -- The groups of a view with their numbers, and the rows that they give.
-use Rattle.std.specs.Prelude.{◌≡◌, ℕ, ℤ, pos, cond, List, [], ◌∷◌, map}
+use Rattle.std.specs.Prelude.{◌≡◌, ℕ, ℤ, pos, true, cond, List, [], ◌∷◌, map}
+use Rattle.std.specs.List.{list_all, AllByRecursion}
 use Rattle.lv_values.specs.declared.value.Value.{Value}
 use Rattle.lv_values.specs.declared.value.Value.TheVariants.{Num}
 use Rattle.lv_values.specs.Ascending.{ascending}
@@ -10,7 +11,9 @@ use Rattle.lv_schema.specs.declared.view.Item.{Item}
 use Rattle.lv_schema.specs.declared.view.Item.TheVariants.{Plain, Sum, Count}
 use Rattle.lv_schema.specs.declared.view.ViewDef.{ViewDef}
 use Rattle.lv_schema.specs.Bound.{same_col}
-use Rattle.lv_schema.specs.Differences.{change_of, changes, key_of}
+use Rattle.lv_schema.specs.Databases.{is_int}
+use Rattle.lv_schema.specs.Differences.{change_of, changes, key_of, summed_columns}
+use Rattle.lv_schema.specs.Groups.{number_at}
 use Rattle.lv_schema.specs.Tuples.{Tuple}
 
 -- the columns that tell groups apart, the view's list, the groups with their numbers, and how many more groups go in
@@ -47,3 +50,7 @@ listed_values by group (Count name ∷ items) sums = Num group.count ∷ listed_
 -- the row of each group, in ascending order
 abbrev pub rows_of : Gathered → List (List Value)
 rows_of g = ascending row_cmp (map (λ group. listed_values g.by group g.items group.sums) g.groups)
+
+-- each tuple has a number of 64 bits in each column that the view sums
+abbrev pub AreInts : ViewDef → List Tuple → Type 0
+AreInts view tuples = AllByRecursion (λ tuple. list_all (λ col. is_int (number_at col tuple)) (summed_columns view) ≡ true) tuples

@@ -102,11 +102,7 @@ fn run_len(first: &Entry<'_>, entries: &[Entry<'_>]) -> usize
 }
 
 /// The groups of entries that ascend by their groups, each once, in ascending order.
-fn gather(
-    alloc: Global,
-    sums: &[Col],
-    entries: &[Entry<'_>],
-) -> Result<Vec<SignedRow>, NoMemory>
+fn gather(alloc: Global, sums: &[Col], entries: &[Entry<'_>]) -> Result<Vec<SignedRow>, NoMemory>
     requires { IsSorted entry_cmp entries.now }
     ensures { IfOk result (λ groups. groups.items ≡ gathered sums.now entries.now) }
 {

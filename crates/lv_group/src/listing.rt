@@ -49,12 +49,7 @@ fn push_item(
 }
 
 /// The listed values of a group.
-fn listed_row(
-    alloc: Global,
-    by: &[Col],
-    items: &[Item],
-    group: &SignedRow,
-) -> Result<Row, NoMemory>
+fn listed_row(alloc: Global, by: &[Col], items: &[Item], group: &SignedRow) -> Result<Row, NoMemory>
     ensures { IfOk result (λ row. row ≡ listed_values by.now group.now items.now group.now.sums) }
 {
     let mut row = Row::new(alloc);

@@ -1,4 +1,4 @@
-use Rattle.std.proofs.Common.{◌≡◌, ℤ, ◌+ℤ◌, sym, ap, ◌∙◌}
+use Rattle.std.proofs.Common.{◌+ℤ◌, sym, ap, ◌∙◌}
 use Rattle.std.proofs.lemmas.Int.{to_z-of_z}
 use Rattle.std.specs.Int.{int_wrap, w128}
 use Rattle.lv_schema.specs.Groups.{number_at}
