@@ -1,8 +1,14 @@
+pub mod AgainEntries
+pub mod AgainFaults
+pub mod AgainReplies
+pub mod AgainWords
 pub mod Clear
+pub mod Fails
 pub mod FirstFaults
 pub mod LastSession
 pub mod LowerNames
 pub mod NamesAreText
+pub mod NamesAreWords
 pub mod Pieces
 pub mod Sound
 pub mod SoundItems
@@ -10,4 +16,8 @@ pub mod SoundLimits
 pub mod SoundNames
 pub mod SoundOrder
 pub mod Steps
+pub mod TakesEntries
+pub mod TakesFaults
+pub mod TakesWords
 pub mod Utf8
+pub mod Whole

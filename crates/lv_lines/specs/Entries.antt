@@ -5,7 +5,7 @@ use Rattle.std.specs.Str.{bytes_eq}
 use Rattle.lv_values.specs.declared.value.Value.{Value}
 use Rattle.lv_values.specs.declared.value.Value.TheVariants.{Num, Text}
 use Rattle.lv_reading.specs.Numbers.{IsWide}
-use Rattle.lv_schema.specs.Names.{begins_name, continues_name}
+use Rattle.lv_schema.specs.Names.{is_word}
 use Rattle.lv_schema.specs.declared.fault.Fault.{Fault}
 use Rattle.lv_schema.specs.declared.fault.Fault.TheVariants.{Syntax, Unknown, Ambiguous, InUse, Kinds, Limit, KeyAssigned, Range, Duplicate, TableFull, Conflict, MergedFull, Store, JournalFull}
 use Rattle.lv_plain.specs.declared.entry.Reply.{Reply}
@@ -19,10 +19,6 @@ use Rattle.lv_lines.specs.declared.names.Names.{Names}
 -- ---- names
 
 -- a letter in lower case or _, and then letters, digits and _
-abbrev pub is_word : List ℕ → Bool
-is_word [] = false
-is_word (b ∷ bytes) = begins_name b && list_all continues_name bytes
-
 abbrev pub IsWord : List ℕ → Type 0
 IsWord w = is_word w ≡ true
 

@@ -184,9 +184,15 @@ any_fault names =
 
 -- ---- replies
 
+unfoldable pub some_number : Reader (Option ℕ)
+some_number = do
+  expect (codes " ")
+  number ← count64
+  pure (Some number)
+
 -- a commit's number behind a space, where one comes next
 unfoldable pub commit_number : Reader (Option ℕ)
-commit_number = choice (begins (codes " ")) (do expect (codes " "); n ← count64; pure (Some n)) (pure None)
+commit_number = choice (begins (codes " ")) some_number (pure None)
 
 unfoldable pub made : Reader Reply
 made = expect (codes "ok\n") >> pure reply.Made
@@ -256,19 +262,23 @@ refused names = do
   expect (codes "\n")
   pure (reply.Refused found)
 
--- what a query or SHOW TASKS is answered, or a fault
+-- the answer of a query or of SHOW TASKS, or a fault
 unfoldable pub answered : Names → Reader Reply
 answered names =
     choice (begins (codes "rows ")) rows
     (choice (begins (codes "tasks ")) (tasks names) (refused names))
 
+-- the end of a transaction, or an answer
+unfoldable pub ended : Names → Reader Reply
+ended names =
+    choice (begins (codes "commit")) committed
+    (choice (begins (codes "rollback")) rolled_back (answered names))
+
 unfoldable pub any_reply : Names → Reader Reply
 any_reply names =
     choice (begins (codes "ok\n")) made
     (choice (begins (codes "ok ")) counted
-    (choice (begins (codes "begin ")) began
-    (choice (begins (codes "commit")) committed
-    (choice (begins (codes "rollback\n")) rolled_back (answered names)))))
+    (choice (begins (codes "begin ")) began (ended names)))
 
 -- ---- entries
 
@@ -329,22 +339,30 @@ moved names worker = do
   expect (codes "\n")
   pure (entry.Moved worker f.view f.lo f.hi point)
 
--- a line without more
-unfoldable pub plain_line : List ℕ → Entry → Reader Entry
-plain_line words e = expect words >> pure e
+unfoldable pub idle : ℕ → Reader Entry
+idle worker = expect (codes " idle\n") >> pure (entry.Idle worker)
 
-unfoldable pub idle_line : ℕ → Reader Entry
-idle_line worker =
-    choice (begins (codes " idle")) (plain_line (codes " idle\n") (entry.Idle worker))
-    (choice (begins (codes " busy")) (plain_line (codes " busy\n") (entry.Busy worker))
-    (choice (begins (codes " empty")) (plain_line (codes " empty\n") (entry.Empty worker))
-    (plain_line (codes " release\n") (entry.Released worker))))
+unfoldable pub busy : ℕ → Reader Entry
+busy worker = expect (codes " busy\n") >> pure (entry.Busy worker)
+
+unfoldable pub empty : ℕ → Reader Entry
+empty worker = expect (codes " empty\n") >> pure (entry.Empty worker)
+
+unfoldable pub released : ℕ → Reader Entry
+released worker = expect (codes " release\n") >> pure (entry.Released worker)
+
+-- a line without more
+unfoldable pub short_line : ℕ → Reader Entry
+short_line worker =
+    choice (begins (codes " idle")) (idle worker)
+    (choice (begins (codes " busy")) (busy worker)
+    (choice (begins (codes " empty")) (empty worker) (released worker)))
 
 unfoldable pub worker_line : Names → ℕ → Reader Entry
 worker_line names worker =
     choice (begins (codes " fetch")) (fetched names worker)
     (choice (begins (codes " install")) (installed names worker)
-    (choice (begins (codes " moved")) (moved names worker) (idle_line worker)))
+    (choice (begins (codes " moved")) (moved names worker) (short_line worker)))
 
 unfoldable pub of_worker : Names → Reader Entry
 of_worker names = worker >>= worker_line names
@@ -362,9 +380,7 @@ mark_refused = do
   pure (outcome.Refused found)
 
 unfoldable pub any_outcome : Reader MarkOutcome
-any_outcome =
-    choice (begins (codes "none")) already
-    (choice (begins (codes "fault ")) mark_refused upto)
+any_outcome = choice (begins (codes "none")) already (choice (begins (codes "fault ")) mark_refused upto)
 
 -- a mark of the view of this name
 unfoldable pub marked : Names → List ℕ → Reader Entry

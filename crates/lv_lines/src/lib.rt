@@ -5,7 +5,9 @@ mod names;
 mod order_line;
 mod printing;
 mod printing_faults;
+mod reading;
 mod reading_faults;
+mod reading_upkeep;
 mod script;
 mod script_fault;
 mod script_laws;
@@ -15,6 +17,9 @@ mod script_tests;
 mod section;
 mod session_name;
 mod transcript;
+mod transcript_laws;
+#[cfg(test)]
+mod transcript_tests;
 mod words;
 
 pub use names::Names;
@@ -22,4 +27,5 @@ pub use printing::print_entry;
 pub use script::read_script;
 pub use script_fault::{ScriptFault, ScriptFaultKind};
 pub use script_laws::first_faults;
-pub use transcript::print_entries;
+pub use transcript::{print_entries, read_entries};
+pub use transcript_laws::{names_are_words, text_tells_entries};

@@ -4,7 +4,6 @@ ghost use Rattle.std.specs.List.{list_all};
 ghost use Rattle.std.specs.Str.{bytes_eq, is_utf8};
 ghost use Rattle.lv_schema.specs.Names as names;
 ghost use Rattle.lv_reading.specs.Reading.{Gives};
-ghost use Rattle.lv_lines.specs.Entries as entries;
 ghost use Rattle.lv_lines.specs.Words as read;
 
 use lv_plain::Texts;
@@ -12,16 +11,16 @@ use lv_reading::{Cursor, Part, Stop, read_separated, read_until};
 use lv_values::{Row, Text, TextFault, Value};
 use std::alloc::Global;
 
-fn begins_name(byte: u8) -> bool
-    ensures { result ≡ names.begins_name byte }
+fn begins_word(byte: u8) -> bool
+    ensures { result ≡ names.begins_word byte }
 {
     byte.is_ascii_lowercase() || byte == b'_'
 }
 
-fn continues_name(byte: u8) -> bool
-    ensures { result ≡ names.continues_name byte }
+fn continues_word(byte: u8) -> bool
+    ensures { result ≡ names.continues_word byte }
 {
-    begins_name(byte) || byte.is_ascii_digit()
+    begins_word(byte) || byte.is_ascii_digit()
 }
 
 /// The number of letters, digits and _ that come next.
@@ -31,24 +30,24 @@ fn word_len(bytes: &[u8]) -> usize
 {
     bytes
         .iter()
-        .take_while(|byte| continues_name(**byte))
+        .take_while(|byte| continues_word(**byte))
         .count()
 }
 
 /// Whether all bytes go on a name.
 fn all_continue(bytes: &[u8]) -> bool
-    ensures { result ≡ list_all names.continues_name bytes.now }
+    ensures { result ≡ list_all names.continues_word bytes.now }
 {
-    bytes.iter().all(|byte| continues_name(*byte))
+    bytes.iter().all(|byte| continues_word(*byte))
 }
 
 /// Whether it is a word.
 fn is_word(word: &[u8]) -> bool
-    ensures { result ≡ entries.is_word word.now }
+    ensures { result ≡ names.is_word word.now }
 {
     match word {
         [] => false,
-        [first, others @ ..] => begins_name(*first) && all_continue(others),
+        [first, others @ ..] => begins_word(*first) && all_continue(others),
     }
 }
 

@@ -56,9 +56,10 @@ impl<'a> Cursor<'a> {
         self.rest.is_empty()
     }
 
-    /// Whether this text comes next.
+    /// Whether this text comes next. If so, as many bytes are left.
     pub fn sees(&self, text: &[u8]) -> bool
-        ensures { result ≡ begins text.now self.now }
+        ensures value { result ≡ begins text.now self.now }
+        ensures within { IsTrue result → length text.now ≤ length self.now }
     {
         begins(self.rest, text)
     }
@@ -66,7 +67,8 @@ impl<'a> Cursor<'a> {
     /// Goes past this text. `Bad` comes where another one comes next.
     #[tactic(auto, unfolding(crate::specs::Reading::expect))]
     pub fn expect(&mut self, text: &[u8]) -> Result<(), Stop>
-        ensures { Gives (expect text.now self.old) result self.new }
+        ensures value { Gives (expect text.now self.old) result self.new }
+        ensures memory { ¬ (result ≡ Err Stop.NoMemory) }
     {
         if !begins(self.rest, text) {
             return Err(Stop::Bad);
@@ -78,7 +80,8 @@ impl<'a> Cursor<'a> {
     /// Takes the next byte. `Bad` comes where there is none.
     #[tactic(auto, unfolding(crate::specs::Reading::byte))]
     pub fn byte(&mut self) -> Result<u8, Stop>
-        ensures { Gives (byte self.old) result self.new }
+        ensures value { Gives (byte self.old) result self.new }
+        ensures memory { ¬ (result ≡ Err Stop.NoMemory) }
     {
         match self.rest.split_first() {
             None => Err(Stop::Bad),

@@ -99,7 +99,8 @@ impl<'a> Cursor<'a> {
     /// before more digits, and where the number is too large. Cost: linear in the digits.
     #[tactic(auto, unfolding(crate::specs::Numbers::wide))]
     pub fn wide(&mut self) -> Result<u128, Stop>
-        ensures { Gives (read.wide self.old) result self.new }
+        ensures value { Gives (read.wide self.old) result self.new }
+        ensures memory { ¬ (result ≡ Err Stop.NoMemory) }
     {
         match number_of(self.digits()) {
             None => Err(Stop::Bad),
@@ -110,7 +111,8 @@ impl<'a> Cursor<'a> {
     /// Takes a number of 64 bits, by the rules of `wide`.
     #[tactic(auto, unfolding(crate::specs::Numbers::natural))]
     pub fn natural(&mut self) -> Result<u64, Stop>
-        ensures { Gives (read.natural (2 ^ 64) self.old) result self.new }
+        ensures value { Gives (read.natural (2 ^ 64) self.old) result self.new }
+        ensures memory { ¬ (result ≡ Err Stop.NoMemory) }
     {
         let number = self.wide()?;
         if number > u128::from(u64::MAX) {
@@ -122,7 +124,8 @@ impl<'a> Cursor<'a> {
     /// Takes a number of 32 bits, by the rules of `wide`.
     #[tactic(auto, unfolding(crate::specs::Numbers::natural))]
     pub fn small(&mut self) -> Result<u32, Stop>
-        ensures { Gives (read.natural (2 ^ 32) self.old) result self.new }
+        ensures value { Gives (read.natural (2 ^ 32) self.old) result self.new }
+        ensures memory { ¬ (result ≡ Err Stop.NoMemory) }
     {
         let number = self.wide()?;
         if number > u128::from(u32::MAX) {
@@ -133,7 +136,8 @@ impl<'a> Cursor<'a> {
 
     #[tactic(auto, unfolding(crate::specs::Numbers::positive))]
     fn positive(&mut self) -> Result<i128, Stop>
-        ensures { Gives (read.positive self.old) result self.new }
+        ensures value { Gives (read.positive self.old) result self.new }
+        ensures memory { ¬ (result ≡ Err Stop.NoMemory) }
     {
         match plain(self.wide()?) {
             None => Err(Stop::Bad),
@@ -143,7 +147,8 @@ impl<'a> Cursor<'a> {
 
     #[tactic(auto, unfolding(crate::specs::Numbers::negative))]
     fn negative(&mut self) -> Result<i128, Stop>
-        ensures { Gives (read.negative self.old) result self.new }
+        ensures value { Gives (read.negative self.old) result self.new }
+        ensures memory { ¬ (result ≡ Err Stop.NoMemory) }
     {
         self.expect(b"-")?;
         match negated(self.wide()?) {
@@ -156,7 +161,8 @@ impl<'a> Cursor<'a> {
     /// Cost: linear in the digits.
     #[tactic(auto, unfolding(crate::specs::Numbers::number))]
     pub fn number(&mut self) -> Result<i128, Stop>
-        ensures { Gives (read.number self.old) result self.new }
+        ensures value { Gives (read.number self.old) result self.new }
+        ensures memory { ¬ (result ≡ Err Stop.NoMemory) }
     {
         if self.sees(b"-") {
             self.negative()

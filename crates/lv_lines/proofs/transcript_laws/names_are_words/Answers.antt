@@ -1,0 +1,8 @@
+use Rattle.lv_lines.proofs.NamesAreWords.{program_word, schema_word}
+use Rattle.lv_lines.proofs.transcript_laws.names_are_words.Goals as goal
+
+pub returns-clause-programs : goal.returns-clause-programs
+returns-clause-programs c = program_word
+
+pub returns-clause-schema : goal.returns-clause-schema
+returns-clause-schema c = schema_word

@@ -1,0 +1,5 @@
+use Rattle.lv_lines.proofs.Whole.{text_tells}
+use Rattle.lv_lines.proofs.transcript_laws.text_tells_entries.Goals as goal
+
+pub returns : goal.returns
+returns c = text_tells c.args.names.now c.requires
