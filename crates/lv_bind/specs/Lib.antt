@@ -1,9 +1,12 @@
 pub mod Ambiguous
+pub mod Assigned
 pub mod Binding
 pub mod InUse
 pub mod Kinds
 pub mod Limits
 pub mod Pieces
+pub mod Ranges
+pub mod Rights
 pub mod Seen
 pub mod Sources
 pub mod Unknown

@@ -2,11 +2,14 @@
 #![tactic(auto)]
 
 mod ambiguous;
+mod assigned;
 mod binding;
 mod entries;
 mod in_use;
 mod kinds;
 mod limits;
 mod pieces;
+mod ranges;
+mod rights;
 mod sources;
 mod unknown;
