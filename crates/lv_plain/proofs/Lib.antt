@@ -1,0 +1,3 @@
+pub mod LegalLaws
+mod Shop
+mod Examples

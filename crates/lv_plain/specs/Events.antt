@@ -1,11 +1,10 @@
 -- Events, and the order in which a program asks for them.
-use Rattle.std.specs.Prelude.{ℕ, ◌+◌, ◌-◌, ◌==◌, nat_lt, max, Bool, false, List, [], ◌∷◌, ◌++◌, length, map, filter, replicate, slice_index}
-use Rattle.std.specs.List.{flat_map, range_with_len, filter_map, count_by}
+use Rattle.std.specs.Prelude.{ℕ, ◌-◌, ◌==◌, nat_lt, max, Bool, false, List, [], ◌∷◌, ◌++◌, length, map, filter, replicate}
+use Rattle.std.specs.List.{flat_map, range_with_len, count_by}
 use Rattle.lv_plain.specs.declared.program.OrderItem.{OrderItem}
 use Rattle.lv_plain.specs.declared.program.OrderItem.TheVariants as item
 use Rattle.lv_plain.specs.declared.program.Program.{Program}
-use Rattle.lv_plain.specs.declared.program.Script.{Script}
-use Rattle.lv_plain.specs.Programs.{lines_of, session_count}
+use Rattle.lv_plain.specs.Programs.{lines_of}
 
 -- what may happen: a session's next statement, what a worker does, a mark of the view with this name, a clean-up
 pub data Event : Type 0 where

@@ -1,6 +1,6 @@
 -- Which lists of entries a program's sessions may give by themselves, over whole snapshots: no view is stored, so no
 -- statement forces a step, and every record is written.
-use Rattle.std.specs.Prelude.{◌≡◌, ℕ, ◌+◌, Bool, true, List, [], ◌∷◌, map, slice_index, slice_set, Result}
+use Rattle.std.specs.Prelude.{◌≡◌, ℕ, ◌+◌, true, List, [], ◌∷◌, slice_index, slice_set}
 use Rattle.lv_schema.specs.declared.rec.Rec.{Rec}
 use Rattle.lv_schema.specs.Cases.{Outcome, good}
 use Rattle.lv_schema.specs.World.{Visible, nothing_visible}
@@ -36,9 +36,10 @@ after_turn reading p t session = record {
   places = slice_set t.places session (slice_index t.places session + 1);
 }
 
--- the session whose turn an entry shows
+-- the session whose turn an entry shows; an entry that shows none is no session's
 abbrev pub session_of : Entry → ℕ
 session_of (Session session place forced reply) = session
+session_of other = 0
 
 abbrev pub event_shown : Entry → Event
 event_shown e = turn_of (session_of e)

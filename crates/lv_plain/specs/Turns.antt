@@ -1,6 +1,6 @@
 -- The answer to a session's next statement, and what statements see then. Reading and binding of a line is a
 -- parameter, and so is what becomes of a record.
-use Rattle.std.specs.Prelude.{ℕ, ◌+◌, ◌==◌, Bool, if◌then◌else◌, List, [], slice_index_or, Option, Some, None, Result, Ok, Err, is_some}
+use Rattle.std.specs.Prelude.{ℕ, ◌==◌, Bool, if◌then◌else◌, List, slice_index_or, Option, None, Result, Ok, Err, is_some}
 use Rattle.lv_schema.specs.declared.bound.Bound.{Bound}
 use Rattle.lv_schema.specs.declared.bound.Bound.TheVariants as bound
 use Rattle.lv_schema.specs.declared.fault.Fault.{Fault}

@@ -1,1 +1,16 @@
+pub mod TruthLaws
+pub mod Numbers
+pub mod PendingTasks
+pub mod PlannedSteps
+pub mod ForcedSteps
+pub mod Totals
+pub mod OnceLists
+pub mod ChangeLists
+pub mod DifferencesAddUp
+pub mod Apart
+pub mod ViewRows
+pub mod NetsLead
+pub mod KeptCounts
 mod SchemaLemmas
+mod ShopExamples
+mod WorldExamples

@@ -1,7 +1,6 @@
 -- Databases: the rows of each table.
 use Rattle.std.specs.Prelude.{◌≡◌, ℕ, ◌^◌, ◌≤◌, ℤ, pos, neg_ℤ, int_le, int_lt, Bool, true, false, not, ◌&&◌, ◌==◌, nat_le, List, [], ◌∷◌, length, slice_index_or}
 use Rattle.std.specs.List.{list_any, AllByRecursion, AllZip}
-use Rattle.std.specs.List.Sorted.{IsStrictlySortedBy}
 use Rattle.lv_values.specs.declared.value.Value.{Value}
 use Rattle.lv_values.specs.declared.value.Value.TheVariants.{Num, Text as Word}
 use Rattle.lv_values.specs.Rows.{key_cmp}
@@ -9,6 +8,7 @@ use Rattle.lv_schema.specs.declared.table.Kind.{Kind}
 use Rattle.lv_schema.specs.declared.table.Kind.TheVariants.{Int, Text, Big}
 use Rattle.lv_schema.specs.declared.table.Column.{Column}
 use Rattle.lv_schema.specs.declared.table.TableDef.{TableDef}
+use Rattle.lv_schema.specs.Once.{Ascends}
 
 -- for each table, at the place of its number, its rows
 abbrev pub Db : Type 0
@@ -48,7 +48,7 @@ row_fits (c ∷ cs) (v ∷ vs) = value_fits c.kind v && row_fits cs vs
 -- the rows of a table: they fit its columns, they ascend by their keys, which are distinct, and they are few enough
 pub record IsTable (def : TableDef) (rows : List (List Value)) : Type 0 where
   pub fits : AllByRecursion (λ row. row_fits def.columns row ≡ true) rows
-  pub keyed : IsStrictlySortedBy (key_cmp def.key) rows
+  pub keyed : Ascends (key_cmp def.key) rows
   pub few : length rows ≤ 65535
 
 -- a database of these tables

@@ -1,5 +1,6 @@
 -- Records of the journal, and how long they are. A number is 1, 2, 4, 8 or 16 bytes, a list its count and its parts.
-use Rattle.std.specs.Prelude.{ℕ, ◌+◌, List, length, map, sum}
+use Rattle.std.specs.Prelude.{ℕ, ◌+◌, List, length, sum}
+use Rattle.std.specs.List.{sum_by}
 use Rattle.lv_values.specs.declared.value.Value.{Value}
 use Rattle.lv_values.specs.declared.value.Value.TheVariants.{Num, Text as Word}
 use Rattle.lv_schema.specs.declared.action.Action.{Action}
@@ -29,7 +30,7 @@ value_size (Num n) = 9
 value_size (Word t) = 1 + text_size t
 
 abbrev pub row_size : List Value → ℕ
-row_size row = 1 + sum (map value_size row)
+row_size row = 1 + sum_by value_size row
 
 -- a kind, and a column, a number of 128 bits or a text
 abbrev pub operand_size : Operand → ℕ
@@ -54,11 +55,11 @@ item_size (Count name) = 1 + name_size name
 
 -- a kind and a name, and then the columns, each with its kind, and the positions of the key
 abbrev pub table_size : TableDef → ℕ
-table_size def = 1 + name_size def.name + 1 + sum (map (λ c. name_size c.name + 1) def.columns) + 1 + length def.key
+table_size def = 1 + name_size def.name + 1 + sum_by (λ c. name_size c.name + 1) def.columns + 1 + length def.key
 
 -- a kind, a name and the commit of the creation, and then the tables, the condition, the list and the groups
 abbrev pub view_size : ViewDef → ℕ
-view_size def = 1 + name_size def.name + 8 + 1 + length def.tables + cond_size def.cond + 1 + sum (map item_size def.items) + 1 + 1 + (length def.groups + length def.groups)
+view_size def = 1 + name_size def.name + 8 + 1 + length def.tables + cond_size def.cond + 1 + sum_by item_size def.items + 1 + 1 + (length def.groups + length def.groups)
 
 -- a table, the statement's number, a kind, and a row
 abbrev pub action_size : Action → ℕ
@@ -68,7 +69,7 @@ action_size a = 6 + row_size a.row
 abbrev pub record_size : Rec → ℕ
 record_size (Table def) = table_size def
 record_size (View def) = view_size def
-record_size (Commit number actions) = 13 + sum (map action_size actions)
+record_size (Commit number actions) = 13 + sum_by action_size actions
 record_size (Mark view upto) = 10
 
 -- the record of a table, of a view that is created now, and of a transaction that commits now

@@ -9,6 +9,7 @@ mod directed;
 mod fault;
 mod forced;
 mod holding;
+mod laws;
 mod logic;
 mod net;
 mod pending;
@@ -17,16 +18,23 @@ mod rec;
 mod schema;
 mod signed;
 mod table;
+#[cfg(test)]
+mod tests;
 mod view;
 
 pub use action::{Action, ActionKind, Actions, DeltaEntries, DeltaEntry};
 pub use bound::Bound;
 pub use change::{Change, Set, SetValue, Sets};
 pub use cond::{Col, Cols, Cond, Conds, Op, Operand};
-pub use directed::Directed;
+pub use directed::{Directed, DirectedValues, SortedRow};
 pub use fault::{Fault, LimitKind, ProfileRule};
 pub use forced::{Forced, ForcedSteps};
 pub use holding::{holds, listed, truth, value_at};
+pub use laws::{
+    clean_up_counts_what_it_keeps, differences_add_up, forced_steps_are_a_chain,
+    forced_steps_leave_nothing_pending, groups_follow_the_difference, net_changes_lead_on,
+    planned_step_is_greatest, truth_goes_by_kind, view_rows_are_distinct,
+};
 pub use logic::Truth;
 pub use net::{Net, Nets};
 pub use pending::{Pending, Pendings};

@@ -1,0 +1,56 @@
+-- Legal lists of entries, put together and cut.
+use Rattle.std.proofs.Common.{◌≡◌, List, [], ◌∷◌, ◌++◌, refl, ap, ◌∙◌}
+use Rattle.std.specs.Prelude.{Option, Some, None}
+use Rattle.lv_plain.specs.declared.entry.Entry.{Entry}
+use Rattle.lv_plain.specs.declared.program.Program.{Program}
+use Rattle.lv_plain.specs.Events.{Event}
+use Rattle.lv_plain.specs.Legal.{MayCome, after_entry, Legal, after, events_by, event_of, events_of}
+use Rattle.lv_plain.specs.LegalTurns.{Turning, MayTurn, LegalTurns, after_turns, after_turn, session_of}
+use Rattle.lv_plain.specs.Machine.{Settings, State}
+use Rattle.lv_plain.specs.Turns.{Reading}
+
+module _ (reading : Reading) (p : Program) where
+  pub after_turns-append : (t : Turning) (es fs : List Entry) → after_turns reading p t (es ++ fs) ≡ after_turns reading p (after_turns reading p t es) fs
+  after_turns-append t [] fs = refl
+  after_turns-append t (e ∷ es) fs = after_turns-append (after_turn reading p t (session_of e)) es fs
+
+  -- legal turns, and then turns that are legal after them
+  pub LegalTurns-append : (t : Turning) (es fs : List Entry) → LegalTurns reading p t es → LegalTurns reading p (after_turns reading p t es) fs → LegalTurns reading p t (es ++ fs)
+  LegalTurns-append t [] fs a b = b
+  LegalTurns-append t (e ∷ es) fs a b = (a.0, LegalTurns-append (after_turn reading p t (session_of e)) es fs a.1 b)
+
+  -- legal turns, cut anywhere
+  pub LegalTurns-cut : (t : Turning) (es fs : List Entry) → LegalTurns reading p t (es ++ fs) → LegalTurns reading p t es × LegalTurns reading p (after_turns reading p t es) fs
+  LegalTurns-cut t [] fs a = (tt, a)
+  LegalTurns-cut t (e ∷ es) fs a = let rest = LegalTurns-cut (after_turn reading p t (session_of e)) es fs a.1 in ((a.0, rest.0), rest.1)
+
+  pub LegalTurns-snoc : (t : Turning) (es : List Entry) (e : Entry) → LegalTurns reading p t es → MayTurn reading p (after_turns reading p t es) e → LegalTurns reading p t (es ++ e ∷ [])
+  LegalTurns-snoc t es e a b = LegalTurns-append t es (e ∷ []) a (b, tt)
+
+module _ (settings : Settings) (reading : Reading) (p : Program) where
+  pub after-append : (s : State) (es fs : List Entry) → after settings reading p s (es ++ fs) ≡ after settings reading p (after settings reading p s es) fs
+  after-append s [] fs = refl
+  after-append s (e ∷ es) fs = after-append (after_entry settings reading p s e) es fs
+
+  -- legal entries, and then entries that are legal after them
+  pub Legal-append : (s : State) (es fs : List Entry) → Legal settings reading p s es → Legal settings reading p (after settings reading p s es) fs → Legal settings reading p s (es ++ fs)
+  Legal-append s [] fs a b = b
+  Legal-append s (e ∷ es) fs a b = (a.0, Legal-append (after_entry settings reading p s e) es fs a.1 b)
+
+  -- legal entries, cut anywhere
+  pub Legal-cut : (s : State) (es fs : List Entry) → Legal settings reading p s (es ++ fs) → Legal settings reading p s es × Legal settings reading p (after settings reading p s es) fs
+  Legal-cut s [] fs a = (tt, a)
+  Legal-cut s (e ∷ es) fs a = let rest = Legal-cut (after_entry settings reading p s e) es fs a.1 in ((a.0, rest.0), rest.1)
+
+  pub Legal-snoc : (s : State) (es : List Entry) (e : Entry) → Legal settings reading p s es → MayCome settings reading p (after settings reading p s es) e → Legal settings reading p s (es ++ e ∷ [])
+  Legal-snoc s es e a b = Legal-append s es (e ∷ []) a (b, tt)
+
+  by-append : (o : Option Event) (xs ys : List Event) → events_by settings reading p o (xs ++ ys) ≡ events_by settings reading p o xs ++ ys
+  by-append None xs ys = refl
+  by-append (Some event) xs ys = refl
+
+  pub events_of-append : (s : State) (es fs : List Entry) → events_of settings reading p s (es ++ fs) ≡ events_of settings reading p s es ++ events_of settings reading p (after settings reading p s es) fs
+  events_of-append s [] fs = refl
+  events_of-append s (e ∷ es) fs =
+      ap (events_by settings reading p (event_of s e)) (events_of-append (after_entry settings reading p s e) es fs)
+      ∙ by-append (event_of s e) (events_of settings reading p (after_entry settings reading p s e) es) (events_of settings reading p (after settings reading p s (e ∷ es)) fs)

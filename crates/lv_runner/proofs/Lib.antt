@@ -1,0 +1,5 @@
+mod Ascii
+mod KeyOrder
+mod Loops
+mod OneAlias
+mod Pieces

@@ -1,0 +1,38 @@
+//! How a run ends.
+ghost use Rattle.std.specs.Prelude.{◌≡◌};
+
+/// How a run ends.
+#[derive(Clone, Copy, Debug, PartialEq, Eq)]
+pub enum Status {
+    /// The script was read, every statement is answered, and the whole text is written.
+    Done,
+    /// The words are refused.
+    Words,
+    /// The script is refused: the first line with a fault, counted from 1, and the fault's kind. Kind 0 is a line
+    /// that breaks the form, or that is missing. Kind 2 is a script that is too long, shown at line 0.
+    Script { line: u64, kind: u8 },
+    /// The source failed.
+    SourceFault,
+    /// The sink failed.
+    SinkFault,
+    /// Memory was refused.
+    NoMemory,
+}
+
+impl Status {
+    ghost use Rattle.lv_runner.specs.Status.{number_of};
+
+    /// The number of the status, which is the program's exit status.
+    pub fn number(&self) -> u8
+        ensures { result ≡ number_of self.now }
+    {
+        match self {
+            Status::Done => 0,
+            Status::Words => 1,
+            Status::Script { line: _, kind: _ } => 2,
+            Status::SourceFault => 3,
+            Status::SinkFault => 4,
+            Status::NoMemory => 8,
+        }
+    }
+}

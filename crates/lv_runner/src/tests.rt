@@ -1,0 +1,187 @@
+//! Runs of whole scripts, over a source and a sink in memory.
+
+use crate::{Status, run};
+use lv_outside::{MemSink, MemSource};
+use lv_values::{Bytes, Items, Text};
+use std::test::Fail;
+
+const SCRIPT: &[u8] = b"@setup
+create table item (id int, price int, primary key (id))
+create view cheap as select price, id from item
+@session a
+insert into item values (1, 10)
+insert into item values (2, 5)
+insert into item values (1, 7)
+select * from cheap
+";
+
+const TRANSCRIPT: &[u8] = b"setup 1 ok
+setup 2 ok
+a 1 ok 1 commit 1
+a 2 ok 1 commit 2
+a 3 fault 13 duplicate key item (1)
+a 4 rows 2
+| 5 | 2
+| 10 | 1
+";
+
+/// Runs a script without words; the calls with these numbers fail.
+fn run_on(
+    rt: &HostRuntime,
+    script: &[u8],
+    source_fails: &[u64],
+    sink_fails: &[u64],
+) -> Result<(Status, MemSink), Fail> {
+    let alloc = rt.alloc();
+    let mut source = MemSource::new(
+        Bytes::from_slice(alloc, script)?,
+        Items::from_slice(alloc, source_fails)?,
+    );
+    let mut sink = MemSink::new(alloc, Items::from_slice(alloc, sink_fails)?);
+    let words: [Text; 0] = [];
+    let status = run(alloc, &words, &mut source, &mut sink);
+    Ok((status, sink))
+}
+
+#[test]
+fn one_table_one_view(rt: HostRuntime) -> Result<(), Fail> {
+    let (status, sink) = run_on(&rt, SCRIPT, &[], &[])?;
+    assert_eq!(rt; status, Status::Done);
+    assert_eq!(rt; sink.written(), TRANSCRIPT);
+    assert_eq!(rt; status.number(), 0);
+    Ok(())
+}
+
+#[test]
+fn each_call_fails(rt: HostRuntime) -> Result<(), Fail> {
+    for call in [1, 2] {
+        let (status, sink) = run_on(&rt, SCRIPT, &[call], &[])?;
+        assert_eq!(rt; status, Status::SourceFault, "source call {call}");
+        assert!(rt; sink.written().is_empty());
+        let (status, sink) = run_on(&rt, SCRIPT, &[], &[call])?;
+        assert_eq!(rt; status, Status::SinkFault, "sink call {call}");
+        assert!(rt; TRANSCRIPT.starts_with(sink.written()));
+    }
+    let (status, _) = run_on(&rt, SCRIPT, &[3], &[3])?;
+    assert_eq!(rt; status, Status::Done);
+    Ok(())
+}
+
+#[test]
+fn words_are_refused(rt: HostRuntime) -> Result<(), Fail> {
+    let alloc = rt.alloc();
+    let mut source = MemSource::new(Bytes::from_slice(alloc, SCRIPT)?, Items::new(alloc));
+    let mut sink = MemSink::new(alloc, Items::new(alloc));
+    let words = [Text::from_str(alloc, "--threads")?];
+    let status = run(alloc, &words, &mut source, &mut sink);
+    assert_eq!(rt; status, Status::Words);
+    assert!(rt; sink.written().is_empty());
+    Ok(())
+}
+
+/// Scripts outside the form: the number of the first line of `SCRIPT` that is left out, what comes in place of it and
+/// those after it, and the line that breaks the form.
+const OUTSIDE: [(usize, &str, u64); 22] = [
+    (1, "", 1),
+    (1, "@setup", 1),
+    (1, "@setup \n", 1),
+    (1, "@setup\r\n", 1),
+    (2, "", 2),
+    (2, "create table key (id int, primary key (id))\n", 2),
+    (2, "create table item (id int, price int, primary key (price))\n", 2),
+    (2, "create table item (id int, id int, primary key (id))\n", 2),
+    (2, "create table item (primary key (id))\n", 2),
+    (3, "create view cheap as select price from item\n", 3),
+    (3, "create view item as select price, id from item\n", 3),
+    (3, "create view cheap as select cost, id from item\n", 3),
+    (3, "create view cheap as select id, id from item\n", 3),
+    (4, "@session w1\n", 4),
+    (4, "@session a", 4),
+    (5, "insert into item values (1)\n", 5),
+    (5, "insert into item values (1, 9223372036854775808)\n", 5),
+    (5, "insert into item values (1, 00000000000000000001)\n", 5),
+    (6, "select * from item\n", 6),
+    (7, "\n", 7),
+    (8, "select * from cheap", 8),
+    (9, "x", 9),
+];
+
+/// The lines of the script before this one.
+fn lines_before(script: &[u8], line: usize) -> &[u8] {
+    let mut number = 1;
+    for (i, byte) in script.iter().enumerate() {
+        if number >= line {
+            return &script[..i];
+        }
+        if *byte == b'\n' {
+            number += 1;
+        }
+    }
+    script
+}
+
+/// The lines of `SCRIPT` before this one, and then this text.
+fn script_with(rt: &HostRuntime, line: usize, end: &str) -> Result<Bytes, Fail> {
+    let mut script = Bytes::from_slice(rt.alloc(), lines_before(SCRIPT, line))?;
+    script.extend_from_slice(end.as_bytes())?;
+    Ok(script)
+}
+
+#[test]
+fn lines_that_break_the_form(rt: HostRuntime) -> Result<(), Fail> {
+    for (before, end, line) in OUTSIDE {
+        let script = script_with(&rt, before, end)?;
+        let (status, sink) = run_on(&rt, script.as_slice(), &[], &[])?;
+        assert_eq!(rt; status, Status::Script { line, kind: 0 }, "{end}");
+        assert!(rt; sink.written().is_empty());
+    }
+    Ok(())
+}
+
+#[test]
+fn numbers_at_the_edge(rt: HostRuntime) -> Result<(), Fail> {
+    let end = "insert into item values (-9223372036854775808, 9223372036854775807)
+insert into item values (-0, 007)
+insert into item values (0, 1)
+select * from cheap
+";
+    let script = script_with(&rt, 5, end)?;
+    let (status, sink) = run_on(&rt, script.as_slice(), &[], &[])?;
+    let text = b"setup 1 ok
+setup 2 ok
+a 1 ok 1 commit 1
+a 2 ok 1 commit 2
+a 3 fault 13 duplicate key item (0)
+a 4 rows 2
+| 7 | 0
+| 9223372036854775807 | -9223372036854775808
+";
+    assert_eq!(rt; status, Status::Done);
+    assert_eq!(rt; sink.written(), text.as_slice());
+    Ok(())
+}
+
+#[test]
+fn a_thousand_statements(rt: HostRuntime) -> Result<(), Fail> {
+    let mut script = script_with(&rt, 5, "")?;
+    for _ in 0..1000 {
+        script.extend_from_slice(b"select * from cheap\n")?;
+    }
+    let (status, sink) = run_on(&rt, script.as_slice(), &[], &[])?;
+    assert_eq!(rt; status, Status::Done);
+    assert!(rt; sink.written().ends_with(b"a 999 rows 0\na 1000 rows 0\n"));
+    script.extend_from_slice(b"select * from cheap\n")?;
+    let (status, _) = run_on(&rt, script.as_slice(), &[], &[])?;
+    assert_eq!(rt; status, Status::Script { line: 1005, kind: 0 });
+    Ok(())
+}
+
+#[test]
+fn a_script_too_long(rt: HostRuntime) -> Result<(), Fail> {
+    for (len, kind, line) in [(16777216, 0, 1), (16777217, 2, 0)] {
+        let script = vec![in rt.alloc(); b'x'; len]?;
+        let (status, _) = run_on(&rt, script.as_slice(), &[], &[])?;
+        assert_eq!(rt; status, Status::Script { line, kind }, "{len} bytes");
+    }
+    Ok(())
+}
