@@ -6,7 +6,8 @@ use Rattle.lv_parser.specs.declared.tree.Stmt.{Stmt}
 use Rattle.lv_parser.specs.declared.tree.Stmt.TheVariants.{CreateTable, CreateView, Insert, Update, Delete, Select, Begin, Commit, Rollback, ShowTasks}
 use Rattle.lv_schema.specs.declared.table.TableDef.{TableDef}
 use Rattle.lv_schema.specs.declared.view.ViewDef.{ViewDef}
-use Rattle.lv_schema.specs.Catalog.{table_at, rel_named}
+use Rattle.lv_schema.specs.Catalog.{rel_named}
+use Rattle.lv_schema.specs.World.{table_at}
 use Rattle.lv_bind.specs.Binding.{table_number}
 use Rattle.lv_bind.specs.Pieces.{alone}
 use Rattle.lv_bind.specs.Sources.{Alias, place_of, sources_of, shown_unless}

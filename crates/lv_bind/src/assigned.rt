@@ -2,7 +2,8 @@
 ghost use Rattle.std.specs.Prelude.{◌≡◌, map, nat_eq};
 ghost use Rattle.std.specs.List.{list_any};
 ghost use Rattle.std.specs.Option.{option_copied};
-ghost use Rattle.lv_schema.specs.Catalog.{table_at, rel_named};
+ghost use Rattle.lv_schema.specs.Catalog.{rel_named};
+ghost use Rattle.lv_schema.specs.World.{table_at};
 ghost use Rattle.lv_bind.specs.Assigned.{assigned_keys, assigned_among};
 ghost use Rattle.lv_bind.specs.Binding.{table_number};
 ghost use Rattle.lv_bind.specs.Seen.{alias_seen};
@@ -15,22 +16,11 @@ use lv_parser::{Assign, Named, Stmt};
 use lv_schema::Schema;
 use lv_values::Text;
 
-/// The key of a table, no column where the number is not in use.
-fn key_of(schema: &Schema, number: u32) -> &[u8]
-    ensures { result.now ≡ (table_at schema.now.tables number).key }
-{
-    if number < schema.tables() {
-        schema.table(number).key.as_slice()
-    } else {
-        &[]
-    }
-}
-
 /// The key of the table with this name.
 fn key_named<'a>(schema: &'a Schema, table: &Named) -> &'a [u8]
     ensures { result.now ≡ (table_at schema.now.tables (table_number (rel_named schema.now.tables schema.now.views table.now.name))).key }
 {
-    key_of(schema, table_number(schema, table))
+    schema.key(table_number(schema, table))
 }
 
 fn is_key(key: &[u8], column: usize) -> bool
