@@ -1,6 +1,6 @@
 -- The rules on what a view may be, each over its list and its GROUP BY columns, and in the order in which a broken one
 -- is shown.
-use Rattle.std.specs.Prelude.{ℕ, Bool, true, cond, ◌&&◌, ◌==◌, List, [], ◌∷◌, ◌++◌}
+use Rattle.std.specs.Prelude.{ℕ, Bool, true, cond, ◌&&◌, ◌==◌, List, [], ◌∷◌, ◌++◌, Option, Some, None}
 use Rattle.std.specs.List.{list_all, count_by}
 use Rattle.lv_schema.specs.declared.cond.Col.{Col}
 use Rattle.lv_schema.specs.declared.fault.ProfileRule.{ProfileRule}
@@ -10,6 +10,11 @@ use Rattle.lv_schema.specs.declared.view.Item.{Item}
 use Rattle.lv_schema.specs.declared.view.ViewDef.{ViewDef}
 use Rattle.lv_schema.specs.Bound.{has_col, is_plain, is_count, all_key_cols}
 use Rattle.lv_schema.specs.JoinViews.{plain_columns}
+
+-- the first of a list
+abbrev pub first : {A : Type 0} → List A → Option A
+first [] = None
+first (x ∷ xs) = Some x
 
 -- whether each of these columns is among those
 abbrev pub are_among : List Col → List Col → Bool

@@ -13,6 +13,7 @@ mod laws;
 mod logic;
 mod net;
 mod pending;
+mod profile;
 mod query;
 mod rec;
 mod schema;
