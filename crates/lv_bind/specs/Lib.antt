@@ -5,6 +5,7 @@ pub mod InUse
 pub mod Kinds
 pub mod Limits
 pub mod Pieces
+pub mod Profile
 pub mod Ranges
 pub mod Rights
 pub mod Seen

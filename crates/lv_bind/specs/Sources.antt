@@ -19,11 +19,7 @@ use Rattle.lv_bind.specs.declared.sources.Fit.TheVariants.{Nothing, One, Several
 use Rattle.lv_bind.specs.declared.sources.Place.{Place}
 use Rattle.lv_schema.specs.Bound.{rel_columns}
 use Rattle.lv_schema.specs.Catalog.{rel_named}
-
--- the first of a list
-abbrev pub first : {A : Type 0} → List A → Option A
-first [] = None
-first (x ∷ xs) = Some x
+pub use Rattle.lv_schema.specs.Profile.{first}
 
 -- the name, unless all is well
 abbrev pub shown_unless : {A : Type 0} → Bool → A → List A

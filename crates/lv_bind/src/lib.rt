@@ -4,6 +4,7 @@
 mod ambiguous;
 mod assigned;
 mod binding;
+mod creating;
 mod entries;
 mod in_use;
 mod kinds;
