@@ -1,6 +1,7 @@
 pub mod Ambiguous
 pub mod Assigned
 pub mod Binding
+pub mod Faults
 pub mod InUse
 pub mod Kinds
 pub mod Limits

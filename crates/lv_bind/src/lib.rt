@@ -11,6 +11,7 @@ mod kinds;
 mod limits;
 mod pieces;
 mod ranges;
+mod refusals;
 mod rights;
 mod sources;
 mod unknown;
