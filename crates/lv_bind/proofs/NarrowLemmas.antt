@@ -9,12 +9,11 @@ use Rattle.lv_parser.specs.declared.tree.ColName.{ColName}
 use Rattle.lv_schema.specs.declared.cond.Col.{Col}
 use Rattle.lv_schema.specs.declared.table.TableDef.{TableDef}
 use Rattle.lv_schema.specs.declared.view.ViewDef.{ViewDef}
-use Rattle.lv_schema.specs.Catalog.{no_column}
 use Rattle.lv_bind.specs.declared.sources.Place.{Place}
 use Rattle.lv_bind.specs.declared.sources.Source.{Source}
 use Rattle.lv_bind.specs.Binding.{IsNarrow}
 use Rattle.lv_bind.specs.Seen.{alias_seen}
-use Rattle.lv_bind.specs.Sources.{Alias, first, goes_by, column_named, place_at, place_in, places_from, places, place_of}
+use Rattle.lv_bind.specs.Sources.{Alias, no_column, first, goes_by, column_named, place_at, place_in, places_from, places, place_of}
 
 abbrev IsAt : ℕ → ℕ → Place → Type 0
 IsAt n most p = (p.alias < n + most) × (p.column < 16)

@@ -1,15 +1,22 @@
 -- The bound statement: names are numbers.
-use Rattle.std.specs.Prelude.{◌≡◌, ◌<◌, ◌≤◌, ℕ, suc, true, false, nat_lt, List, [], ◌∷◌, ◌++◌, map, length, unwrap_or, Option, Some, None, Bool}
+use Rattle.std.specs.Prelude.{◌≤◌, ℕ, suc, nat_lt, List, [], ◌∷◌, ◌++◌, map, length, position, unwrap_or, Option, Some, None, Bool}
 use Rattle.std.specs.List.{range_with_len, AllByRecursion}
+use Rattle.std.specs.Str.{bytes_eq}
 use Rattle.lv_values.specs.declared.value.Value.{Value}
 use Rattle.lv_values.specs.declared.value.Value.TheVariants as v
 use Rattle.lv_parser.specs.declared.tree.Assign.{Assign}
 use Rattle.lv_parser.specs.declared.tree.AssignValue.{AssignValue}
 use Rattle.lv_parser.specs.declared.tree.AssignValue.TheVariants as value
 use Rattle.lv_parser.specs.declared.tree.ColName.{ColName}
+use Rattle.lv_parser.specs.declared.tree.ColumnKind.{ColumnKind}
+use Rattle.lv_parser.specs.declared.tree.ColumnKind.TheVariants as kind
+use Rattle.lv_parser.specs.declared.tree.ColumnTree.{ColumnTree}
 use Rattle.lv_parser.specs.declared.tree.CondTree.{CondTree}
 use Rattle.lv_parser.specs.declared.tree.CondTree.TheOpen.{CondTree-F, True, Cmp, And, Or, Not}
 use Rattle.lv_parser.specs.declared.tree.CondTree.TheFolds.{fold-CondTree}
+use Rattle.lv_parser.specs.declared.tree.ItemTree.{ItemTree}
+use Rattle.lv_parser.specs.declared.tree.ItemTree.TheVariants as item
+use Rattle.lv_parser.specs.declared.tree.Named.{Named}
 use Rattle.lv_parser.specs.declared.tree.OperandTree.{OperandTree}
 use Rattle.lv_parser.specs.declared.tree.OperandTree.TheVariants as side
 use Rattle.lv_parser.specs.declared.tree.RefTree.{RefTree}
@@ -29,7 +36,12 @@ use Rattle.lv_schema.specs.declared.cond.Operand.TheVariants as operand
 use Rattle.lv_schema.specs.declared.query.Query.{Query}
 use Rattle.lv_schema.specs.declared.query.Rel.{Rel}
 use Rattle.lv_schema.specs.declared.query.Rel.TheVariants.{Table, View}
+use Rattle.lv_schema.specs.declared.table.Column.{Column}
+use Rattle.lv_schema.specs.declared.table.Kind.{Kind}
+use Rattle.lv_schema.specs.declared.table.Kind.TheVariants.{Int, Text}
 use Rattle.lv_schema.specs.declared.table.TableDef.{TableDef}
+use Rattle.lv_schema.specs.declared.view.Item.{Item}
+use Rattle.lv_schema.specs.declared.view.Item.TheVariants.{Plain, Sum, Count}
 use Rattle.lv_schema.specs.declared.view.ViewDef.{ViewDef}
 use Rattle.lv_schema.specs.Catalog.{rel_named}
 use Rattle.lv_bind.specs.declared.sources.Place.{Place}
@@ -109,3 +121,39 @@ bound_list sources (Some cols) = map (bound_col sources) cols
 
 abbrev pub bound_order : List Alias → List (ColName × Bool) → List (Col × Bool)
 bound_order sources order = map (λ by. (bound_col sources by.0, by.1)) order
+
+-- CREATE TABLE
+abbrev pub bound_kind : ColumnKind → Kind
+bound_kind kind.Int = Int
+bound_kind kind.Text = Text
+
+abbrev pub bound_column : ColumnTree → Column
+bound_column c = record { name = c.name.name; kind = bound_kind c.kind }
+
+-- the place of a name among new columns
+abbrev pub key_place : List ColumnTree → List ℕ → ℕ
+key_place cols name = unwrap_or (position (λ c. bytes_eq name c.name.name) cols) 0
+
+abbrev pub bound_table : List TableDef → Named → List ColumnTree → List Named → TableDef
+bound_table tables name cols key = record { no = length tables; name = name.name; columns = map bound_column cols; key = map (λ k. key_place cols k.name) key }
+
+-- CREATE VIEW
+abbrev pub bound_item : List Alias → ItemTree → Item
+bound_item sources (item.Plain col output) = Plain (bound_col sources col) (unwrap_or output col.name).name
+bound_item sources (item.Sum col output) = Sum (bound_col sources col) output.name
+bound_item sources (item.Count output) = Count output.name
+
+abbrev pub table_numbers : List TableDef → List ViewDef → List RefTree → List ℕ
+table_numbers tables views refs = map (λ r. table_number (rel_named tables views r.name.name)) refs
+
+abbrev pub bound_view : List TableDef → List ViewDef → List Alias → Named → List ItemTree → List RefTree → CondTree → List ColName → ViewDef
+bound_view tables views sources name items refs tree groups = record {
+  no = length views;
+  name = name.name;
+  created = 0;
+  tables = table_numbers tables views refs;
+  cond = bound_cond sources tree;
+  items = map (bound_item sources) items;
+  grouped = nat_lt 0 (length groups);
+  groups = map (bound_col sources) groups;
+}

@@ -1,11 +1,13 @@
 //! The aliases of a statement, and where a column that it names is.
-ghost use Rattle.std.specs.Prelude.{◌≡◌, ◌++◌, map, position, slice_index_or, OnOk, IfOk};
+ghost use Rattle.std.specs.Prelude.{◌≡◌, ◌++◌, [], map, position, slice_index_or, OnOk, IfOk};
 ghost use Rattle.std.specs.Str.{bytes_eq};
 ghost use Rattle.std.specs.Option.{option_copied};
-ghost use Rattle.lv_bind.specs.Sources.{sources_of, source_of, alias_of, columns_of, places, place_of, fit_of, place_in, goes_by, kind_at, column_named};
+ghost use Rattle.lv_bind.specs.Sources.{no_column, sources_of, source_of, alias_of, columns_of, places, place_of, fit_of, place_in, goes_by, kind_at, column_named};
 ghost use Rattle.lv_bind.specs.Seen.{alias_seen, column_seen};
-ghost use Rattle.lv_schema.specs.Catalog.{rel_columns, view_columns, item_column, table_at, view_at, column_at, columns_of_tables, no_column};
-ghost use Rattle.lv_schema.specs.Bound.{item_name};
+ghost use Rattle.lv_schema.specs.declared.table.Column.{Column};
+ghost use Rattle.lv_schema.specs.declared.table.Kind.TheVariants.{Big};
+ghost use Rattle.lv_schema.specs.Bound.{item_name, rel_columns, view_columns, listed_column, alias_columns};
+ghost use Rattle.lv_schema.specs.World.{table_at, view_at};
 
 use crate::pieces::Mention;
 use lv_parser::{Named, RefTree, Stmt};
@@ -100,17 +102,6 @@ fn named_item(items: &[Item], name: &Text) -> Option<usize>
     items.iter().position(|item| *name == *item.name())
 }
 
-/// The columns of a table, none where the number is not in use.
-pub(crate) fn table_columns(schema: &Schema, number: u32) -> &[Column]
-    ensures { result.now ≡ (table_at schema.now.tables number).columns }
-{
-    if number < schema.tables() {
-        schema.table(number).columns.as_slice()
-    } else {
-        &[]
-    }
-}
-
 /// The items of a view, none where the number is not in use.
 fn view_items(schema: &Schema, number: u32) -> &[Item]
     ensures { result.now ≡ (view_at schema.now.views number).items }
@@ -135,34 +126,34 @@ fn named_in(schema: &Schema, rel: Option<Rel>, name: &Text) -> Option<usize>
 {
     match rel {
         None => None,
-        Some(Rel::Table(number)) => named_column(table_columns(schema, number), name),
+        Some(Rel::Table(number)) => named_column(schema.columns(number), name),
         Some(Rel::View(number)) => named_in_view(schema, number, name),
     }
 }
 
-/// The kind of the column at a place, a number past the end.
+/// The kind of the column at a place, that of sums past the end.
 fn kind_in_table(columns: &[Column], at: usize) -> Kind
-    ensures { result ≡ (slice_index_or columns.now at no_column).kind }
+    ensures { (d : Column) → d.kind ≡ Big → result ≡ (slice_index_or columns.now at d).kind }
 {
     match columns.get(at) {
-        None => Kind::Int,
+        None => Kind::Big,
         Some(column) => column.kind,
     }
 }
 
-/// The kind of a column of the tables with these numbers, a number where there is none.
+/// The kind of a column of the tables with these numbers, that of sums where there is none.
 fn kind_in_tables(schema: &Schema, numbers: &[u32], col: Col) -> Kind
-    ensures { result ≡ (column_at (columns_of_tables schema.now.tables numbers.now) col).kind }
+    ensures { (d : Column) → d.kind ≡ Big → result ≡ (slice_index_or (slice_index_or (alias_columns schema.now.tables numbers.now) col.alias []) col.column d).kind }
 {
     match numbers.get(col.alias as usize) {
-        None => Kind::Int,
-        Some(number) => kind_in_table(table_columns(schema, *number), col.column as usize),
+        None => Kind::Big,
+        Some(number) => kind_in_table(schema.columns(*number), col.column as usize),
     }
 }
 
 /// The kind of the column that an item of a view over these tables gives.
 fn kind_of_item(schema: &Schema, numbers: &[u32], item: &Item) -> Kind
-    ensures { result ≡ (item_column (columns_of_tables schema.now.tables numbers.now) item.now).kind }
+    ensures { result ≡ (listed_column (alias_columns schema.now.tables numbers.now) item.now).kind }
 {
     match item {
         Item::Plain { col, .. } => kind_in_tables(schema, numbers, *col),
@@ -170,34 +161,34 @@ fn kind_of_item(schema: &Schema, numbers: &[u32], item: &Item) -> Kind
     }
 }
 
-/// The kind of a view's column, a number past the end.
+/// The kind of a view's column, that of sums past the end.
 fn kind_in_view(schema: &Schema, view: &ViewDef, at: usize) -> Kind
     ensures { result ≡ (slice_index_or (view_columns schema.now.tables view.now) at no_column).kind }
 {
     match view.items.as_slice().get(at) {
-        None => Kind::Int,
+        None => Kind::Big,
         Some(item) => kind_of_item(schema, view.tables.as_slice(), item),
     }
 }
 
-/// The kind of a column of the view with this number, a number where there is none.
+/// The kind of a column of the view with this number, that of sums where there is none.
 fn kind_in_view_at(schema: &Schema, number: u32, at: usize) -> Kind
     ensures { result ≡ (slice_index_or (view_columns schema.now.tables (view_at schema.now.views number)) at no_column).kind }
 {
     if number < schema.views() {
         kind_in_view(schema, schema.view(number), at)
     } else {
-        Kind::Int
+        Kind::Big
     }
 }
 
-/// The kind of a column of a table or view, a number where there is none.
+/// The kind of a column of a table or view, that of sums where there is none.
 fn kind_in(schema: &Schema, rel: Option<Rel>, at: usize) -> Kind
     ensures { result ≡ (slice_index_or (columns_of schema.now.tables schema.now.views rel) at no_column).kind }
 {
     match rel {
-        None => Kind::Int,
-        Some(Rel::Table(number)) => kind_in_table(table_columns(schema, number), at),
+        None => Kind::Big,
+        Some(Rel::Table(number)) => kind_in_table(schema.columns(number), at),
         Some(Rel::View(number)) => kind_in_view_at(schema, number, at),
     }
 }
@@ -212,18 +203,18 @@ impl Source<'_> {
     {
         match self.rel {
             None => 0,
-            Some(Rel::Table(number)) => table_columns(schema, number).len(),
+            Some(Rel::Table(number)) => schema.columns(number).len(),
             Some(Rel::View(number)) => view_items(schema, number).len(),
         }
     }
 }
 
-/// The kind of a column of the aliases, a number where there is none.
+/// The kind of a column of the aliases, that of sums where there is none.
 pub(crate) fn kind_at(schema: &Schema, sources: &[Source<'_>], place: Place) -> Kind
     ensures { result ≡ kind_at (map (alias_seen schema.now.tables schema.now.views) sources.now) place }
 {
     match sources.get(place.alias) {
-        None => Kind::Int,
+        None => Kind::Big,
         Some(source) => kind_in(schema, source.rel, place.column),
     }
 }
