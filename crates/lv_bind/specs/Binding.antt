@@ -1,6 +1,6 @@
 -- The bound statement: names are numbers.
 use Rattle.std.specs.Prelude.{◌≤◌, ℕ, suc, nat_lt, List, [], ◌∷◌, ◌++◌, map, length, position, unwrap_or, Option, Some, None, Bool}
-use Rattle.std.specs.List.{range_with_len, AllByRecursion}
+use Rattle.std.specs.List.{range_with_len}
 use Rattle.std.specs.Str.{bytes_eq}
 use Rattle.lv_values.specs.declared.value.Value.{Value}
 use Rattle.lv_values.specs.declared.value.Value.TheVariants as v
@@ -46,12 +46,12 @@ use Rattle.lv_schema.specs.declared.view.ViewDef.{ViewDef}
 use Rattle.lv_schema.specs.Catalog.{rel_named}
 use Rattle.lv_bind.specs.declared.sources.Place.{Place}
 use Rattle.lv_bind.specs.Pieces.{alone}
-use Rattle.lv_bind.specs.Sources.{Alias, place_of}
+use Rattle.lv_bind.specs.Sources.{Alias, AreNarrow, place_of}
 
 -- aliases and columns that are few enough to be numbered in a byte
 pub record IsNarrow (sources : List Alias) : Type 0 where
   pub few : length sources ≤ 4
-  pub narrow : AllByRecursion (λ s. length s.columns ≤ 16) sources
+  pub narrow : AreNarrow sources
 
 abbrev pub col_at : Place → Col
 col_at place = record { alias = place.alias; column = place.column }
