@@ -1,27 +1,23 @@
 -- What a statement is bound to, or why it is refused: of the faults 2 to 12 the lowest number, and of that the first
 -- place.
-use Rattle.std.specs.Prelude.{Bool, List, [], ◌∷◌, ◌++◌, map, Option, Some, None, Result, Ok, Err}
+use Rattle.std.specs.Prelude.{Bool, List, [], ◌∷◌, ◌++◌, Option, Some, None, Result, Ok, Err}
 use Rattle.std.specs.Option.{option_map, option_or}
 use Rattle.lv_parser.specs.declared.tree.Stmt.{Stmt}
-use Rattle.lv_parser.specs.declared.tree.Stmt.TheVariants as stmt
 use Rattle.lv_schema.specs.declared.bound.Bound.{Bound}
-use Rattle.lv_schema.specs.declared.bound.Bound.TheVariants as bound
-use Rattle.lv_schema.specs.declared.change.Change.TheVariants as change
 use Rattle.lv_schema.specs.declared.fault.Fault.{Fault}
 use Rattle.lv_schema.specs.declared.fault.Fault.TheVariants as fault
 use Rattle.lv_schema.specs.declared.table.TableDef.{TableDef}
 use Rattle.lv_schema.specs.declared.view.ViewDef.{ViewDef}
-use Rattle.lv_schema.specs.Catalog.{rel_named}
 use Rattle.lv_bind.specs.Ambiguous.{ambiguous}
 use Rattle.lv_bind.specs.Assigned.{assigned}
-use Rattle.lv_bind.specs.Binding.{bound_table, bound_view, bound_rows, bound_set, bound_cond, bound_rels, bound_list, bound_order, table_number}
+use Rattle.lv_bind.specs.Binding.{bound_among}
 use Rattle.lv_bind.specs.InUse.{in_use}
 use Rattle.lv_bind.specs.Kinds.{kinds}
 use Rattle.lv_bind.specs.Limits.{limits}
 use Rattle.lv_bind.specs.Profile.{profile}
 use Rattle.lv_bind.specs.Ranges.{ranges}
 use Rattle.lv_bind.specs.Rights.{outside_setup, in_transaction, no_transaction}
-use Rattle.lv_bind.specs.Sources.{Alias, first, sources_of}
+use Rattle.lv_bind.specs.Sources.{first, sources_of}
 use Rattle.lv_bind.specs.Unknown.{unknown}
 
 -- the first that is there
@@ -54,25 +50,6 @@ later_faults tables views setup live s =
 -- of all of them, by their numbers
 abbrev pub faults : List TableDef → List ViewDef → Bool → Bool → Stmt → List (Option Fault)
 faults tables views setup live s = reading_faults tables views s ++ profile_fault tables views s ∷ later_faults tables views setup live s
-
--- a statement with these aliases, once nothing refuses it
-abbrev pub bound_among : List TableDef → List ViewDef → List Alias → Stmt → Bound
-bound_among tables views sources (stmt.CreateTable name cols key) = bound.Table (bound_table tables name cols key)
-bound_among tables views sources (stmt.CreateView name items refs c groups) = bound.View (bound_view tables views sources name items refs c groups)
-bound_among tables views sources (stmt.Insert table tuples) = bound.Change (change.Insert (table_number (rel_named tables views table.name)) (bound_rows tuples))
-bound_among tables views sources (stmt.Update table sets c) =
-    bound.Change (change.Update (table_number (rel_named tables views table.name)) (map (bound_set sources) sets) (bound_cond sources c))
-bound_among tables views sources (stmt.Delete table c) = bound.Change (change.Delete (table_number (rel_named tables views table.name)) (bound_cond sources c))
-bound_among tables views sources (stmt.Select list refs c order) = bound.Query (record {
-  rels = bound_rels tables views refs;
-  cond = bound_cond sources c;
-  list = bound_list sources list;
-  order = bound_order sources order;
-})
-bound_among tables views sources stmt.Begin = bound.Begin
-bound_among tables views sources stmt.Commit = bound.Commit
-bound_among tables views sources stmt.Rollback = bound.Rollback
-bound_among tables views sources stmt.ShowTasks = bound.Tasks
 
 abbrev pub ok_unless : {A : Type 0} → Option Fault → A → Result A Fault
 ok_unless None a = Ok a

@@ -1,6 +1,6 @@
 -- The aliases of a statement, and the places that a column fits.
-use Rattle.std.specs.Prelude.{ℕ, suc, Bool, true, cond, List, [], ◌∷◌, map, length, position, slice_index_or, unwrap_or, Option, Some, None}
-use Rattle.std.specs.List.{cons_option}
+use Rattle.std.specs.Prelude.{◌≤◌, ℕ, suc, Bool, true, cond, List, [], ◌∷◌, map, length, position, slice_index_or, unwrap_or, Option, Some, None}
+use Rattle.std.specs.List.{cons_option, AllByRecursion}
 use Rattle.std.specs.Option.{option_map, option_map_or}
 use Rattle.std.specs.Str.{bytes_eq}
 use Rattle.lv_parser.specs.declared.tree.ColName.{ColName}
@@ -29,6 +29,10 @@ shown_unless well name = cond well [] (name ∷ [])
 pub record Alias : Type 0 where
   pub name : List ℕ
   pub columns : List Column
+
+-- aliases of at most 16 columns each
+abbrev pub AreNarrow : List Alias → Type 0
+AreNarrow = AllByRecursion (λ s. length s.columns ≤ 16)
 
 -- the columns of what a name stands for, none where it stands for nothing
 abbrev pub columns_of : List TableDef → List ViewDef → Option Rel → List Column

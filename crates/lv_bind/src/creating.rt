@@ -2,7 +2,6 @@
 ghost use Rattle.std.specs.Prelude.{◌≡◌, ◌<◌, ◌≤◌, map, length, position, IfOk, IfSome};
 ghost use Rattle.std.specs.Str.{bytes_eq};
 ghost use Rattle.lv_bind.specs.Binding.{IsNarrow, bound_kind, bound_column, bound_table, key_place, bound_item, table_numbers, bound_view};
-ghost use Rattle.lv_bind.specs.Profile.{names_view};
 ghost use Rattle.lv_bind.specs.Seen.{alias_seen};
 
 use crate::binding::{bound_col, bound_cols, bound_cond, table_number};
@@ -10,7 +9,7 @@ use crate::pieces::Mention;
 use crate::sources::Source;
 use lv_parser::{ColName, ColumnKind, ColumnTree, CondTree, ItemTree, Named, RefTree};
 use lv_schema::{
-    Column, Columns, Item, Kind, Positions, Rel, Schema, TableDef, TableNumbers, ViewDef, ViewItems,
+    Column, Columns, Item, Kind, Positions, Schema, TableDef, TableNumbers, ViewDef, ViewItems,
 };
 use lv_values::{Copying, NoMemory, Text};
 use std::alloc::Global;
@@ -160,16 +159,4 @@ pub(crate) fn bound_view(
         grouped: !groups.is_empty(),
         groups: bound_cols(alloc, schema, sources, groups)?,
     })
-}
-
-/// Whether FROM names a view.
-pub(crate) fn names_view(schema: &Schema, refs: &[RefTree]) -> bool
-    ensures { result ≡ names_view schema.now.tables schema.now.views refs.now }
-{
-    for table in refs {
-        if let Some(Rel::View(_)) = schema.find(&table.name.name) {
-            return true;
-        }
-    }
-    false
 }

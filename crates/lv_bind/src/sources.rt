@@ -1,12 +1,13 @@
 //! The aliases of a statement, and where a column that it names is.
-ghost use Rattle.std.specs.Prelude.{◌≡◌, ◌++◌, [], map, position, slice_index_or, OnOk, IfOk};
+ghost use Rattle.std.specs.Prelude.{◌≡◌, ◌++◌, ◌∷◌, [], map, position, slice_index_or, OnOk, IfOk};
 ghost use Rattle.std.specs.Str.{bytes_eq};
 ghost use Rattle.std.specs.Option.{option_copied};
-ghost use Rattle.lv_bind.specs.Sources.{no_column, sources_of, source_of, alias_of, columns_of, places, place_of, fit_of, place_in, goes_by, kind_at, column_named};
+ghost use Rattle.lv_bind.specs.Sources.{AreNarrow, no_column, sources_of, source_of, alias_of, columns_of, places, place_of, fit_of, place_in, goes_by, kind_at, column_named};
 ghost use Rattle.lv_bind.specs.Seen.{alias_seen, column_seen};
 ghost use Rattle.lv_schema.specs.declared.table.Column.{Column};
 ghost use Rattle.lv_schema.specs.declared.table.Kind.TheVariants.{Big};
 ghost use Rattle.lv_schema.specs.Bound.{item_name, rel_columns, view_columns, listed_column, alias_columns};
+ghost use Rattle.lv_schema.specs.Catalog.{rel_named};
 ghost use Rattle.lv_schema.specs.World.{table_at, view_at};
 
 use crate::pieces::Mention;
@@ -32,19 +33,34 @@ pub(crate) fn alias_of(table: &RefTree) -> &Named
     }
 }
 
+/// Puts an alias of the table or view with this name at the end.
+#[tactic(auto, using(crate::proofs::NarrowLemmas::narrow_pushed))]
+fn push_source<'a>(
+    schema: &Schema,
+    alias: &'a Text,
+    name: &Text,
+    out: &mut Items<Source<'a>>,
+) -> Result<(), NoMemory>
+    ensures added { OnOk result (let seen = map (alias_seen schema.now.tables schema.now.views) in seen out.new ≡ seen out.old ++ record { name = alias.now; columns = columns_of schema.now.tables schema.now.views (rel_named schema.now.tables schema.now.views name.now) } ∷ []) }
+    ensures narrow { OnOk result (let seen = map (alias_seen schema.now.tables schema.now.views) in AreNarrow (seen out.old) → AreNarrow (seen out.new)) }
+{
+    out.push(Source {
+        alias,
+        rel: schema.find(name),
+    })
+}
+
 /// Puts the aliases of a FROM at the end.
 fn push_refs<'a>(
     schema: &Schema,
     refs: &'a [RefTree],
     out: &mut Items<Source<'a>>,
 ) -> Result<(), NoMemory>
-    ensures { OnOk result (let seen = map (alias_seen schema.now.tables schema.now.views) in seen out.new ≡ seen out.old ++ map (source_of schema.now.tables schema.now.views) refs.now) }
+    ensures added { OnOk result (let seen = map (alias_seen schema.now.tables schema.now.views) in seen out.new ≡ seen out.old ++ map (source_of schema.now.tables schema.now.views) refs.now) }
+    ensures narrow { OnOk result (let seen = map (alias_seen schema.now.tables schema.now.views) in AreNarrow (seen out.old) → AreNarrow (seen out.new)) }
 {
     for table in refs {
-        out.push(Source {
-            alias: &alias_of(table).name,
-            rel: schema.find(&table.name.name),
-        })?;
+        push_source(schema, &alias_of(table).name, &table.name.name, out)?;
     }
     Ok(())
 }
@@ -55,7 +71,8 @@ pub(crate) fn sources<'a>(
     schema: &Schema,
     stmt: &'a Stmt,
 ) -> Result<Items<Source<'a>>, NoMemory>
-    ensures { IfOk result (λ found. map (alias_seen schema.now.tables schema.now.views) found ≡ sources_of schema.now.tables schema.now.views stmt.now) }
+    ensures are { IfOk result (λ found. map (alias_seen schema.now.tables schema.now.views) found ≡ sources_of schema.now.tables schema.now.views stmt.now) }
+    ensures narrow { IfOk result (λ found. AreNarrow (map (alias_seen schema.now.tables schema.now.views) found)) }
 {
     let mut out = Items::new(alloc);
     match stmt {
@@ -63,10 +80,7 @@ pub(crate) fn sources<'a>(
             push_refs(schema, refs.as_slice(), &mut out)?;
         }
         Stmt::Update { table, .. } | Stmt::Delete { table, .. } => {
-            out.push(Source {
-                alias: &table.name,
-                rel: schema.find(&table.name),
-            })?;
+            push_source(schema, &table.name, &table.name, &mut out)?;
         }
         _ => (),
     }

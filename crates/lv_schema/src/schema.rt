@@ -87,7 +87,8 @@ impl Schema {
 
     /// What has this name. Cost: one look-up in the tables, and one in the views where no table has it.
     pub fn find(&self, name: &Text) -> Option<Rel>
-        ensures { result ≡ rel_named self.now.tables self.now.views name.now }
+        ensures found { result ≡ rel_named self.now.tables self.now.views name.now }
+        ensures sound { IsSchema self.now.tables self.now.views }
     {
         if let Some(at) = self.tables.get_index_of(name) {
             return Some(Rel::Table(at as u32));

@@ -1,6 +1,6 @@
 use Rattle.std.proofs.Common.{◌≡◌, map, drop, take}
 use Rattle.lv_bind.specs.Profile.{names_view}
-use Rattle.lv_bind.proofs.creating.names_view.Given as goal
+use Rattle.lv_bind.proofs.profile.names_view.Given as goal
 
 abbrev pub invariant-loop-table : goal.invariant-loop-table
 invariant-loop-table l =
