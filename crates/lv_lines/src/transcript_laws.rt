@@ -12,12 +12,10 @@ use crate::names::Names;
 pub fn text_tells_entries(names: &Names)
     requires { IsNames names.now }
     ensures { (a b : List AnEntry) → AreEntries names.now a → AreEntries names.now b → text_of names.now a ≡ text_of names.now b → a ≡ b }
-{
-}
+{}
 
 /// The names of programs, and of tables and views, are words.
 pub fn names_are_words()
     ensures programs { (name : List ℕ) → IsLowerName name → IsWord name }
     ensures schema { (name : List ℕ) → is_name name ≡ true → IsWord name }
-{
-}
+{}
