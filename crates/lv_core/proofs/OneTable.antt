@@ -56,7 +56,7 @@ acted_one tables t db (a ∷ actions) h =
   where
     same : (t < length db) ⊎ (length db ≤ t)
         → set db t (rows_after (table_at tables t).key (rows_of (set db t (acted_rows (table_at tables t).key a.kind a.row (rows_of db t))) t) actions)
-          ≡ set db t (rows_after (table_at tables t).key (acted_rows (table_at tables t).key a.kind a.row (rows_of db t)) actions)
+        ≡ set db t (rows_after (table_at tables t).key (acted_rows (table_at tables t).key a.kind a.row (rows_of db t)) actions)
     same (inl l) = ap (λ rows. set db t (rows_after (table_at tables t).key rows actions)) (get_or-set_same db t (acted_rows (table_at tables t).key a.kind a.row (rows_of db t)) [] l)
     same (inr l) = set_past db t (rows_after (table_at tables t).key (rows_of (set db t (acted_rows (table_at tables t).key a.kind a.row (rows_of db t))) t) actions) l
         ∙ sym (set_past db t (rows_after (table_at tables t).key (acted_rows (table_at tables t).key a.kind a.row (rows_of db t)) actions) l)
@@ -77,8 +77,8 @@ prepared_is tables change o t def rows after count actions numbers at is_def is_
     let acts : change_actions change rows ≡ actions = ap (λ (e : Effect). e.actions) made in
     let on : AllOn t actions = subst (λ (n : ℕ). AllOn n actions) (sym at) (subst (AllOn (changed_table change)) acts (change_on change rows)) in
     let own : set o.own t after ≡ acted_all tables o.own actions =
-        ap (set o.own t) (is_after ∙ ap (λ (d : TableDef). rows_after d.key rows actions) is_def ∙ ap (λ l. rows_after (table_at tables t).key l actions) is_rows)
-        ∙ sym (acted_one tables t o.own actions on) in
+    ap (set o.own t) (is_after ∙ ap (λ (d : TableDef). rows_after d.key rows actions) is_def ∙ ap (λ l. rows_after (table_at tables t).key l actions) is_rows)
+    ∙ sym (acted_one tables t o.own actions on) in
     record {
       effect = effect;
       given =

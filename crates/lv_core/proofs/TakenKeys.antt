@@ -43,7 +43,7 @@ before_more i new rows d h =
 
 here : (key : List ℕ) (i : ℕ) (new rows : List (List Value)) (x : List Value) → i < length new → x ≡ get_or new i x
     → first_taken key (before i new rows) (drop i new)
-      ≡ cond (has_key key x (take i new) || has_key key x rows) (Some (values_at key x)) (first_taken key (x ∷ before i new rows) (drop (i + 1) new))
+    ≡ cond (has_key key x (take i new) || has_key key x rows) (Some (values_at key x)) (first_taken key (x ∷ before i new rows) (drop (i + 1) new))
 here key i new rows x h e =
     ap (first_taken key (before i new rows)) (drop_more new i x h ∙ ap (λ y. y ∷ drop (i + 1) new) (sym e))
     ∙ ap (λ b. cond b (Some (values_at key x)) (first_taken key (x ∷ before i new rows) (drop (i + 1) new))) (has_before key x i new rows)

@@ -38,9 +38,9 @@ pub fn table_of(change: &Change) -> u32
     ensures { result ≡ changed_table change.now }
 {
     match change {
-        Change::Insert { table, .. } | Change::Update { table, .. } | Change::Delete { table, .. } => {
-            *table
-        }
+        Change::Insert { table, .. }
+        | Change::Update { table, .. }
+        | Change::Delete { table, .. } => { *table }
     }
 }
 
@@ -106,12 +106,7 @@ fn keep(transaction: &mut Open, prepared: Prepared) -> Result<(), NoMemory>
 
 impl Whole {
     /// INSERT, UPDATE or DELETE in a live transaction. Answers the number of rows. Cost: as `prepare`.
-    pub fn change(
-        &mut self,
-        alloc: Global,
-        session: usize,
-        change: &Change,
-    ) -> Result<u64, Stop>
+    pub fn change(&mut self, alloc: Global, session: usize, change: &Change) -> Result<u64, Stop>
         requires whole { IsWhole self.old }
         requires session { session < SESSIONS }
         requires live { IsSome (slice_index_or self.old.sessions.items session None) }

@@ -16,7 +16,10 @@ use std::alloc::Global;
 /// What a commit of a transaction makes: the database and the actions, or the fault that rolls it back.
 #[derive(Drop)]
 enum Commit {
-    Done { database: Database, actions: Actions },
+    Done {
+        database: Database,
+        actions: Actions,
+    },
     RolledBack(Fault),
 }
 
@@ -29,10 +32,22 @@ impl Whole {
     {
         let actions = transaction.actions.as_slice();
         let commits = self.commits.as_slice();
-        if let Some(fault) = conflict(alloc, &self.schema, commits, transaction.snapshot, actions)? {
+        if let Some(fault) = conflict(
+            alloc,
+            &self.schema,
+            commits,
+            transaction.snapshot,
+            actions,
+        )? {
             return Ok(Commit::RolledBack(fault));
         }
-        let database = merged(alloc, &self.schema, actions, &transaction.own, self.last_state())?;
+        let database = merged(
+            alloc,
+            &self.schema,
+            actions,
+            &transaction.own,
+            self.last_state(),
+        )?;
         if let Some(fault) = first_full(&database, self.schema.tables()) {
             return Ok(Commit::RolledBack(fault));
         }

@@ -9,7 +9,6 @@ use crate::effects::key_of;
 use crate::places::{Place, Places};
 use lv_schema::{Action, Actions, Fault, Schema};
 use lv_values::{Copying, NoMemory, compare_to_key};
-
 use std::alloc::Global;
 
 /// The positions of a table's key, none where there is no such table.
@@ -24,11 +23,7 @@ pub fn key_positions(schema: &Schema, table: u32) -> &[u8]
 }
 
 /// The places that actions write, one for each action.
-fn written_places(
-    alloc: Global,
-    schema: &Schema,
-    actions: &[Action],
-) -> Result<Places, NoMemory>
+fn written_places(alloc: Global, schema: &Schema, actions: &[Action]) -> Result<Places, NoMemory>
     ensures { IfOk result (λ places. places ≡ map (written_place schema.now.tables) actions.now) }
 {
     let mut places = Places::new(alloc);
@@ -45,7 +40,12 @@ fn is_at(schema: &Schema, action: &Action, place: &Place) -> bool
     ensures { result ≡ same_place place.now (written_place schema.now.tables action.now) }
 {
     place.table() == action.table
-        && compare_to_key(key_positions(schema, action.table), &action.row, place.key()).is_eq()
+        && compare_to_key(
+            key_positions(schema, action.table),
+            &action.row,
+            place.key(),
+        )
+        .is_eq()
 }
 
 /// Whether one of the actions writes the place.
@@ -56,12 +56,7 @@ fn writes(schema: &Schema, actions: &[Action], place: &Place) -> bool
 }
 
 /// The last commit above the snapshot that writes the place. Cost: the actions of the commits above the snapshot.
-fn last_writer(
-    schema: &Schema,
-    commits: &[Actions],
-    snapshot: u64,
-    place: &Place,
-) -> Option<u64>
+fn last_writer(schema: &Schema, commits: &[Actions], snapshot: u64, place: &Place) -> Option<u64>
     requires { length commits.now < 2 ^ 63 }
     ensures { result ≡ last_writer_in schema.now.tables commits.now snapshot place.now }
 {

@@ -36,7 +36,8 @@ pub fn key_of(alloc: Global, key: &[u8], row: &Row) -> Result<Row, NoMemory>
 fn has_key(key: &[u8], row: &Row, rows: &[Row]) -> bool
     ensures { result ≡ has_key key.now row.now rows.now }
 {
-    rows.iter().any(|other| compare_keys(key, row, other).is_eq())
+    rows.iter()
+        .any(|other| compare_keys(key, row, other).is_eq())
 }
 
 /// Whether the row's key is taken, by an earlier row or by one of the table. Cost: a pass over both.

@@ -25,9 +25,7 @@ pub fn rows_of(database: &Database, table: u32) -> &[Row]
 fn is_written(actions: &[Action], table: u32, key: &[u8], row: &Row) -> bool
     ensures { result ≡ is_written actions.now table key.now row.now }
 {
-    actions
-        .iter()
-        .any(|a| table == a.table && compare_keys(key, row, &a.row).is_eq())
+    actions.iter().any(|a| table == a.table && compare_keys(key, row, &a.row).is_eq())
 }
 
 /// Appends the rows whose keys the actions do not write.

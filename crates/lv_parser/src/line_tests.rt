@@ -215,8 +215,10 @@ fn places(alloc: Global, literals: &Literals) -> Result<Items<(i128, u32)>, NoMe
 
 #[test]
 fn places_count_bytes_from_1(rt: HostRuntime) -> Result<(), Fail> {
-    let wanted: [(u32, [(i128, u32); 2]); 2] =
-        [(25, [(1, 26), (0, 29)]), (36, [(-2, 37), (7, 42)])];
+    let wanted: [(u32, [(i128, u32); 2]); 2] = [
+        (25, [(1, 26), (0, 29)]),
+        (36, [(-2, 37), (7, 42)]),
+    ];
     let line = "Insert into ITEM values (1, 'é'), (-\t2, 7);";
     match tree(rt.alloc(), line)? {
         Some(Stmt::Insert { table, tuples }) => {
@@ -225,7 +227,10 @@ fn places_count_bytes_from_1(rt: HostRuntime) -> Result<(), Fail> {
             assert_eq!(rt; tuples.len(), wanted.len());
             for (tuple, (byte, values)) in tuples.as_slice().iter().zip(wanted.iter()) {
                 assert_eq!(rt; tuple.byte, *byte);
-                assert_eq!(rt; places(rt.alloc(), &tuple.values)?.as_slice(), values.as_slice());
+                assert_eq!(rt;
+                    places(rt.alloc(), &tuple.values)?.as_slice(),
+                    values.as_slice()
+                );
             }
             Ok(())
         }
@@ -236,12 +241,14 @@ fn places_count_bytes_from_1(rt: HostRuntime) -> Result<(), Fail> {
 /// The numbers of tables, of the condition's parts, and of the columns of the order; and whether the first part is an Or.
 fn counts(alloc: Global, line: &str) -> Result<Option<(usize, usize, usize, bool)>, NoMemory> {
     match tree(alloc, line)? {
-        Some(Stmt::Select {
-            list: _,
-            refs,
-            cond,
-            order,
-        }) => match cond {
+        Some(
+            Stmt::Select {
+                list: _,
+                refs,
+                cond,
+                order,
+            },
+        ) => match cond {
             CondTree::And(parts) => {
                 let is_or = matches!(parts.as_slice().first(), Some(CondTree::Or(_)));
                 Ok(Some((refs.len(), parts.len(), order.len(), is_or)))

@@ -8,8 +8,8 @@ pub returns-then-writes : goal.returns-then-writes
 returns-then-writes c =
     let p = is_writer c.args.schema.now.tables c.args.commits.now c.args.snapshot c.args.place.now in
     let found : p c.loop-last.last ≡ true =
-        writer_here c.args.schema.now.tables c.args.commits.now c.args.snapshot c.loop-last.last c.args.place.now c.index-commits-last.result true
-        c.if-last-snapshot.true c.loop-last.invariant.0 c.index-commits-last.is (ap (λ a. writes c.args.schema.now.tables a c.args.place.now) (sym c.as_slice.ensures) ∙ sym c.writes.ensures ∙ c.if-writes.true) in
+    writer_here c.args.schema.now.tables c.args.commits.now c.args.snapshot c.loop-last.last c.args.place.now c.index-commits-last.result true
+    c.if-last-snapshot.true c.loop-last.invariant.0 c.index-commits-last.is (ap (λ a. writes c.args.schema.now.tables a c.args.place.now) (sym c.as_slice.ensures) ∙ sym c.writes.ensures ∙ c.if-writes.true) in
     sym (c.loop-last.invariant.1 ∙ last_at p c.loop-last.last c.loop-last-test.true found)
 
 pub returns-else-last-snapshot : goal.returns-else-last-snapshot

@@ -9,7 +9,7 @@ abbrev pub invariant-loop-last : goal.invariant-loop-last
 invariant-loop-last l =
     (l.last ≤ length l.commits)
     × (last_or None (filter (is_writer l.schema.tables l.commits l.snapshot l.place) (numbers (length l.commits)))
-        ≡ last_or None (filter (is_writer l.schema.tables l.commits l.snapshot l.place) (numbers l.last)))
+    ≡ last_or None (filter (is_writer l.schema.tables l.commits l.snapshot l.place) (numbers l.last)))
 
 abbrev pub decreases-loop-last : goal.decreases-loop-last
 decreases-loop-last l = l.last

@@ -8,4 +8,4 @@ abbrev pub invariant-loop-table : goal.invariant-loop-table
 invariant-loop-table l =
     (l.table ≤ l.tables)
     × (slice_get (filter (λ t. nat_lt 65535 (length (rows_of l.database t))) (range_with_len 0 l.tables)) 0
-        ≡ slice_get (filter (λ t. nat_lt 65535 (length (rows_of l.database t))) (range_with_len l.table (l.tables - l.table))) 0)
+    ≡ slice_get (filter (λ t. nat_lt 65535 (length (rows_of l.database t))) (range_with_len l.table (l.tables - l.table))) 0)

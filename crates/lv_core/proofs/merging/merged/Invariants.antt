@@ -7,4 +7,4 @@ abbrev pub invariant-loop-table : goal.invariant-loop-table
 invariant-loop-table l =
     (l.table ≤ length l.schema.tables)
     × (l.database ++ map (merged_with l.schema.tables l.actions l.own l.others) (range_with_len l.table (length l.schema.tables - l.table))
-        ≡ map (merged_with l.schema.tables l.actions l.own l.others) (range_with_len 0 (length l.schema.tables)))
+    ≡ map (merged_with l.schema.tables l.actions l.own l.others) (range_with_len 0 (length l.schema.tables)))
