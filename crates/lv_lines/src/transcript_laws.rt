@@ -12,8 +12,7 @@ use crate::names::Names;
 pub fn text_tells_entries(names: &Names)
     requires { IsNames names.now }
     ensures { (a b : List AnEntry) → AreEntries names.now a → AreEntries names.now b → text_of names.now a ≡ text_of names.now b → a ≡ b }
-{
-}
+{}
 
 /// The names of programs, and of tables and views, are words; and those of a program's sessions, behind that of
 /// the setup, are words that differ.

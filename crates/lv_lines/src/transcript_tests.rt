@@ -135,7 +135,10 @@ fn is_answer(entry: &Entry) -> bool {
             forced,
             reply: Reply::Rows(rows),
         } => match (forced.as_slice(), rows.as_slice()) {
-            ([step], [row]) => step.view == 1 && step.lo == 0 && step.hi == 3 && is_row(row.as_slice()),
+            ([step], [row]) => step.view == 1
+                && step.lo == 0
+                && step.hi == 3
+                && is_row(row.as_slice()),
             _ => false,
         },
         _ => false,
@@ -146,7 +149,11 @@ fn is_answer(entry: &Entry) -> bool {
 fn entries_are_what_their_text_says(rt: HostRuntime) {
     let alloc = rt.alloc();
     match names_of(alloc) {
-        Ok(names) => match read_entries(alloc, &names, b"force lines 0 3\nb 4 rows 1\n| -7 | 'it''s'\n") {
+        Ok(names) => match read_entries(
+            alloc,
+            &names,
+            b"force lines 0 3\nb 4 rows 1\n| -7 | 'it''s'\n",
+        ) {
             Ok(Some(entries)) => assert!(rt; entries.len() == 1 && is_answer(entries.get(0))),
             _ => assert!(rt; false),
         },
