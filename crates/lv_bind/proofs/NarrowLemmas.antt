@@ -1,20 +1,25 @@
 -- Places among few aliases of few columns fit in a byte.
-use Rattle.std.proofs.Common.{◌≡◌, ◌<◌, ◌≤◌, ◌+◌, ◌-◌, ℕ, zero, suc, map, Bool, true, false, cond, List, [], ◌∷◌, length, Option, Some, None, IfSome, refl, sym, arith, get_or, ◌++◌, ap, ◌∙◌}
+use Rattle.std.proofs.Common.{◌≡◌, ◌<◌, ◌≤◌, ◌+◌, ◌-◌, ℕ, zero, suc, map, Bool, true, false, cond, List, [], ◌∷◌, length, Option, Some, None, IfSome, refl, sym, arith, get_or, ◌++◌, ap, ◌∙◌, ⊎_elim}
 use Rattle.std.specs.List.{AllByRecursion, cons_option, position, range_with_len}
 use Rattle.std.specs.Option.{option_map, unwrap_or}
 use Rattle.std.specs.Str.{bytes_eq}
-use Rattle.std.proofs.lemmas.List.{append_assoc}
+use Rattle.std.proofs.lemmas.Bool.{cases_lt}
+use Rattle.std.proofs.lemmas.List.{append_assoc, length-map, map-append, get_or_past}
 use Rattle.std.proofs.lemmas.List.Quantifiers.{position-Some}
 use Rattle.lv_parser.specs.declared.tree.ColName.{ColName}
 use Rattle.lv_schema.specs.declared.cond.Col.{Col}
+use Rattle.lv_schema.specs.declared.query.Rel.{Rel}
+use Rattle.lv_schema.specs.declared.query.Rel.TheVariants.{Table, View}
 use Rattle.lv_schema.specs.declared.table.TableDef.{TableDef}
 use Rattle.lv_schema.specs.declared.view.ViewDef.{ViewDef}
-use Rattle.lv_schema.specs.Catalog.{no_column}
+use Rattle.lv_schema.specs.Bound.{alias_columns, listed_column, view_columns}
+use Rattle.lv_schema.specs.Sound.{IsSchema}
+use Rattle.lv_schema.specs.World.{table_at, view_at, no_table, no_view}
 use Rattle.lv_bind.specs.declared.sources.Place.{Place}
 use Rattle.lv_bind.specs.declared.sources.Source.{Source}
 use Rattle.lv_bind.specs.Binding.{IsNarrow}
 use Rattle.lv_bind.specs.Seen.{alias_seen}
-use Rattle.lv_bind.specs.Sources.{Alias, first, goes_by, column_named, place_at, place_in, places_from, places, place_of}
+use Rattle.lv_bind.specs.Sources.{Alias, AreNarrow, no_column, columns_of, first, goes_by, column_named, place_at, place_in, places_from, places, place_of}
 
 abbrev IsAt : ℕ → ℕ → Place → Type 0
 IsAt n most p = (p.alias < n + most) × (p.column < 16)
@@ -74,3 +79,38 @@ listed_more alias width column out new start lt n was =
     let more : range_with_len column (width - column) ≡ column ∷ range_with_len (column + 1) (width - (column + 1)) = range_more column width lt in
     rw n (append_assoc out (col_of alias column ∷ []) (map (col_of alias) (range_with_len (column + 1) (width - (column + 1))))
     ∙ ap (λ l. out ++ map (col_of alias) l) (sym more) ∙ was)
+
+-- the columns of what a name stands for in a sound schema
+module _ (tables : List TableDef) (views : List ViewDef) (sound : IsSchema tables views) where
+  table_narrow : (t : ℕ) → length (table_at tables t).columns ≤ 16
+  table_narrow t = ⊎_elim in_use past (cases_lt t (length tables))
+    where
+      in_use : t < length tables → length (table_at tables t).columns ≤ 16
+      in_use lt = (sound.each_table t lt).few_columns
+
+      past : length tables ≤ t → length (table_at tables t).columns ≤ 16
+      past le = rw (get_or_past tables t no_table le) (omega arith)
+
+  view_narrow : (v : ℕ) → length (view_columns tables (view_at views v)) ≤ 16
+  view_narrow v = ⊎_elim in_use past (cases_lt v (length views))
+    where
+      in_use : v < length views → length (view_columns tables (view_at views v)) ≤ 16
+      in_use lt = rw (length-map (view_at views v).items (listed_column (alias_columns tables (view_at views v).tables))) (sound.each_view v lt).few_items
+
+      past : length views ≤ v → length (view_columns tables (view_at views v)) ≤ 16
+      past le = rw (get_or_past views v no_view le) (omega arith)
+
+  pub rel_narrow : (rel : Option Rel) → length (columns_of tables views rel) ≤ 16
+  rel_narrow None = omega arith
+  rel_narrow (Some (Table t)) = table_narrow t
+  rel_narrow (Some (View v)) = view_narrow v
+
+push_narrow : (xs : List Alias) (s : Alias) → AreNarrow xs → length s.columns ≤ 16 → AreNarrow (xs ++ s ∷ [])
+push_narrow [] s h e = (e, tt)
+push_narrow (x ∷ xs) s h e = (h.0, push_narrow xs s h.1 e)
+
+-- one more alias at the end
+pub narrow_pushed : (tables : List TableDef) (views : List ViewDef) (old new : List Source) (s : Source) → IsSchema tables views → new ≡ old ++ s ∷ []
+    → AreNarrow (map (alias_seen tables views) old) → AreNarrow (map (alias_seen tables views) new)
+narrow_pushed tables views old new s sound n h =
+    rw (n, map-append (alias_seen tables views) old (s ∷ [])) (push_narrow (map (alias_seen tables views) old) (alias_seen tables views s) h (rel_narrow tables views sound s.rel))

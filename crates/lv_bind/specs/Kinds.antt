@@ -23,10 +23,15 @@ use Rattle.lv_schema.specs.declared.table.Column.{Column}
 use Rattle.lv_schema.specs.declared.table.Kind.{Kind}
 use Rattle.lv_schema.specs.declared.table.TableDef.{TableDef}
 use Rattle.lv_schema.specs.declared.view.ViewDef.{ViewDef}
-use Rattle.lv_schema.specs.Bound.{is_text, both_or_none}
-use Rattle.lv_schema.specs.Catalog.{table_at, rel_named}
+use Rattle.lv_schema.specs.Bound.{is_text}
+use Rattle.lv_schema.specs.Catalog.{rel_named}
+use Rattle.lv_schema.specs.World.{table_at}
 use Rattle.lv_bind.specs.Pieces.{Sides, comparisons_in, alone}
 use Rattle.lv_bind.specs.Sources.{Alias, place_of, kind_at, sources_of, shown_unless}
+
+abbrev pub both_or_none : Bool → Bool → Bool
+both_or_none true b = b
+both_or_none false b = not b
 
 abbrev pub value_is_text : Value → Bool
 value_is_text (v.Num n) = false

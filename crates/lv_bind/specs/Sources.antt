@@ -1,6 +1,6 @@
 -- The aliases of a statement, and the places that a column fits.
-use Rattle.std.specs.Prelude.{ℕ, suc, Bool, true, cond, List, [], ◌∷◌, map, length, position, slice_index_or, unwrap_or, Option, Some, None}
-use Rattle.std.specs.List.{cons_option}
+use Rattle.std.specs.Prelude.{◌≤◌, ℕ, suc, Bool, true, cond, List, [], ◌∷◌, map, length, position, slice_index_or, unwrap_or, Option, Some, None}
+use Rattle.std.specs.List.{cons_option, AllByRecursion}
 use Rattle.std.specs.Option.{option_map, option_map_or}
 use Rattle.std.specs.Str.{bytes_eq}
 use Rattle.lv_parser.specs.declared.tree.ColName.{ColName}
@@ -11,17 +11,15 @@ use Rattle.lv_parser.specs.declared.tree.Stmt.TheVariants.{CreateTable, CreateVi
 use Rattle.lv_schema.specs.declared.query.Rel.{Rel}
 use Rattle.lv_schema.specs.declared.table.Column.{Column}
 use Rattle.lv_schema.specs.declared.table.Kind.{Kind}
+use Rattle.lv_schema.specs.declared.table.Kind.TheVariants.{Big}
 use Rattle.lv_schema.specs.declared.table.TableDef.{TableDef}
 use Rattle.lv_schema.specs.declared.view.ViewDef.{ViewDef}
 use Rattle.lv_bind.specs.declared.sources.Fit.{Fit}
 use Rattle.lv_bind.specs.declared.sources.Fit.TheVariants.{Nothing, One, Several}
 use Rattle.lv_bind.specs.declared.sources.Place.{Place}
-use Rattle.lv_schema.specs.Catalog.{rel_named, rel_columns, no_column}
-
--- the first of a list
-abbrev pub first : {A : Type 0} → List A → Option A
-first [] = None
-first (x ∷ xs) = Some x
+use Rattle.lv_schema.specs.Bound.{rel_columns}
+use Rattle.lv_schema.specs.Catalog.{rel_named}
+pub use Rattle.lv_schema.specs.Profile.{first}
 
 -- the name, unless all is well
 abbrev pub shown_unless : {A : Type 0} → Bool → A → List A
@@ -31,6 +29,10 @@ shown_unless well name = cond well [] (name ∷ [])
 pub record Alias : Type 0 where
   pub name : List ℕ
   pub columns : List Column
+
+-- aliases of at most 16 columns each
+abbrev pub AreNarrow : List Alias → Type 0
+AreNarrow = AllByRecursion (λ s. length s.columns ≤ 16)
 
 -- the columns of what a name stands for, none where it stands for nothing
 abbrev pub columns_of : List TableDef → List ViewDef → Option Rel → List Column
@@ -97,6 +99,9 @@ place_of sources col = unwrap_or (first (places sources col)) (place_at 0 0)
 abbrev pub no_alias : Alias
 no_alias = record { name = []; columns = [] }
 
--- the kind of a column of an alias, a number where there is none
+abbrev pub no_column : Column
+no_column = record { name = []; kind = Big }
+
+-- the kind of a column of an alias, that of sums where there is none
 abbrev pub kind_at : List Alias → Place → Kind
 kind_at sources place = (slice_index_or (slice_index_or sources place.alias no_alias).columns place.column no_column).kind

@@ -19,7 +19,7 @@ use std::alloc::Global;
 
 /// The column that is named, among few aliases of few columns.
 #[tactic(auto, using(crate::proofs::NarrowLemmas::narrow_alias, crate::proofs::NarrowLemmas::narrow_column))]
-fn bound_col(schema: &Schema, sources: &[Source<'_>], column: Mention<'_>) -> Col
+pub(crate) fn bound_col(schema: &Schema, sources: &[Source<'_>], column: Mention<'_>) -> Col
     requires { IsNarrow (map (alias_seen schema.now.tables schema.now.views) sources.now) }
     ensures { result ≡ bound_col (map (alias_seen schema.now.tables schema.now.views) sources.now) (column_seen column.entry) }
 {

@@ -1,14 +1,14 @@
 //! Fault 5: a number where a text belongs, or the other way round, and tuples of another length than the table.
 ghost use Rattle.std.specs.Prelude.{◌≡◌, ◌++◌, map, length};
 ghost use Rattle.std.specs.List.{flat_map};
-ghost use Rattle.lv_schema.specs.Bound.{is_text, both_or_none};
+ghost use Rattle.lv_schema.specs.Bound.{is_text};
 ghost use Rattle.lv_schema.specs.Catalog.{rel_named};
 ghost use Rattle.lv_bind.specs.Kinds.{value_is_text, kind_of, column_byte, side_is_text, side_byte, compared_kinds, item_kinds, literal_fits, value_kinds, tuple_kinds, assign_fits, assign_byte, assign_kinds, insert_columns, kinds_among};
 ghost use Rattle.lv_bind.specs.Seen.{alias_seen, column_seen, sides_seen};
 ghost use Rattle.lv_bind.specs.Sources.{first};
 
 use crate::pieces::{Mention, Sides};
-use crate::sources::{Source, kind_at, place_of, table_columns};
+use crate::sources::{Source, kind_at, place_of};
 use lv_parser::{Assign, AssignValue, ColName, ItemTree, Literal, Named, OperandTree, Stmt, Tuple};
 use lv_schema::{Column, Kind, Rel, Schema};
 use lv_values::Value;
@@ -183,7 +183,7 @@ pub(crate) fn insert_columns<'a>(schema: &'a Schema, table: &Named) -> &'a [Colu
     ensures { result.now ≡ insert_columns schema.now.tables (rel_named schema.now.tables schema.now.views table.now.name) }
 {
     match schema.find(&table.name) {
-        Some(Rel::Table(number)) => table_columns(schema, number),
+        Some(Rel::Table(number)) => schema.columns(number),
         Some(Rel::View(_)) | None => &[],
     }
 }

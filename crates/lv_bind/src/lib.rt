@@ -2,11 +2,18 @@
 #![tactic(auto)]
 
 mod ambiguous;
+mod assigned;
 mod binding;
+mod creating;
 mod entries;
 mod in_use;
 mod kinds;
 mod limits;
 mod pieces;
+mod profile;
+mod ranges;
+mod refusals;
+mod rights;
 mod sources;
+mod statement;
 mod unknown;

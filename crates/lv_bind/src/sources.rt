@@ -1,11 +1,14 @@
 //! The aliases of a statement, and where a column that it names is.
-ghost use Rattle.std.specs.Prelude.{◌≡◌, ◌++◌, map, position, slice_index_or, OnOk, IfOk};
+ghost use Rattle.std.specs.Prelude.{◌≡◌, ◌++◌, ◌∷◌, [], map, position, slice_index_or, OnOk, IfOk};
 ghost use Rattle.std.specs.Str.{bytes_eq};
 ghost use Rattle.std.specs.Option.{option_copied};
-ghost use Rattle.lv_bind.specs.Sources.{sources_of, source_of, alias_of, columns_of, places, place_of, fit_of, place_in, goes_by, kind_at, column_named};
+ghost use Rattle.lv_bind.specs.Sources.{AreNarrow, no_column, sources_of, source_of, alias_of, columns_of, places, place_of, fit_of, place_in, goes_by, kind_at, column_named};
 ghost use Rattle.lv_bind.specs.Seen.{alias_seen, column_seen};
-ghost use Rattle.lv_schema.specs.Catalog.{rel_columns, view_columns, item_column, table_at, view_at, column_at, columns_of_tables, no_column};
-ghost use Rattle.lv_schema.specs.Bound.{item_name};
+ghost use Rattle.lv_schema.specs.declared.table.Column.{Column};
+ghost use Rattle.lv_schema.specs.declared.table.Kind.TheVariants.{Big};
+ghost use Rattle.lv_schema.specs.Bound.{item_name, rel_columns, view_columns, listed_column, alias_columns};
+ghost use Rattle.lv_schema.specs.Catalog.{rel_named};
+ghost use Rattle.lv_schema.specs.World.{table_at, view_at};
 
 use crate::pieces::Mention;
 use lv_parser::{Named, RefTree, Stmt};
@@ -30,19 +33,34 @@ pub(crate) fn alias_of(table: &RefTree) -> &Named
     }
 }
 
+/// Puts an alias of the table or view with this name at the end.
+#[tactic(auto, using(crate::proofs::NarrowLemmas::narrow_pushed))]
+fn push_source<'a>(
+    schema: &Schema,
+    alias: &'a Text,
+    name: &Text,
+    out: &mut Items<Source<'a>>,
+) -> Result<(), NoMemory>
+    ensures added { OnOk result (let seen = map (alias_seen schema.now.tables schema.now.views) in seen out.new ≡ seen out.old ++ record { name = alias.now; columns = columns_of schema.now.tables schema.now.views (rel_named schema.now.tables schema.now.views name.now) } ∷ []) }
+    ensures narrow { OnOk result (let seen = map (alias_seen schema.now.tables schema.now.views) in AreNarrow (seen out.old) → AreNarrow (seen out.new)) }
+{
+    out.push(Source {
+        alias,
+        rel: schema.find(name),
+    })
+}
+
 /// Puts the aliases of a FROM at the end.
 fn push_refs<'a>(
     schema: &Schema,
     refs: &'a [RefTree],
     out: &mut Items<Source<'a>>,
 ) -> Result<(), NoMemory>
-    ensures { OnOk result (let seen = map (alias_seen schema.now.tables schema.now.views) in seen out.new ≡ seen out.old ++ map (source_of schema.now.tables schema.now.views) refs.now) }
+    ensures added { OnOk result (let seen = map (alias_seen schema.now.tables schema.now.views) in seen out.new ≡ seen out.old ++ map (source_of schema.now.tables schema.now.views) refs.now) }
+    ensures narrow { OnOk result (let seen = map (alias_seen schema.now.tables schema.now.views) in AreNarrow (seen out.old) → AreNarrow (seen out.new)) }
 {
     for table in refs {
-        out.push(Source {
-            alias: &alias_of(table).name,
-            rel: schema.find(&table.name.name),
-        })?;
+        push_source(schema, &alias_of(table).name, &table.name.name, out)?;
     }
     Ok(())
 }
@@ -53,7 +71,8 @@ pub(crate) fn sources<'a>(
     schema: &Schema,
     stmt: &'a Stmt,
 ) -> Result<Items<Source<'a>>, NoMemory>
-    ensures { IfOk result (λ found. map (alias_seen schema.now.tables schema.now.views) found ≡ sources_of schema.now.tables schema.now.views stmt.now) }
+    ensures are { IfOk result (λ found. map (alias_seen schema.now.tables schema.now.views) found ≡ sources_of schema.now.tables schema.now.views stmt.now) }
+    ensures narrow { IfOk result (λ found. AreNarrow (map (alias_seen schema.now.tables schema.now.views) found)) }
 {
     let mut out = Items::new(alloc);
     match stmt {
@@ -61,10 +80,7 @@ pub(crate) fn sources<'a>(
             push_refs(schema, refs.as_slice(), &mut out)?;
         }
         Stmt::Update { table, .. } | Stmt::Delete { table, .. } => {
-            out.push(Source {
-                alias: &table.name,
-                rel: schema.find(&table.name),
-            })?;
+            push_source(schema, &table.name, &table.name, &mut out)?;
         }
         _ => (),
     }
@@ -100,17 +116,6 @@ fn named_item(items: &[Item], name: &Text) -> Option<usize>
     items.iter().position(|item| *name == *item.name())
 }
 
-/// The columns of a table, none where the number is not in use.
-pub(crate) fn table_columns(schema: &Schema, number: u32) -> &[Column]
-    ensures { result.now ≡ (table_at schema.now.tables number).columns }
-{
-    if number < schema.tables() {
-        schema.table(number).columns.as_slice()
-    } else {
-        &[]
-    }
-}
-
 /// The items of a view, none where the number is not in use.
 fn view_items(schema: &Schema, number: u32) -> &[Item]
     ensures { result.now ≡ (view_at schema.now.views number).items }
@@ -135,34 +140,34 @@ fn named_in(schema: &Schema, rel: Option<Rel>, name: &Text) -> Option<usize>
 {
     match rel {
         None => None,
-        Some(Rel::Table(number)) => named_column(table_columns(schema, number), name),
+        Some(Rel::Table(number)) => named_column(schema.columns(number), name),
         Some(Rel::View(number)) => named_in_view(schema, number, name),
     }
 }
 
-/// The kind of the column at a place, a number past the end.
+/// The kind of the column at a place, that of sums past the end.
 fn kind_in_table(columns: &[Column], at: usize) -> Kind
-    ensures { result ≡ (slice_index_or columns.now at no_column).kind }
+    ensures { (d : Column) → d.kind ≡ Big → result ≡ (slice_index_or columns.now at d).kind }
 {
     match columns.get(at) {
-        None => Kind::Int,
+        None => Kind::Big,
         Some(column) => column.kind,
     }
 }
 
-/// The kind of a column of the tables with these numbers, a number where there is none.
+/// The kind of a column of the tables with these numbers, that of sums where there is none.
 fn kind_in_tables(schema: &Schema, numbers: &[u32], col: Col) -> Kind
-    ensures { result ≡ (column_at (columns_of_tables schema.now.tables numbers.now) col).kind }
+    ensures { (d : Column) → d.kind ≡ Big → result ≡ (slice_index_or (slice_index_or (alias_columns schema.now.tables numbers.now) col.alias []) col.column d).kind }
 {
     match numbers.get(col.alias as usize) {
-        None => Kind::Int,
-        Some(number) => kind_in_table(table_columns(schema, *number), col.column as usize),
+        None => Kind::Big,
+        Some(number) => kind_in_table(schema.columns(*number), col.column as usize),
     }
 }
 
 /// The kind of the column that an item of a view over these tables gives.
 fn kind_of_item(schema: &Schema, numbers: &[u32], item: &Item) -> Kind
-    ensures { result ≡ (item_column (columns_of_tables schema.now.tables numbers.now) item.now).kind }
+    ensures { result ≡ (listed_column (alias_columns schema.now.tables numbers.now) item.now).kind }
 {
     match item {
         Item::Plain { col, .. } => kind_in_tables(schema, numbers, *col),
@@ -170,34 +175,34 @@ fn kind_of_item(schema: &Schema, numbers: &[u32], item: &Item) -> Kind
     }
 }
 
-/// The kind of a view's column, a number past the end.
+/// The kind of a view's column, that of sums past the end.
 fn kind_in_view(schema: &Schema, view: &ViewDef, at: usize) -> Kind
     ensures { result ≡ (slice_index_or (view_columns schema.now.tables view.now) at no_column).kind }
 {
     match view.items.as_slice().get(at) {
-        None => Kind::Int,
+        None => Kind::Big,
         Some(item) => kind_of_item(schema, view.tables.as_slice(), item),
     }
 }
 
-/// The kind of a column of the view with this number, a number where there is none.
+/// The kind of a column of the view with this number, that of sums where there is none.
 fn kind_in_view_at(schema: &Schema, number: u32, at: usize) -> Kind
     ensures { result ≡ (slice_index_or (view_columns schema.now.tables (view_at schema.now.views number)) at no_column).kind }
 {
     if number < schema.views() {
         kind_in_view(schema, schema.view(number), at)
     } else {
-        Kind::Int
+        Kind::Big
     }
 }
 
-/// The kind of a column of a table or view, a number where there is none.
+/// The kind of a column of a table or view, that of sums where there is none.
 fn kind_in(schema: &Schema, rel: Option<Rel>, at: usize) -> Kind
     ensures { result ≡ (slice_index_or (columns_of schema.now.tables schema.now.views rel) at no_column).kind }
 {
     match rel {
-        None => Kind::Int,
-        Some(Rel::Table(number)) => kind_in_table(table_columns(schema, number), at),
+        None => Kind::Big,
+        Some(Rel::Table(number)) => kind_in_table(schema.columns(number), at),
         Some(Rel::View(number)) => kind_in_view_at(schema, number, at),
     }
 }
@@ -212,18 +217,18 @@ impl Source<'_> {
     {
         match self.rel {
             None => 0,
-            Some(Rel::Table(number)) => table_columns(schema, number).len(),
+            Some(Rel::Table(number)) => schema.columns(number).len(),
             Some(Rel::View(number)) => view_items(schema, number).len(),
         }
     }
 }
 
-/// The kind of a column of the aliases, a number where there is none.
+/// The kind of a column of the aliases, that of sums where there is none.
 pub(crate) fn kind_at(schema: &Schema, sources: &[Source<'_>], place: Place) -> Kind
     ensures { result ≡ kind_at (map (alias_seen schema.now.tables schema.now.views) sources.now) place }
 {
     match sources.get(place.alias) {
-        None => Kind::Int,
+        None => Kind::Big,
         Some(source) => kind_in(schema, source.rel, place.column),
     }
 }

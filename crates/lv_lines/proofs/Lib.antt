@@ -6,8 +6,6 @@ pub mod Clear
 pub mod Fails
 pub mod FirstFaults
 pub mod LastSession
-pub mod LowerNames
-pub mod NamesAreText
 pub mod NamesAreWords
 pub mod Pieces
 pub mod Sound
@@ -15,6 +13,7 @@ pub mod SoundItems
 pub mod SoundLimits
 pub mod SoundNames
 pub mod SoundOrder
+pub mod SpelledNames
 pub mod Steps
 pub mod TakesEntries
 pub mod TakesFaults

@@ -3,8 +3,8 @@ use Rattle.std.proofs.Common.{◌≡◌, ◌≢◌, ℕ, ◌≤◌, Bool, true, 
 use Rattle.std.specs.Prelude.{if◌then◌else◌, slice_index, ◌-◌, ◌==◌}
 use Rattle.std.specs.List.{All}
 use Rattle.std.proofs.lemmas.List.Elements.{All-nil, All-take}
-use Rattle.lv_plain.specs.Names.{IsSessionName, AreSessionNames}
-use Rattle.lv_plain.specs.Program.{IsLine, session_names}
+use Rattle.lv_plain.specs.Limits.{IsStatementLine}
+use Rattle.lv_plain.specs.SessionNames.{is_session_name, AreSessionNames, session_names}
 use Rattle.lv_lines.specs.declared.script_fault.ScriptFaultKind.TheVariants.{LineTooLong}
 use Rattle.lv_lines.specs.declared.section.Part.{Part}
 use Rattle.lv_lines.specs.ScriptLine.{said, without_return}
@@ -36,10 +36,10 @@ sound_start = record {
     statements = omega arith;
     items = omega arith;
     sessions = omega arith;
-    setup = All-nil IsLine;
-    lines = All-nil (λ s. All IsLine s.lines);
+    setup = All-nil IsStatementLine;
+    lines = All-nil (λ s. All IsStatementLine s.lines);
   };
-  names = record { each = All-nil IsSessionName; distinct = λ i j d lt within. absurd (omega arith) };
+  names = record { each = All-nil (λ name. is_session_name name ≡ true); distinct = λ i j d lt within. absurd (omega arith) };
   followed = followed_before start refl refl;
 }
 

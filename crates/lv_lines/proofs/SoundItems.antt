@@ -2,7 +2,7 @@
 use Rattle.std.proofs.Common.{◌≡◌, ◌≢◌, ℕ, zero, suc, ◌+◌, ◌-◌, ◌<◌, ◌≤◌, Bool, true, false, cond, eqb, List, [], ◌∷◌, ◌++◌, length, get_or, set, Option, Some, None, refl, ap, ◌∙◌, arith, get_or-set_same, get_or-set_other}
 use Rattle.std.specs.Prelude.{IfSome, codes, nat_le}
 use Rattle.std.specs.Option.{option_map, option_and_then, option_to_list}
-use Rattle.std.specs.List.{All}
+use Rattle.std.specs.List.{All, count_by}
 use Rattle.std.specs.Str.{str_to_ascii_lowercase}
 use Rattle.std.proofs.lemmas.Bool.Decides.{nat_tests}
 use Rattle.std.proofs.lemmas.List.Elements.{All-nil, All-cons, All-head, All-tail, All-append}
@@ -10,13 +10,14 @@ use Rattle.std.proofs.lemmas.List.Sums.{sum_by-cons}
 use Rattle.lv_plain.specs.declared.program.OrderItem.{OrderItem}
 use Rattle.lv_plain.specs.declared.program.OrderItem.TheVariants as item
 use Rattle.lv_plain.specs.declared.program.Script.{Script}
-use Rattle.lv_plain.specs.Names.{reads, is_name}
-use Rattle.lv_plain.specs.Program.{IsItem, is_turn_of, turns_of}
+use Rattle.lv_plain.specs.Events.{is_turn_of}
+use Rattle.lv_plain.specs.Following.{IsItem}
+use Rattle.lv_plain.specs.Legal.{IsWorker}
 use Rattle.lv_lines.specs.declared.order_line.Wanted.{Wanted}
 use Rattle.lv_lines.specs.declared.order_line.Wanted.TheVariants as wanted
-use Rattle.lv_lines.specs.SessionName.{session_from, session_of}
+use Rattle.lv_lines.specs.ScriptLine.{reads}
+use Rattle.lv_lines.specs.SessionName.{is_name, session_from, session_of}
 use Rattle.lv_lines.specs.OrderLine.{worker_of, Step, begun_by, marked_by, step_by, items_from, items_of, wants_item, left_behind, left_after}
-use Rattle.lv_lines.proofs.LowerNames.{lower-lower, is_name-lower}
 
 -- ---- items
 
@@ -37,9 +38,6 @@ number_from number [] word = tt
 number_from number (s ∷ ss) word =
     if_some_cond (λ n. number ≤ n) (reads word s.name) (Some number) (session_from (number + 1) ss word) (omega arith)
     (weaker (λ n. number + 1 ≤ n) (λ n. number ≤ n) (session_from (number + 1) ss word) (λ n h. omega arith) (number_from (number + 1) ss word))
-
-abbrev IsWorker : ℕ → Type 0
-IsWorker worker = (1 ≤ worker) × (worker ≤ 8)
 
 worker_within : (word : List ℕ) → IfSome (worker_of word) IsWorker
 worker_within [] = tt
@@ -70,7 +68,7 @@ begun_item ss word =
 marked_item : (word : List ℕ) → IfSome (marked_by word) IsStep
 marked_item word = at (is_name word) refl where
   at : (t : Bool) → is_name word ≡ t → IfSome (marked_by word) IsStep
-  at true is = rw is (ended (item.Mark (str_to_ascii_lowercase word)) (record { spelled = is_name-lower word ∙ is; lower = lower-lower word }))
+  at true is = rw is (ended (item.Mark (str_to_ascii_lowercase word)) is)
   at false is = rw is tt
 
 worker_item : (make : ℕ → OrderItem) → ((worker : ℕ) → IsWorker worker → IsItem (make worker)) → (word : List ℕ)
@@ -137,12 +135,12 @@ left_behind-item left rest (item.Mark view) n is e = untouched left rest n e
 left_behind-item left rest item.Clean n is e = untouched left rest n e
 
 -- what the items leave, and the turns that they give
-pub left_after-items : (left rest : List ℕ) (items : List OrderItem) (n : ℕ) → All IsItem items → left_after left items ≡ Some rest → get_or rest n 0 + turns_of (n + 1) items ≡ get_or left n 0
+pub left_after-items : (left rest : List ℕ) (items : List OrderItem) (n : ℕ) → All IsItem items → left_after left items ≡ Some rest → get_or rest n 0 + count_by (is_turn_of (n + 1)) items ≡ get_or left n 0
 left_after-items left rest [] n are e = untouched left rest n e
 left_after-items left rest (i ∷ items) n are e = at (left_behind left i) refl e (λ between e. left_after-items between rest items n (All-tail IsItem i items are) e) where
   at : (between : Option (List ℕ)) → left_behind left i ≡ between → option_and_then (λ xs. left_after xs items) between ≡ Some rest
-      → ((between : List ℕ) → left_after between items ≡ Some rest → get_or rest n 0 + turns_of (n + 1) items ≡ get_or between n 0)
-      → get_or rest n 0 + turns_of (n + 1) (i ∷ items) ≡ get_or left n 0
+      → ((between : List ℕ) → left_after between items ≡ Some rest → get_or rest n 0 + count_by (is_turn_of (n + 1)) items ≡ get_or between n 0)
+      → get_or rest n 0 + count_by (is_turn_of (n + 1)) (i ∷ items) ≡ get_or left n 0
   at None is e more = absurd cc
   at (Some between) is e more =
       let first = left_behind-item left between i n (All-head IsItem i items are) is in

@@ -6,7 +6,7 @@ use Rattle.std.proofs.lemmas.List.Sums.{sum_by-cons, sum_by_push}
 use Rattle.lv_plain.specs.declared.program.OrderItem.{OrderItem}
 use Rattle.lv_plain.specs.declared.program.Script.{Script}
 use Rattle.lv_plain.specs.declared.program.Program.{Program}
-use Rattle.lv_plain.specs.Program.{IsLine, statement_count, IsWithinLimits}
+use Rattle.lv_plain.specs.Limits.{IsStatementLine, statement_count, IsWithinLimits}
 use Rattle.lv_lines.specs.declared.script_fault.ScriptFaultKind.TheVariants.{TooManySessions, TooManyStatements, TooManyItems}
 use Rattle.lv_lines.specs.declared.section.Section.{Section}
 use Rattle.lv_lines.specs.declared.section.Section.TheVariants as section
@@ -22,8 +22,8 @@ pub record Fits (program : Program) (count : ℕ) : Type 0 where
   pub statements : count ≤ 100000
   pub items : length program.order ≤ 200000
   pub sessions : length program.sessions ≤ 16
-  pub setup : All IsLine program.setup
-  pub lines : All (λ s. All IsLine s.lines) program.sessions
+  pub setup : All IsStatementLine program.setup
+  pub lines : All (λ s. All IsStatementLine s.lines) program.sessions
 
 length-onto_last : (ss : List Script) (line : List ℕ) → length (onto_last ss line) ≡ length ss
 length-onto_last [] line = refl
@@ -37,12 +37,12 @@ count-onto_last (s ∷ []) line = omega (arith, length-append s.lines (line ∷ 
 count-onto_last (s ∷ t ∷ ss) line =
     omega (arith, count-onto_last (t ∷ ss) line, sum_by-cons (λ (s : Script). length s.lines) s (t ∷ ss), sum_by-cons (λ (s : Script). length s.lines) s (onto_last (t ∷ ss) line))
 
-lines-onto_last : (ss : List Script) (line : List ℕ) → IsLine line → All (λ s. All IsLine s.lines) ss → All (λ s. All IsLine s.lines) (onto_last ss line)
+lines-onto_last : (ss : List Script) (line : List ℕ) → IsStatementLine line → All (λ s. All IsStatementLine s.lines) ss → All (λ s. All IsStatementLine s.lines) (onto_last ss line)
 lines-onto_last [] line new h = h
 lines-onto_last (s ∷ []) line new h =
-    All-cons (λ s. All IsLine s.lines) _ [] (All-push IsLine s.lines line (All-head (λ s. All IsLine s.lines) s [] h) new) (All-nil (λ s. All IsLine s.lines))
+    All-cons (λ s. All IsStatementLine s.lines) _ [] (All-push IsStatementLine s.lines line (All-head (λ s. All IsStatementLine s.lines) s [] h) new) (All-nil (λ s. All IsStatementLine s.lines))
 lines-onto_last (s ∷ t ∷ ss) line new h =
-    All-cons (λ s. All IsLine s.lines) s _ (All-head (λ s. All IsLine s.lines) s (t ∷ ss) h) (lines-onto_last (t ∷ ss) line new (All-tail (λ s. All IsLine s.lines) s (t ∷ ss) h))
+    All-cons (λ s. All IsStatementLine s.lines) s _ (All-head (λ s. All IsStatementLine s.lines) s (t ∷ ss) h) (lines-onto_last (t ∷ ss) line new (All-tail (λ s. All IsStatementLine s.lines) s (t ∷ ss) h))
 
 below_most : (n : ℕ) → nat_le 100000 n ≡ false → n + 1 ≤ 100000
 below_most n e = grind arith
@@ -53,7 +53,7 @@ room_for_session n e = grind arith
 room_for_items : (m n : ℕ) → nat_lt 200000 (m + n) ≡ false → m + n ≤ 200000
 room_for_items m n e = grind arith
 
-fits_statement : (here : Section) (part : Part) (line : List ℕ) → IsLine line → nat_le 100000 part.statements ≡ false → Fits part.program part.statements
+fits_statement : (here : Section) (part : Part) (line : List ℕ) → IsStatementLine line → nat_le 100000 part.statements ≡ false → Fits part.program part.statements
     → Fits (with_statement here part line).program (with_statement here part line).statements
 fits_statement section.Nowhere part line new room f = f
 fits_statement section.Setup part line new room f = record {
@@ -61,7 +61,7 @@ fits_statement section.Setup part line new room f = record {
   statements = below_most _ room;
   items = f.items;
   sessions = f.sessions;
-  setup = All-push IsLine part.program.setup line f.setup new;
+  setup = All-push IsStatementLine part.program.setup line f.setup new;
   lines = f.lines;
 }
 fits_statement section.Session part line new room f = record {
@@ -82,7 +82,7 @@ fits_session part name room f = record {
   items = f.items;
   sessions = omega (arith, length-append part.program.sessions (session_called name ∷ []), room_for_session _ room);
   setup = f.setup;
-  lines = All-push (λ s. All IsLine s.lines) part.program.sessions (session_called name) f.lines (All-nil IsLine);
+  lines = All-push (λ s. All IsStatementLine s.lines) part.program.sessions (session_called name) f.lines (All-nil IsStatementLine);
 }
 
 fits_items : (part : Part) (items : List OrderItem) (left : Option (List ℕ)) → nat_lt 200000 (length part.program.order + length items) ≡ false → Fits part.program part.statements
@@ -103,7 +103,7 @@ fits_order part None room f = f
 fits_order part (Some items) room f = fits_items part items (left_after (left_of part) items) room f
 
 -- behind a line without a fault
-pub fits_line : (part : Part) (line : List ℕ) (says : Said) → IsLine line → IsClear part line says → Fits part.program part.statements
+pub fits_line : (part : Part) (line : List ℕ) (says : Said) → IsStatementLine line → IsClear part line says → Fits part.program part.statements
     → Fits (with_line part line says).program (with_line part line says).statements
 fits_line part line nothing new clear f = f
 fits_line part line setup new clear f = f

@@ -8,18 +8,17 @@ use Rattle.std.proofs.lemmas.List.Quantifiers.{all_pairs_push}
 use Rattle.std.proofs.lemmas.Slice.Eq.{bytes_eq-Decides}
 use Rattle.lv_plain.specs.declared.program.OrderItem.{OrderItem}
 use Rattle.lv_plain.specs.declared.program.Script.{Script}
-use Rattle.lv_plain.specs.Names.{reads, is_session_name, IsSessionName, AreSessionNames}
-use Rattle.lv_plain.specs.Program.{session_names}
+use Rattle.lv_plain.specs.SessionNames.{is_session_name, AreSessionNames, session_names}
 use Rattle.lv_lines.specs.declared.script_fault.ScriptFaultKind.TheVariants.{NoSessionName, NameUsed}
 use Rattle.lv_lines.specs.declared.section.Section.{Section}
 use Rattle.lv_lines.specs.declared.section.Section.TheVariants as section
 use Rattle.lv_lines.specs.declared.section.Part.{Part}
-use Rattle.lv_lines.specs.ScriptLine.{Said, nothing, setup, session, order, wrong, statement}
+use Rattle.lv_lines.specs.ScriptLine.{reads, Said, nothing, setup, session, order, wrong, statement}
 use Rattle.lv_lines.specs.SessionName.{session_from}
 use Rattle.lv_lines.specs.OrderLine.{items_of, left_after}
 use Rattle.lv_lines.specs.Script.{with_line, with_statement, with_order, with_items, onto_last, session_called, left_of}
 use Rattle.lv_lines.specs.FirstFault.{IsClear}
-use Rattle.lv_lines.proofs.LowerNames.{lower-lower, is_session_name-lower}
+use Rattle.lv_lines.proofs.SpelledNames.{lower-lower}
 
 abbrev names_of : List Script → List (List ℕ)
 names_of ss = map (λ s. s.name) ss
@@ -49,21 +48,16 @@ apart number (s ∷ ss) word none = at (reads word s.name) refl none (apart (num
   at false is none more zero d lt = not_read word s.name is
   at false is none more (suc k) d lt = more none k d (omega arith)
 
-new_name : (word : List ℕ) → not (is_session_name word) ≡ false → IsSessionName (str_to_ascii_lowercase word)
-new_name word named = record {
-  spelled = is_session_name-lower word ∙ no_not (is_session_name word) named;
-  lower = lower-lower word;
-} where
-  no_not : (b : Bool) → not b ≡ false → b ≡ true
-  no_not true h = refl
-  no_not false h = absurd cc
+no_not : (b : Bool) → not b ≡ false → b ≡ true
+no_not true h = refl
+no_not false h = absurd cc
 
-named_session : (ss : List Script) (word : List ℕ) → not (is_session_name word) ≡ false → is_some (session_from 1 ss word) ≡ false → AreSessionNames (names_of ss)
+named_session : (ss : List Script) (word : List ℕ) → not (is_session_name (str_to_ascii_lowercase word)) ≡ false → is_some (session_from 1 ss word) ≡ false → AreSessionNames (names_of ss)
     → AreSessionNames (names_of (ss ++ session_called word ∷ []))
 named_session ss word named free h =
     let push = map_push (λ (s : Script). s.name) ss (session_called word) in
     subst AreSessionNames (sym push) (record {
-      each = All-push IsSessionName (names_of ss) (str_to_ascii_lowercase word) h.each (new_name word named);
+      each = All-push (λ name. is_session_name name ≡ true) (names_of ss) (str_to_ascii_lowercase word) h.each (no_not _ named);
       distinct = all_pairs_push (λ a b. a ≢ b) (names_of ss) (str_to_ascii_lowercase word) h.distinct (apart 1 ss word free);
     })
 

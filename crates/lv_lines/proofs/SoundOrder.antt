@@ -1,11 +1,15 @@
 -- The order can be followed.
-use Rattle.std.proofs.Common.{◌≡◌, ℕ, ◌+◌, false, cond, List, [], get_or, Option, Some, None, refl, arith}
+use Rattle.std.proofs.Common.{◌≡◌, ℕ, zero, suc, ◌+◌, ◌≤◌, false, cond, List, [], ◌∷◌, length, get_or, Option, Some, None, refl, ap, arith}
 use Rattle.std.specs.Prelude.{IfSome}
-use Rattle.std.specs.List.{All}
+use Rattle.std.specs.List.{All, count_by}
 use Rattle.std.proofs.lemmas.List.Elements.{All-nil, All-same, All-append}
 use Rattle.std.proofs.lemmas.List.Sums.{sum_by-append}
 use Rattle.lv_plain.specs.declared.program.OrderItem.{OrderItem}
-use Rattle.lv_plain.specs.Program.{IsItem, is_turn_of, turns_of, statements_of, IsFollowable}
+use Rattle.lv_plain.specs.declared.program.Script.{Script}
+use Rattle.lv_plain.specs.Events.{is_turn_of}
+use Rattle.lv_plain.specs.Following.{IsItem, IsFollowable}
+use Rattle.lv_plain.specs.Limits.{statements_of}
+use Rattle.lv_plain.specs.Programs.{no_script, lines_of}
 use Rattle.lv_lines.specs.declared.script_fault.ScriptFaultKind.TheVariants.{OutOfPlace}
 use Rattle.lv_lines.specs.declared.section.Section.{Section}
 use Rattle.lv_lines.specs.declared.section.Section.TheVariants as section
@@ -19,7 +23,7 @@ use Rattle.lv_lines.proofs.SoundItems.{are_items, left_after-items}
 -- the turns that the order gives and the statements that it leaves are the statements of the session
 pub record Followed (part : Part) : Type 0 where
   pub items : All IsItem part.program.order
-  pub turns : (n : ℕ) → get_or (left_of part) n 0 + turns_of (n + 1) part.program.order ≡ get_or (statements_of part.program.sessions) n 0
+  pub turns : (n : ℕ) → get_or (left_of part) n 0 + count_by (is_turn_of (n + 1)) part.program.order ≡ get_or (statements_of part.program.sessions) n 0
   pub unbegun : is_order part.section ≡ false → part.program.order ≡ []
 
 -- before the order begins it has no items
@@ -77,5 +81,14 @@ followed_line part line (order words) clear f = followed_order part (items_of pa
 followed_line part line wrong clear f = f
 followed_line part line statement clear f = followed_statement part.section part line (before_statement part.section (clear OutOfPlace)) f
 
+length_at : (ss : List Script) (n : ℕ) → get_or (statements_of ss) n 0 ≡ length (get_or ss n no_script).lines
+length_at [] n = refl
+length_at (s ∷ ss) zero = refl
+length_at (s ∷ ss) (suc n) = length_at ss n
+
+turns_at : (part : Part) → Followed part → (session : ℕ) → 1 ≤ session → count_by (is_turn_of session) part.program.order ≤ length (lines_of part.program session)
+turns_at part f zero some = absurd (omega arith)
+turns_at part f (suc n) some = let one : n + 1 ≡ suc n = omega arith in omega (arith, f.turns n, ap (λ (k : ℕ). count_by (is_turn_of k) part.program.order) one, length_at part.program.sessions n)
+
 pub followable_of : (part : Part) → Followed part → IsFollowable part.program
-followable_of part f = record { items = f.items; turns = λ n. omega (arith, f.turns n) }
+followable_of part f = record { items = f.items; turns = turns_at part f }

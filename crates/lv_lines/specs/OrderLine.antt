@@ -1,18 +1,22 @@
 -- The items of an order line, and the statements that they take.
-use Rattle.std.specs.Prelude.{ℕ, ◌-◌, Bool, true, false, ◌==◌, if◌then◌else◌, List, [], ◌∷◌, ◌++◌, codes, get_or, set, Option, Some, None}
+use Rattle.std.specs.Prelude.{ℕ, ◌-◌, Bool, true, false, ◌&&◌, nat_le, ◌==◌, if◌then◌else◌, List, [], ◌∷◌, ◌++◌, codes, get_or, set, Option, Some, None}
 use Rattle.std.specs.Option.{option_map, option_and_then, option_to_list}
 use Rattle.std.specs.Str.{str_to_ascii_lowercase}
 use Rattle.lv_plain.specs.declared.program.OrderItem.{OrderItem}
 use Rattle.lv_plain.specs.declared.program.OrderItem.TheVariants as item
 use Rattle.lv_plain.specs.declared.program.Script.{Script}
-use Rattle.lv_plain.specs.Names.{reads, is_name, is_worker_digit}
 use Rattle.lv_lines.specs.declared.order_line.Wanted.{Wanted}
 use Rattle.lv_lines.specs.declared.order_line.Wanted.TheVariants as wanted
-use Rattle.lv_lines.specs.SessionName.{session_of}
+use Rattle.lv_lines.specs.ScriptLine.{reads}
+use Rattle.lv_lines.specs.SessionName.{is_name, session_of}
 
 -- ---- what the words are
 
--- one digit 1 to 8
+-- the digits 1 to 8
+abbrev pub is_worker_digit : ℕ → Bool
+is_worker_digit digit = nat_le 49 digit && nat_le digit 56
+
+-- one of these digits
 abbrev pub worker_of : List ℕ → Option ℕ
 worker_of (digit ∷ []) = if is_worker_digit digit then Some (digit - 48) else None
 worker_of word = None

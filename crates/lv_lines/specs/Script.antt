@@ -5,8 +5,8 @@ use Rattle.std.specs.Str.{is_utf8, str_to_ascii_lowercase}
 use Rattle.lv_plain.specs.declared.program.OrderItem.{OrderItem}
 use Rattle.lv_plain.specs.declared.program.Script.{Script}
 use Rattle.lv_plain.specs.declared.program.Program.{Program}
-use Rattle.lv_plain.specs.Names.{is_session_name}
-use Rattle.lv_plain.specs.Program.{statements_of}
+use Rattle.lv_plain.specs.Limits.{statements_of}
+use Rattle.lv_plain.specs.SessionNames.{is_session_name}
 use Rattle.lv_lines.specs.declared.script_fault.ScriptFault.{ScriptFault}
 use Rattle.lv_lines.specs.declared.script_fault.ScriptFault.TheVariants.{Bad}
 use Rattle.lv_lines.specs.declared.script_fault.ScriptFaultKind.{ScriptFaultKind}
@@ -75,7 +75,7 @@ has_fault part line says ScriptTooLong = false  -- a fault of no line
 has_fault part line says LineTooLong = nat_lt 65536 (length line)
 has_fault part line says NoSectionLine = is_wrong says
 has_fault part line says OutOfPlace = is_out_of_place part.section says
-has_fault part line says NoSessionName = of_session (λ name. not (is_session_name name)) says
+has_fault part line says NoSessionName = of_session (λ name. not (is_session_name (str_to_ascii_lowercase name))) says
 has_fault part line says NameUsed = of_session (λ name. is_some (session_of part.program.sessions name)) says
 has_fault part line says TooManySessions = of_session (λ _. nat_le 16 (length part.program.sessions)) says
 has_fault part line says TooManyStatements = is_statement says && nat_le 100000 part.statements

@@ -1,7 +1,7 @@
 -- The lines of a script, and what a line says.
 use Rattle.std.specs.Prelude.{ℕ, ◌-◌, Bool, true, false, ◌&&◌, ◌||◌, not, ◌==◌, if◌then◌else◌, List, [], ◌∷◌, map, filter, take, drop, length, codes, slice_index}
 use Rattle.std.specs.List.{slice_split, prefix_len, onto_first}
-use Rattle.lv_plain.specs.Names.{reads}
+use Rattle.std.specs.Str.{bytes_eq, str_to_ascii_lowercase}
 
 -- ---- lines
 
@@ -51,6 +51,10 @@ is_word (b ∷ bytes) = true
 -- what stands between blanks
 abbrev pub words_of : List ℕ → List (List ℕ)
 words_of text = filter is_word (slice_split is_blank text)
+
+-- whether the word is this one, in any case
+abbrev pub reads : List ℕ → List ℕ → Bool
+reads word text = bytes_eq (str_to_ascii_lowercase word) (str_to_ascii_lowercase text)
 
 -- ---- what a line says
 

@@ -1,7 +1,32 @@
--- The numbers of sessions.
-use Rattle.std.specs.Prelude.{ℕ, ◌+◌, if◌then◌else◌, List, [], ◌∷◌, Option, Some, None}
+-- Names as scripts spell them, and the numbers of sessions.
+use Rattle.std.specs.Prelude.{ℕ, ◌+◌, Bool, false, ◌&&◌, ◌||◌, ◌==◌, nat_le, if◌then◌else◌, List, [], ◌∷◌, length, Option, Some, None}
+use Rattle.std.specs.List.{list_all}
+use Rattle.std.specs.Char.{is_ascii_alphabetic, is_ascii_alphanumeric}
+use Rattle.std.specs.Str.{str_to_ascii_lowercase}
+use Rattle.lv_schema.specs.Names.{is_lower_name}
 use Rattle.lv_plain.specs.declared.program.Script.{Script}
-use Rattle.lv_plain.specs.Names.{reads}
+use Rattle.lv_lines.specs.ScriptLine.{reads}
+
+-- a name in any case, which is kept in lower case
+abbrev pub is_name : List ℕ → Bool
+is_name word = is_lower_name (str_to_ascii_lowercase word)
+
+-- ---- the same by the bytes as they are spelled
+
+-- a letter or _
+abbrev pub begins_name : ℕ → Bool
+begins_name b = is_ascii_alphabetic b || (b == 95)
+
+-- a letter, a digit or _
+abbrev pub continues_name : ℕ → Bool
+continues_name b = is_ascii_alphanumeric b || (b == 95)
+
+-- a letter or _ followed by letters, digits and _, all ASCII, of 1 to 32 bytes
+abbrev pub is_spelled : List ℕ → Bool
+is_spelled [] = false
+is_spelled (b ∷ bytes) = begins_name b && (list_all continues_name bytes && nat_le (length bytes) 31)
+
+-- ---- sessions
 
 -- the number of the session of this name, in any case, where the first of these sessions has this number
 abbrev pub session_from : ℕ → List Script → List ℕ → Option ℕ

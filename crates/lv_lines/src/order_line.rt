@@ -4,7 +4,7 @@ ghost use Rattle.std.specs.Option.{option_to_list};
 ghost use Rattle.lv_lines.specs.OrderLine as spec;
 
 use crate::script_line::reads;
-use crate::session_name::{is_name, is_worker_digit, lowered, session_of};
+use crate::session_name::{is_name, lowered, session_of};
 use lv_plain::{Order, OrderItem, Script};
 use lv_values::{Items, NoMemory};
 use std::alloc::Global;
@@ -37,6 +37,13 @@ fn wants(next: Wanted) -> Option<Step>
     ensures { result ≡ Some (spec.wants next) }
 {
     Some((next, None))
+}
+
+/// Whether it is one of the digits 1 to 8.
+fn is_worker_digit(digit: u8) -> bool
+    ensures { result ≡ spec.is_worker_digit digit }
+{
+    b'1' <= digit && digit <= b'8'
 }
 
 fn worker_of(word: &[u8]) -> Option<u32>
@@ -174,7 +181,7 @@ pub(crate) fn items_of(
     Ok(Some(items))
 }
 
-/// Takes a statement of the item's session. Nothing is left of `left` where there is none.
+/// Takes one statement of the session that the item names, where that has one left.
 fn take_turn(left: &mut Items<u64>, item: &OrderItem) -> bool
     ensures taken { IsTrue result → spec.left_behind left.old item.now ≡ Some left.new }
     ensures none { result ≡ false → spec.left_behind left.old item.now ≡ None }

@@ -1,7 +1,8 @@
 //! Reads a script.
 ghost use Rattle.std.specs.Prelude.{◌≡◌, IfOk, IfErr};
-ghost use Rattle.lv_plain.specs.Names.{AreSessionNames};
-ghost use Rattle.lv_plain.specs.Program.{IsWithinLimits, IsFollowable, session_names};
+ghost use Rattle.lv_plain.specs.Following.{IsFollowable};
+ghost use Rattle.lv_plain.specs.Limits.{IsWithinLimits};
+ghost use Rattle.lv_plain.specs.SessionNames.{AreSessionNames, session_names};
 ghost use Rattle.lv_lines.specs.Judged.{IsFaultOf};
 ghost use Rattle.lv_lines.specs.Script as spec;
 ghost use Rattle.lv_lines.specs.Script.{script_of};

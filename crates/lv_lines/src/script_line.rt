@@ -2,7 +2,6 @@
 ghost use Rattle.std.specs.Prelude.{◌≡◌, ◌≢◌, ◌∷◌, ◌<◌, ◌≤◌, length, map, IfOk, MatchOption, true, false};
 ghost use Rattle.std.specs.Str.{is_utf8};
 ghost use Rattle.std.specs.List.{All, slice_split};
-ghost use Rattle.lv_plain.specs.Names as names;
 ghost use Rattle.lv_lines.specs.ScriptLine as spec;
 
 use lv_values::NoMemory;
@@ -106,7 +105,7 @@ pub(crate) fn words_of(alloc: Global, bytes: &[u8]) -> Result<Vec<&[u8]>, NoMemo
 
 /// Whether the word is this one, in any case.
 pub(crate) fn reads(word: &[u8], text: &[u8]) -> bool
-    ensures { result ≡ names.reads word.now text.now }
+    ensures { result ≡ spec.reads word.now text.now }
 {
     word.eq_ignore_ascii_case(text)
 }

@@ -216,8 +216,19 @@ fn scripts_are_read(rt: HostRuntime) -> Result<(), Fail> {
     Ok(())
 }
 
+/// Where the programs of two scripts differ; nothing where one is not read.
+fn told_apart(alloc: Global, a: &[u8], b: &[u8]) -> Option<Option<(u32, u32)>> {
+    match read_script(alloc, a) {
+        Err(_) => None,
+        Ok(first) => match read_script(alloc, b) {
+            Err(_) => None,
+            Ok(second) => Some(same(&first, &second)),
+        },
+    }
+}
+
 #[test]
-fn programs_are_told_apart(rt: HostRuntime) -> Result<(), Fail> {
+fn programs_are_told_apart(rt: HostRuntime) {
     let cases: [(&[u8], Option<(u32, u32)>); 9] = [
         (
             b"@setup\nx\ny\n@session a\nb\n@session c\n@order a mark v",
@@ -258,11 +269,9 @@ fn programs_are_told_apart(rt: HostRuntime) -> Result<(), Fail> {
     ];
     for (other, place) in cases {
         let first = b"@setup\nx\ny\n@session a\nb\n@session c\n@order a mark v";
-        let a = read_script(rt.alloc(), first.as_slice())
-            .ok()
-            .ok_or("a fault")?;
-        let b = read_script(rt.alloc(), other).ok().ok_or("a fault")?;
-        assert_eq!(rt; same(&a, &b), place);
+        assert_eq!(rt;
+            told_apart(rt.alloc(), first.as_slice(), other),
+            Some(place)
+        );
     }
-    Ok(())
 }

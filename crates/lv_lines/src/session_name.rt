@@ -1,8 +1,8 @@
-//! The names of sessions.
+//! Names, and the sessions that have them.
 ghost use Rattle.std.specs.Prelude.{◌≡◌, ◌≤◌, length, IfOk, true};
-ghost use Rattle.std.specs.Str.{str_to_ascii_lowercase};
+ghost use Rattle.std.specs.Str.{bytes_eq, str_to_ascii_lowercase};
 ghost use Rattle.std.specs.List.{list_all, list_any};
-ghost use Rattle.lv_plain.specs.Names as names;
+ghost use Rattle.lv_plain.specs.SessionNames as names;
 ghost use Rattle.lv_lines.specs.SessionName as spec;
 
 use crate::script_line::reads;
@@ -11,26 +11,25 @@ use lv_values::{NoMemory, Text};
 use std::alloc::Global;
 
 fn begins_name(byte: u8) -> bool
-    ensures { result ≡ names.begins_name byte }
+    ensures { result ≡ spec.begins_name byte }
 {
     byte.is_ascii_alphabetic() || byte == b'_'
 }
 
 fn continues_name(byte: u8) -> bool
-    ensures { result ≡ names.continues_name byte }
+    ensures { result ≡ spec.continues_name byte }
 {
     byte.is_ascii_alphanumeric() || byte == b'_'
 }
 
 fn all_continue(bytes: &[u8]) -> bool
-    ensures { result ≡ list_all names.continues_name bytes.now }
+    ensures { result ≡ list_all spec.continues_name bytes.now }
 {
     bytes.iter().all(|byte| continues_name(*byte))
 }
 
-/// Whether the word is a name.
-pub(crate) fn is_name(word: &[u8]) -> bool
-    ensures { result ≡ names.is_name word.now }
+fn is_spelled(word: &[u8]) -> bool
+    ensures { result ≡ spec.is_spelled word.now }
 {
     match word {
         [] => false,
@@ -38,9 +37,16 @@ pub(crate) fn is_name(word: &[u8]) -> bool
     }
 }
 
+/// Whether the word is a name.
+pub(crate) fn is_name(word: &[u8]) -> bool
+    ensures { result ≡ spec.is_name word.now }
+{
+    is_spelled(word)
+}
+
 /// The name in lower case. The word is a name.
 pub(crate) fn lowered(alloc: Global, word: &[u8]) -> Result<Text, NoMemory>
-    requires { names.is_name word.now ≡ true }
+    requires { spec.is_name word.now ≡ true }
     ensures { IfOk result (λ name. name ≡ str_to_ascii_lowercase word.now) }
 {
     match std::str::from_utf8(word) {
@@ -53,8 +59,8 @@ pub(crate) fn lowered(alloc: Global, word: &[u8]) -> Result<Text, NoMemory>
     }
 }
 
-fn is_kept_word(word: &[u8]) -> bool
-    ensures { result ≡ list_any (names.reads word.now) names.kept_words }
+fn is_reserved_word(word: &[u8]) -> bool
+    ensures { result ≡ list_any (bytes_eq (str_to_ascii_lowercase word.now)) names.reserved_words }
 {
     reads(word, b"setup")
         || reads(word, b"fetch")
@@ -65,27 +71,24 @@ fn is_kept_word(word: &[u8]) -> bool
         || reads(word, b"force")
 }
 
-/// Whether it is one of the digits 1 to 8.
-pub(crate) fn is_worker_digit(digit: u8) -> bool
-    ensures { result ≡ names.is_worker_digit digit }
-{
-    b'1' <= digit && digit <= b'8'
-}
-
 fn is_worker_name(word: &[u8]) -> bool
-    ensures { result ≡ names.is_worker_name word.now }
+    ensures { result ≡ list_any (bytes_eq (str_to_ascii_lowercase word.now)) names.worker_names }
 {
-    match word {
-        [w, digit] => (*w == b'w' || *w == b'W') && is_worker_digit(*digit),
-        _ => false,
-    }
+    reads(word, b"w1")
+        || reads(word, b"w2")
+        || reads(word, b"w3")
+        || reads(word, b"w4")
+        || reads(word, b"w5")
+        || reads(word, b"w6")
+        || reads(word, b"w7")
+        || reads(word, b"w8")
 }
 
-/// Whether a session may have the name.
+/// Whether a session may have the name, in lower case.
 pub(crate) fn is_session_name(word: &[u8]) -> bool
-    ensures { result ≡ names.is_session_name word.now }
+    ensures { result ≡ names.is_session_name (str_to_ascii_lowercase word.now) }
 {
-    is_name(word) && !is_kept_word(word) && !is_worker_name(word)
+    is_name(word) && !is_reserved_word(word) && !is_worker_name(word)
 }
 
 /// The number of the session of this name, from 1. Cost: one comparison for each session.

@@ -6,11 +6,12 @@ use Rattle.lv_lexer.specs.Scan.{Scans, AreInOrder}
 use Rattle.lv_parser.specs.declared.tree.Stmt.{Stmt}
 use Rattle.lv_parser.specs.declared.stop.ParseFault.{ParseFault}
 use Rattle.lv_parser.specs.declared.stop.ParseFault.TheVariants.{Syntax, NoMemory}
-use Rattle.lv_parser.specs.Fault.{IsAnswer, Stops}
+use Rattle.lv_parser.specs.Fault.{IsAnswer, Stops, byte_of}
 use Rattle.lv_parser.specs.Grammar as rule
 use Rattle.lv_parser.specs.Lines.{ReadsAs, IsFaultAt, said, end_byte}
 use Rattle.lv_parser.proofs.ExactRules.{line_reads}
-use Rattle.lv_parser.proofs.Whole.{one_reading}
+use Rattle.lv_lexer.proofs.Spans.{scans_one}
+use Rattle.lv_parser.proofs.Whole.{one_reading, one_place}
 
 -- the piece that is no token stands in the line
 pub stopped_within : (len at : ℕ) (list : List Token) (stopped : Option ℕ) → AreInOrder len at list stopped → IfSome stopped (λ stop. stop < len)
@@ -72,3 +73,20 @@ module _ (line : List ℕ) (list : List Token) (stopped : Option ℕ) (all : Lis
   only_line answer stmt r =
       only_all all ends (end_byte line stopped) result answer (it_ends r.tokens r.scan) stmt
       (let P : List Terminal → Type 0 = λ x. rule.line.reads x stmt [] in subst P (sym (same_all r.tokens r.scan)) r.reading)
+
+-- ---- laws over lines
+
+pub one_statement : (line : List ℕ) (a b : Stmt) → ReadsAs line a → ReadsAs line b → a ≡ b
+one_statement line a b r s =
+    let e = scans_one 0 line r.tokens s.tokens None None r.scan s.scan in
+    let P : List Token → Type 0 = λ x. rule.line.reads (said line x) b [] in
+    one_reading line_reads (said line r.tokens) a b r.reading (subst P (sym e.0) s.reading)
+
+same_byte : (line : List ℕ) (s r : Option ℕ) (one other : List Terminal) → s ≡ r → one ≡ other → byte_of (end_byte line s) one ≡ byte_of (end_byte line r) other
+same_byte line s r one other e f = ap (λ x. byte_of (end_byte line x) one) e ∙ ap (byte_of (end_byte line r)) f
+
+pub one_fault : (line : List ℕ) (a b : ℕ) → IsFaultAt line a → IsFaultAt line b → a ≡ b
+one_fault line a b f g =
+    let e = scans_one 0 line f.tokens g.tokens f.stopped g.stopped f.scan g.scan in
+    let P : List Token → Type 0 = λ x. Stops rule.line (said line x) g.rest in
+    f.place ∙ (same_byte line f.stopped g.stopped f.rest g.rest e.1 (one_place rule.line (said line f.tokens) f.rest g.rest f.stops (subst P (sym e.0) g.stops)) ∙ sym g.place)

@@ -5,6 +5,9 @@ mod changes;
 mod conditions;
 mod creation;
 mod cursor;
+mod laws;
+#[cfg(test)]
+mod line_tests;
 mod lists;
 mod names;
 mod parsing;
@@ -17,6 +20,7 @@ mod statements;
 mod stop;
 mod tree;
 
+pub use laws::{reads_one_way, stops_at_one_place};
 pub use parsing::parse;
 pub use stop::ParseFault;
 pub use tree::{

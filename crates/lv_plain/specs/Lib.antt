@@ -5,5 +5,6 @@ pub mod LegalTurns
 pub mod Machine
 pub mod Legal
 pub mod Difference
-pub mod Names
-pub mod Program
+pub mod Following
+pub mod Limits
+pub mod SessionNames

@@ -3,7 +3,7 @@ ghost use Rattle.std.specs.Prelude.{◌≡◌, ◌≢◌, ◌≤◌, length, Non
 ghost use Rattle.std.specs.Option.{option_map};
 ghost use Rattle.std.specs.Bool.{MatchBool};
 ghost use Rattle.std.specs.List.{All};
-ghost use Rattle.lv_plain.specs.Program.{IsWithinLimits};
+ghost use Rattle.lv_plain.specs.Limits.{IsWithinLimits};
 ghost use Rattle.lv_plain.specs.Difference.{IsFirstApart, IsFirstDifference, IsFirstSession, texts_of};
 
 use crate::program::{OrderItem, Program, Script};

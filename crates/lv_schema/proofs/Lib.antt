@@ -3,7 +3,6 @@ pub mod Numbers
 pub mod PendingTasks
 pub mod PlannedSteps
 pub mod ForcedSteps
-mod SchemaLemmas
 pub mod Totals
 pub mod OnceLists
 pub mod ChangeLists
@@ -12,5 +11,6 @@ pub mod Apart
 pub mod ViewRows
 pub mod NetsLead
 pub mod KeptCounts
+mod SchemaLemmas
 mod ShopExamples
 mod WorldExamples

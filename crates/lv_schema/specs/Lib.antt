@@ -1,6 +1,3 @@
-pub mod Bound
-pub mod Catalog
-pub mod Names
 pub mod Tuples
 pub mod Truth
 pub mod Seen
@@ -20,6 +17,10 @@ pub mod Commits
 pub mod Cases
 pub mod Upkeep
 pub mod UpkeepCases
+pub mod Names
+pub mod Bound
 pub mod Greatest
 pub mod Versions
+pub mod Catalog
 pub mod Profile
+pub mod Sound

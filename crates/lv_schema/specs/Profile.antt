@@ -1,37 +1,45 @@
--- What a view's list may be, as the law that a view has no row twice uses it. A view without GROUP BY lists columns
--- alone, each key column of each alias among them; a grouped view lists its GROUP BY columns, no other columns, and one
--- COUNT(*).
-use Rattle.std.specs.Prelude.{◌≡◌, ℕ, ◌<◌, ◌≤◌, Bool, true, false, List, [], map, length}
-use Rattle.std.specs.List.{list_all, list_any, flat_map, count_by, enumerate_from}
+-- The rules on what a view may be, each over its list and its GROUP BY columns, and in the order in which a broken one
+-- is shown.
+use Rattle.std.specs.Prelude.{ℕ, Bool, true, cond, ◌&&◌, ◌==◌, List, [], ◌∷◌, ◌++◌, Option, Some, None}
+use Rattle.std.specs.List.{list_all, count_by}
 use Rattle.lv_schema.specs.declared.cond.Col.{Col}
+use Rattle.lv_schema.specs.declared.fault.ProfileRule.{ProfileRule}
+use Rattle.lv_schema.specs.declared.fault.ProfileRule.TheVariants as rule
 use Rattle.lv_schema.specs.declared.table.TableDef.{TableDef}
+use Rattle.lv_schema.specs.declared.view.Item.{Item}
 use Rattle.lv_schema.specs.declared.view.ViewDef.{ViewDef}
-use Rattle.lv_schema.specs.Bound.{same_col, is_plain, is_count}
+use Rattle.lv_schema.specs.Bound.{has_col, is_plain, is_count, all_key_cols}
 use Rattle.lv_schema.specs.JoinViews.{plain_columns}
-use Rattle.lv_schema.specs.World.{table_at}
 
-abbrev pub has_col : Col → List Col → Bool
-has_col col cols = list_any (same_col col) cols
+-- the first of a list
+abbrev pub first : {A : Type 0} → List A → Option A
+first [] = None
+first (x ∷ xs) = Some x
 
--- the key columns of each alias
-abbrev pub key_cols : List TableDef → ℕ × ℕ → List Col
-key_cols tables at = map (λ k. record { alias = at.0; column = k }) (table_at tables at.1).key
+-- whether each of these columns is among those
+abbrev pub are_among : List Col → List Col → Bool
+are_among cols others = list_all (λ col. has_col col others) cols
 
-abbrev pub all_key_cols : List TableDef → List ℕ → List Col
-all_key_cols tables numbers = flat_map (key_cols tables) (enumerate_from 0 numbers)
+-- without GROUP BY there are columns alone; with it each listed column is grouped and each grouped column listed
+abbrev pub keeps_group : List Item → List Col → Bool
+keeps_group items [] = list_all is_plain items
+keeps_group items (g ∷ groups) = are_among (plain_columns items) (g ∷ groups) && are_among (g ∷ groups) (plain_columns items)
 
-pub record IsGroupList (view : ViewDef) : Type 0 where
-  pub some_groups : 0 < length view.groups
-  pub few_groups : length view.groups ≤ 16
-  pub groups_listed : list_all (λ col. has_col col (plain_columns view.items)) view.groups ≡ true
-  pub listed_grouped : list_all (λ col. has_col col view.groups) (plain_columns view.items) ≡ true
-  pub one_count : count_by is_count view.items ≡ 1
+-- with GROUP BY there is exactly one COUNT(*)
+abbrev pub keeps_count : List Item → List Col → Bool
+keeps_count items [] = true
+keeps_count items (g ∷ groups) = count_by is_count items == 1
 
-pub record IsPlainList (tables : List TableDef) (view : ViewDef) : Type 0 where
-  pub no_groups : view.groups ≡ []
-  pub plain : list_all is_plain view.items ≡ true
-  pub keys_listed : list_all (λ col. has_col col (plain_columns view.items)) (all_key_cols tables view.tables) ≡ true
+-- without GROUP BY each key column of each alias is listed
+abbrev pub keeps_key : List TableDef → List ℕ → List Item → List Col → Bool
+keeps_key tables numbers items [] = are_among (all_key_cols tables numbers) (plain_columns items)
+keeps_key tables numbers items (g ∷ groups) = true
 
-abbrev pub IsProfile : List TableDef → ViewDef → Bool → Type 0
-IsProfile tables view true = IsGroupList view
-IsProfile tables view false = IsPlainList tables view
+-- the rule, where it is broken
+abbrev pub broken : Bool → ProfileRule → List ProfileRule
+broken keeps which = cond keeps [] (which ∷ [])
+
+abbrev pub broken_rules : List TableDef → ViewDef → List ProfileRule
+broken_rules tables view =
+    broken (keeps_group view.items view.groups) rule.Group
+    ++ (broken (keeps_count view.items view.groups) rule.Count ++ broken (keeps_key tables view.tables view.items view.groups) rule.Key)

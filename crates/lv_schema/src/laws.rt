@@ -11,7 +11,7 @@ ghost use Rattle.lv_schema.specs.declared.forced.Forced.{Forced};
 ghost use Rattle.lv_schema.specs.declared.logic.Truth.TheVariants.{Yes};
 ghost use Rattle.lv_schema.specs.declared.table.TableDef.{TableDef};
 ghost use Rattle.lv_schema.specs.declared.view.ViewDef.{ViewDef};
-ghost use Rattle.lv_schema.specs.Profile.{IsProfile};
+ghost use Rattle.lv_schema.specs.Bound.{IsProfile};
 ghost use Rattle.lv_schema.specs.Databases.{Db, rows_of, IsDatabase};
 ghost use Rattle.lv_schema.specs.Differences.{summed_columns, view_difference, groups_of};
 ghost use Rattle.lv_schema.specs.Groups.{view_rows};

@@ -14,6 +14,7 @@ mod logic;
 mod net;
 mod open;
 mod pending;
+mod profile;
 mod query;
 mod rec;
 mod schema;

@@ -4,7 +4,7 @@ ghost use Rattle.std.specs.Str.{bytes_eq};
 ghost use Rattle.indexmap.specs.IndexMap.{keys, values, spare};
 
 use crate::query::Rel;
-use crate::table::TableDef;
+use crate::table::{Column, TableDef};
 use crate::view::ViewDef;
 use indexmap::IndexMap;
 use lv_values::{Copying, NoMemory, Text};
@@ -42,7 +42,7 @@ impl Model for Schema {
     ghost coded = { Prim.hlevel (codes, cond.the_row.coded) };
 
     ghost use Rattle.std.specs.Prelude.{◌≡◌, ◌<◌, true, map, is_some};
-    ghost use Rattle.lv_schema.specs.Bound.{IsSchema};
+    ghost use Rattle.lv_schema.specs.Sound.{IsSchema};
     ghost use Rattle.indexmap.specs.IndexMap.{keys, values, spare};
 
     ghost view = { λ s. record { tables = values s.tables; views = values s.views; reserved = s.reserved } };
@@ -56,8 +56,10 @@ impl Model for Schema {
 }
 
 impl Schema {
-    ghost use Rattle.lv_schema.specs.Catalog.{rel_named, table_at, view_at};
-    ghost use Rattle.lv_schema.specs.Bound.{IsSchema, IsBoundTable, IsBoundView};
+    ghost use Rattle.lv_schema.specs.Bound.{IsBoundTable, IsBoundView};
+    ghost use Rattle.lv_schema.specs.Catalog.{rel_named};
+    ghost use Rattle.lv_schema.specs.Sound.{IsSchema};
+    ghost use Rattle.lv_schema.specs.World.{table_at, view_at};
 
     /// No tables and no views. It takes no memory.
     pub fn new(alloc: Global) -> Schema
@@ -85,7 +87,8 @@ impl Schema {
 
     /// What has this name. Cost: one look-up in the tables, and one in the views where no table has it.
     pub fn find(&self, name: &Text) -> Option<Rel>
-        ensures { result ≡ rel_named self.now.tables self.now.views name.now }
+        ensures found { result ≡ rel_named self.now.tables self.now.views name.now }
+        ensures sound { IsSchema self.now.tables self.now.views }
     {
         if let Some(at) = self.tables.get_index_of(name) {
             return Some(Rel::Table(at as u32));
@@ -120,6 +123,28 @@ impl Schema {
         ensures { result.now ≡ table_at self.now.tables no }
     {
         self.tables.get_index(no as usize).unwrap().1
+    }
+
+    /// The key of a table, no column where the number is not in use. Cost: constant.
+    pub fn key(&self, no: u32) -> &[u8]
+        ensures { result.now ≡ (table_at self.now.tables no).key }
+    {
+        if no < self.tables() {
+            self.table(no).key.as_slice()
+        } else {
+            &[]
+        }
+    }
+
+    /// The columns of a table, none where the number is not in use. Cost: constant.
+    pub fn columns(&self, no: u32) -> &[Column]
+        ensures { result.now ≡ (table_at self.now.tables no).columns }
+    {
+        if no < self.tables() {
+            self.table(no).columns.as_slice()
+        } else {
+            &[]
+        }
     }
 
     /// The view of a number that is in use. Cost: constant.

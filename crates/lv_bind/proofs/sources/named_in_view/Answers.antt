@@ -1,4 +1,4 @@
-use Rattle.lv_schema.specs.Catalog.{view_at}
+use Rattle.lv_schema.specs.World.{view_at}
 use Rattle.lv_bind.proofs.SourceLemmas.{named_in_items}
 use Rattle.lv_bind.proofs.sources.named_in_view.Goals as goal
 

@@ -1,6 +1,7 @@
 use Rattle.std.proofs.Common.{◌≢◌, ℕ, List, subst, sym, ◌∙◌, arith}
 use Rattle.std.specs.List.{All}
 use Rattle.lv_lines.proofs.Sound.{IsSound, return_free, sound_line}
+use Rattle.lv_lines.proofs.SoundOrder.{followable_of}
 use Rattle.lv_lines.proofs.Steps.{goes_on_piece}
 use Rattle.lv_lines.proofs.script.read_script.Goals as goal
 
@@ -14,3 +15,6 @@ lines-preserved c =
       sound = subst IsSound (sym judged.1) (sound_line c.lines.part line free judged.0 c.lines.invariant.sound);
       within = omega (arith, c.first_piece.ensures.shorter, c.lines.invariant.within);
     }
+
+pub returns-clause-order : goal.returns-clause-order
+returns-clause-order c = followable_of c.lines.part c.lines.invariant.sound.followed

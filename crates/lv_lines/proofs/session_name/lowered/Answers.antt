@@ -1,4 +1,4 @@
-use Rattle.lv_lines.proofs.NamesAreText.{name_utf8}
+use Rattle.lv_lines.proofs.SpelledNames.{name_utf8}
 use Rattle.lv_lines.proofs.session_name.lowered.Goals as goal
 
 pub unreachable-requires : goal.unreachable-requires

@@ -1,7 +1,7 @@
 use Rattle.std.proofs.Common.{rules, ap}
 use Rattle.lv_schema.specs.declared.table.TableDef.{TableDef}
 use Rattle.lv_schema.specs.Catalog.{Catalog}
-use Rattle.lv_schema.proofs.SchemaLemmas.{keys_named, taken_name, sound_with_table}
+use Rattle.lv_schema.proofs.SchemaLemmas.{keys_named, taken_name, sound_with_table, no_table_key}
 use Rattle.lv_schema.proofs.schema.Schema.add_table.Goals as goal
 
 pub invariant_of-self : goal.invariant_of-self
@@ -13,3 +13,7 @@ invariant_of-self c =
       search rules,
       sound_with_table _ _ _ _ c.self.view_is c.self.invariant.4 _ _ c.requires.bound c.put_last.ensures.values,
     )
+
+pub put_last-requires-clause-new : goal.put_last-requires-clause-new
+put_last-requires-clause-new c =
+    no_table_key _ _ _ _ c.self.view_is c.self.invariant.4 c.args.def _ _ c.requires.bound.free c.self.invariant.0 (taken_name _ _ _ _ _ c.unwrap-name.ensures c.take.ensures.value (ap (λ (w : Catalog). w.reserved) c.self.view_is) c.requires.reserved)

@@ -1,0 +1,5 @@
+pub mod Sums
+pub mod Runs
+pub mod Groupings
+pub mod Bounds
+pub mod GroupRows

@@ -1,0 +1,15 @@
+//! Groups of tuples, with their counts and sums.
+#![tactic(auto)]
+
+mod entry;
+mod gathering;
+mod grouped;
+mod laws;
+mod listing;
+mod places;
+#[cfg(test)]
+mod tests;
+
+pub use gathering::fold;
+pub use grouped::Groups;
+pub use laws::rows_of_groups_are_the_view_s;

@@ -1,0 +1,10 @@
+use Rattle.std.proofs.Common.{◌≡◌, drop}
+use Rattle.std.specs.List.{list_all}
+use Rattle.lv_schema.specs.Bound.{has_col, is_plain}
+use Rattle.lv_schema.specs.JoinViews.{plain_columns}
+use Rattle.lv_schema.specs.Profile.{are_among}
+use Rattle.lv_schema.proofs.profile.has_col.Given as goal
+
+abbrev pub invariant-loop-other : goal.invariant-loop-other
+invariant-loop-other l =
+    has_col l.col (drop l.other-index l.cols) ≡ has_col l.col l.cols
