@@ -1,9 +1,9 @@
 //! Laws of transcripts, stated as contracts.
-ghost use Rattle.std.specs.Prelude.{◌≡◌, ℕ, List, true};
-ghost use Rattle.lv_plain.specs.Names.{IsLowerName};
+ghost use Rattle.std.specs.Prelude.{◌≡◌, ◌∷◌, ℕ, List, true, codes};
+ghost use Rattle.lv_plain.specs.SessionNames.{AreSessionNames};
 ghost use Rattle.lv_plain.specs.declared.entry.Entry.{Entry as AnEntry};
-ghost use Rattle.lv_schema.specs.Names.{is_name};
-ghost use Rattle.lv_lines.specs.Entries.{IsWord, IsNames, AreEntries};
+ghost use Rattle.lv_schema.specs.Names.{is_lower_name, is_name};
+ghost use Rattle.lv_lines.specs.Entries.{IsWord, AreWords, IsNames, AreEntries};
 ghost use Rattle.lv_lines.specs.Transcript.{text_of};
 
 use crate::names::Names;
@@ -14,8 +14,11 @@ pub fn text_tells_entries(names: &Names)
     ensures { (a b : List AnEntry) → AreEntries names.now a → AreEntries names.now b → text_of names.now a ≡ text_of names.now b → a ≡ b }
 {}
 
-/// The names of programs, and of tables and views, are words.
+/// The names of programs, and of tables and views, are words; and those of a program's sessions, behind that of
+/// the setup, are words that differ.
 pub fn names_are_words()
-    ensures programs { (name : List ℕ) → IsLowerName name → IsWord name }
+    ensures programs { (name : List ℕ) → is_lower_name name ≡ true → IsWord name }
     ensures schema { (name : List ℕ) → is_name name ≡ true → IsWord name }
-{}
+    ensures sessions { (names : List (List ℕ)) → AreSessionNames names → AreWords (codes "setup" ∷ names) }
+{
+}

@@ -1,5 +1,5 @@
 use Rattle.std.proofs.lemmas.Str.{is_utf8-from_IsUtf8}
-use Rattle.lv_lines.proofs.LineText.{not_utf8}
+use Rattle.lv_lines.proofs.Utf8.{not_utf8}
 use Rattle.lv_lines.proofs.script_line.text_of.Goals as goal
 
 pub returns-in-Ok : goal.returns-in-Ok
