@@ -7,7 +7,6 @@ use Rattle.std.specs.Str.{bytes_eq}
 use Rattle.std.proofs.lemmas.Fmt.{decimal_digit}
 use Rattle.std.proofs.lemmas.List.{append-nil, get_or-append-add, take-append-drop, drop_at}
 use Rattle.std.proofs.lemmas.Slice.Eq.{bytes_eq-Decides}
-use Rattle.lv_schema.specs.Names.{begins_word, continues_word}
 use Rattle.lv_schema.specs.declared.forced.Forced.{Forced}
 use Rattle.lv_plain.specs.declared.entry.Reply.{Reply}
 use Rattle.lv_plain.specs.declared.entry.Reply.TheVariants.{Made, Changed, Alone, Began, Committed, RolledBack, Rows, Tasks, Refused}
@@ -20,7 +19,7 @@ use Rattle.lv_reading.proofs.Again.{IsRead, many_again, expect_again, prefix_len
 use Rattle.lv_reading.proofs.Decimals.{natural_again, decimal_digits, decimal_some}
 use Rattle.lv_lines.specs.declared.names.Names.{Names}
 use Rattle.lv_lines.specs.Transcript.{name_of, fault_text, reply_text, step_text, forced_line, worker_text, outcome_text, entry_text, text_of}
-use Rattle.lv_lines.specs.Entries.{IsWord, IsNames, IsReply, ReplyHasNames, IsStep, IsWorker, IsOutcome, OutcomeHasNames, IsEntry, HasNames, AreEntries}
+use Rattle.lv_lines.specs.Entries.{begins_word, continues_word, IsWord, IsNames, IsReply, ReplyHasNames, IsStep, IsWorker, IsOutcome, OutcomeHasNames, IsEntry, HasNames, AreEntries}
 use Rattle.lv_lines.specs.Words.{word, word_len, is_numbered, place_in, name_in, own}
 use Rattle.lv_lines.specs.Readers.{step, step_line, forced, is_forced, statement, worker, fetched, installed, moved, idle, busy, empty, released, short_line, worker_line, of_worker, upto, already, mark_refused, any_outcome, marked, mark_unknown, of_mark, cleaned, is_cleaned, named_line, any_entry, goes_on, all_entries}
 use Rattle.lv_lines.proofs.TakesWords.{and_parts}

@@ -11,14 +11,13 @@ use Rattle.std.proofs.lemmas.Str.{is_utf8-from_IsUtf8, IsUtf8-from_ascii}
 use Rattle.lv_values.specs.declared.value.Value.{Value}
 use Rattle.lv_values.specs.declared.value.Value.TheVariants.{Num, Text}
 use Rattle.lv_values.specs.Print.{doubled, value_text, values_text, row_line}
-use Rattle.lv_schema.specs.Names.{begins_word, continues_word}
 use Rattle.lv_reading.specs.Reading.{begins, expect, byte, stops, separated, until}
 use Rattle.lv_reading.specs.Numbers.{IsWide}
 use Rattle.lv_reading.proofs.Takes.{until_text}
 use Rattle.lv_reading.proofs.Again.{run_again, separated_again, until_again}
 use Rattle.lv_reading.proofs.Decimals.{number_again, decimal_digits, decimal_some}
 use Rattle.lv_lines.specs.Transcript.{name_of, key_text}
-use Rattle.lv_lines.specs.Entries.{IsWord, AreWords, IsValue, IsRow}
+use Rattle.lv_lines.specs.Entries.{begins_word, continues_word, IsWord, AreWords, IsValue, IsRow}
 use Rattle.lv_lines.specs.Words.{word, place_in, name_in, own, own_word, quoted_byte, text_of, quoted, text_value, value, row, key}
 use Rattle.lv_lines.proofs.TakesWords.{and_parts, byte_text, IsText, in_quotes, quoted_is, values_is}
 

@@ -10,25 +10,22 @@ use Rattle.std.proofs.lemmas.List.Sums.{AllPass-from_list_all}
 use Rattle.std.proofs.lemmas.List.Elements.{All-cons, All-weaker}
 use Rattle.std.proofs.lemmas.Str.{IsUtf8-from_ascii}
 use Rattle.std.proofs.lemmas.Str.Ascii.{IsAscii-from_all, lowercase-lowercase}
-use Rattle.lv_schema.specs.Names.{begins_word, continues_word, is_lower_name}
+use Rattle.lv_schema.specs.Names as lower
 use Rattle.lv_lines.specs.SessionName.{is_name, begins_name, continues_name, is_spelled}
 
 pub lower-lower : (word : List ℕ) → str_to_ascii_lowercase (str_to_ascii_lowercase word) ≡ str_to_ascii_lowercase word
 lower-lower [] = refl
 lower-lower (b ∷ bytes) = rw (lowercase-lowercase b, lower-lower bytes) refl
 
-begins-lower : (b : ℕ) → begins_word (to_ascii_lowercase b) ≡ begins_name b
+begins-lower : (b : ℕ) → lower.begins_name (to_ascii_lowercase b) ≡ begins_name b
 begins-lower b = grind (arith, nat_tests)
 
-continues-lower : (b : ℕ) → continues_word (to_ascii_lowercase b) ≡ continues_name b
+continues-lower : (b : ℕ) → lower.continues_name (to_ascii_lowercase b) ≡ continues_name b
 continues-lower b = grind (arith, nat_tests)
 
-all_continue-lower : (bytes : List ℕ) → list_all continues_word (str_to_ascii_lowercase bytes) ≡ list_all continues_name bytes
+all_continue-lower : (bytes : List ℕ) → list_all lower.continues_name (str_to_ascii_lowercase bytes) ≡ list_all continues_name bytes
 all_continue-lower [] = refl
 all_continue-lower (b ∷ bytes) = rw (continues-lower b, all_continue-lower bytes) refl
-
-within-suc : (n : ℕ) → nat_le (suc n) 32 ≡ nat_le n 31
-within-suc n = grind (arith, nat_tests)
 
 grouped : (a b c : Bool) → (a && b && c) ≡ (a && (b && c))
 grouped true b c = refl
@@ -36,7 +33,7 @@ grouped false b c = refl
 
 pub is_name-spelled : (word : List ℕ) → is_name word ≡ is_spelled word
 is_name-spelled [] = refl
-is_name-spelled (b ∷ bytes) = rw (begins-lower b, all_continue-lower bytes, length-map bytes to_ascii_lowercase, within-suc (length bytes)) (grouped (begins_name b) (list_all continues_name bytes) (nat_le (length bytes) 31))
+is_name-spelled (b ∷ bytes) = rw (begins-lower b, all_continue-lower bytes, length-map bytes to_ascii_lowercase) (grouped (begins_name b) (list_all continues_name bytes) (nat_le (length bytes) 31))
 
 ascii_begin : (b : ℕ) → begins_name b ≡ true → b < 128
 ascii_begin b h = grind (arith, nat_tests)

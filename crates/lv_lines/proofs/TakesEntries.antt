@@ -4,7 +4,6 @@ use Rattle.std.specs.Prelude.{codes, decimal}
 use Rattle.std.specs.List.{flat_map, AllByRecursion}
 use Rattle.std.proofs.lemmas.List.{append-nil}
 use Rattle.lv_values.specs.Print.{row_line}
-use Rattle.lv_schema.specs.Names.{continues_word}
 use Rattle.lv_schema.specs.declared.fault.Fault.{Fault}
 use Rattle.lv_schema.specs.declared.fault.Fault.TheVariants.{Store, JournalFull}
 use Rattle.lv_schema.specs.declared.forced.Forced.{Forced}
@@ -16,7 +15,7 @@ use Rattle.lv_reading.proofs.Takes.{Takes, then_takes, last_takes, pure_takes, c
 use Rattle.lv_reading.proofs.Decimals.{natural_takes}
 use Rattle.lv_lines.specs.declared.names.Names.{Names}
 use Rattle.lv_lines.specs.Transcript.{name_of, commit_text, task_line, reply_text, step_text, forced_line, worker_text, outcome_text, entry_text, text_of}
-use Rattle.lv_lines.specs.Entries.{IsRow, IsNumber, IsTask, IsReply, ReplyHasNames, IsStep, IsWorker, IsOutcome, OutcomeHasNames, IsStoreFault, FaultHasNames, IsEntry, HasNames, AreEntries}
+use Rattle.lv_lines.specs.Entries.{continues_word, IsRow, IsNumber, IsTask, IsReply, ReplyHasNames, IsStep, IsWorker, IsOutcome, OutcomeHasNames, IsStoreFault, FaultHasNames, IsEntry, HasNames, AreEntries}
 use Rattle.lv_lines.specs.Words.{word, is_numbered}
 use Rattle.lv_lines.specs.Readers.{some_number, commit_number, made, alone, changed, counted, began, committed, rolled_back, rows, task, tasks, refused, answered, ended, any_reply, step, step_line, forced, statement, worker, fetched, installed, moved, idle, busy, empty, released, short_line, worker_line, of_worker, upto, already, mark_refused, any_outcome, marked, mark_unknown, of_mark, cleaned, is_cleaned, named_line, any_entry, goes_on, all_entries}
 use Rattle.lv_lines.proofs.TakesWords.{IsPlace, IsPlaceOf, place_takes, name_takes, own_takes, row_takes}

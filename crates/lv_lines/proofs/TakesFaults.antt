@@ -7,12 +7,11 @@ use Rattle.lv_values.specs.declared.value.Value.{Value}
 use Rattle.lv_schema.specs.declared.fault.Fault.{Fault}
 use Rattle.lv_schema.specs.declared.fault.LimitKind.{LimitKind}
 use Rattle.lv_schema.specs.declared.fault.ProfileRule.{ProfileRule}
-use Rattle.lv_schema.specs.Names.{continues_word}
 use Rattle.lv_reading.proofs.Takes.{Takes, then_takes, last_takes, pure_takes, choice_takes, given_takes, expect_takes, run_takes}
 use Rattle.lv_reading.proofs.Decimals.{natural_takes, number_takes}
 use Rattle.lv_lines.specs.declared.names.Names.{Names}
 use Rattle.lv_lines.specs.Transcript.{name_of, key_text, limit_word, rule_word, fault_text}
-use Rattle.lv_lines.specs.Entries.{IsWord, IsRow, IsFault, FaultHasNames, IsStoreFault}
+use Rattle.lv_lines.specs.Entries.{continues_word, IsWord, IsRow, IsFault, FaultHasNames, IsStoreFault}
 use Rattle.lv_lines.specs.Words.{word}
 use Rattle.lv_lines.specs.Readers.{at_byte, of_word, of_table, of_key, syntax_fault, unknown, ambiguous, in_use, kinds, limits, any_limit, limit_fault, rules, any_rule, profile, not_setup, in_transaction, no_transaction, key_assigned, range, duplicate, table_full, conflict, merged_full, journal_full, store_failed, store_fault, fault_from_16, fault_from_13, fault_from_10, fault_from_7, fault_from_4, any_fault}
 use Rattle.lv_lines.proofs.TakesWords.{IsPlace, name_takes, own_word_takes, key_takes}

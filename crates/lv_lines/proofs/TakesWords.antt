@@ -11,12 +11,11 @@ use Rattle.std.proofs.lemmas.Str.{IsUtf8-from_is_utf8}
 use Rattle.lv_values.specs.declared.value.Value.{Value}
 use Rattle.lv_values.specs.declared.value.Value.TheVariants.{Num, Text}
 use Rattle.lv_values.specs.Print.{doubled, value_text, values_behind, values_text, row_line}
-use Rattle.lv_schema.specs.Names.{continues_word}
 use Rattle.lv_reading.specs.Reading.{pure, until}
 use Rattle.lv_reading.proofs.Takes.{Takes, then_takes, last_takes, pure_takes, choice_takes, choose_takes, check_takes, below_takes, given_takes, expect_takes, byte_takes, run_takes, separated_takes, until_text, until_takes}
 use Rattle.lv_reading.proofs.Decimals.{number_takes}
 use Rattle.lv_lines.specs.Transcript.{name_of, key_text}
-use Rattle.lv_lines.specs.Entries.{IsWord, IsValue, IsRow}
+use Rattle.lv_lines.specs.Entries.{continues_word, IsWord, IsValue, IsRow}
 use Rattle.lv_lines.specs.Words.{word, place_in, name_in, own, own_word, quoted_byte, text_of, quoted, text_value, value, row, key}
 
 pub and_parts : (a b : Bool) → (a && b) ≡ true → (a ≡ true) × (b ≡ true)

@@ -1,11 +1,11 @@
 -- Which names and which entries a transcript can have.
-use Rattle.std.specs.Prelude.{◌≡◌, ℕ, ◌<◌, ◌≤◌, ◌^◌, Bool, true, false, not, ◌&&◌, ◌==◌, List, [], ◌∷◌, length, Option, Some, None, IsUtf8}
+use Rattle.std.specs.Prelude.{◌≡◌, ℕ, ◌<◌, ◌≤◌, ◌^◌, Bool, true, false, not, ◌&&◌, ◌||◌, ◌==◌, List, [], ◌∷◌, length, Option, Some, None, IsUtf8}
 use Rattle.std.specs.List.{AllByRecursion, IsDistinct, list_all}
+use Rattle.std.specs.Char.{is_ascii_lowercase, is_ascii_digit}
 use Rattle.std.specs.Str.{bytes_eq}
 use Rattle.lv_values.specs.declared.value.Value.{Value}
 use Rattle.lv_values.specs.declared.value.Value.TheVariants.{Num, Text}
 use Rattle.lv_reading.specs.Numbers.{IsWide}
-use Rattle.lv_schema.specs.Names.{is_word}
 use Rattle.lv_schema.specs.declared.fault.Fault.{Fault}
 use Rattle.lv_schema.specs.declared.fault.Fault.TheVariants.{Syntax, Unknown, Ambiguous, InUse, Kinds, Limit, KeyAssigned, Range, Duplicate, TableFull, Conflict, MergedFull, Store, JournalFull}
 use Rattle.lv_plain.specs.declared.entry.Reply.{Reply}
@@ -18,7 +18,19 @@ use Rattle.lv_lines.specs.declared.names.Names.{Names}
 
 -- ---- names
 
+-- a letter in lower case or _
+abbrev pub begins_word : ℕ → Bool
+begins_word b = is_ascii_lowercase b || (b == 95)
+
+-- such a letter or a digit
+abbrev pub continues_word : ℕ → Bool
+continues_word b = begins_word b || is_ascii_digit b
+
 -- a letter in lower case or _, and then letters, digits and _
+abbrev pub is_word : List ℕ → Bool
+is_word [] = false
+is_word (b ∷ bytes) = begins_word b && list_all continues_word bytes
+
 abbrev pub IsWord : List ℕ → Type 0
 IsWord w = is_word w ≡ true
 

@@ -7,7 +7,7 @@ use Rattle.lv_values.specs.declared.value.Value.{Value}
 use Rattle.lv_values.specs.declared.value.Value.TheVariants.{Num, Text}
 use Rattle.lv_reading.specs.Reading.{Reader, ◌>>=◌, ◌>>◌, pure, given, check, below, choose, choice, begins, expect, byte, run, separated, until}
 use Rattle.lv_reading.specs.Numbers.{number}
-use Rattle.lv_schema.specs.Names.{continues_word, is_word}
+use Rattle.lv_lines.specs.Entries.{continues_word, is_word}
 
 -- ---- words and names
 

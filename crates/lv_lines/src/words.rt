@@ -2,7 +2,7 @@
 ghost use Rattle.std.specs.Prelude.{◌≡◌, ◌==◌, ◌≤◌, ◌&&◌, position, not, true, false, List, ℕ, Some, IfOk, length};
 ghost use Rattle.std.specs.List.{list_all};
 ghost use Rattle.std.specs.Str.{bytes_eq, is_utf8};
-ghost use Rattle.lv_schema.specs.Names as names;
+ghost use Rattle.lv_lines.specs.Entries as names;
 ghost use Rattle.lv_reading.specs.Reading.{Gives};
 ghost use Rattle.lv_lines.specs.Words as read;
 
