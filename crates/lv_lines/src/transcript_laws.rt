@@ -20,5 +20,4 @@ pub fn names_are_words()
     ensures programs { (name : List ℕ) → is_lower_name name ≡ true → IsWord name }
     ensures schema { (name : List ℕ) → is_name name ≡ true → IsWord name }
     ensures sessions { (names : List (List ℕ)) → AreSessionNames names → AreWords (codes "setup" ∷ names) }
-{
-}
+{}
