@@ -85,18 +85,3 @@ unfolding sees
 allow_taken k [] found rest s e = cc
 allow_taken k (t ∷ all) None rest s e = let q : t ∷ all ≡ [] = e.0 in cc
 allow_taken k (t ∷ all) (Some u) rest s e = rw (s, expect_taken k (t ∷ all) u rest s e) refl
-
-each_small : (all : List Terminal) → All IsSmall all → AreSmall all
-each_small [] h = tt
-each_small (t ∷ all) h = (h 0 t (omega arith), each_small all (λ k d l. h (suc k) d (omega arith)))
-
-small_joined : (xs ys : List Terminal) → AreSmall xs → AreSmall ys → AreSmall (xs ++ ys)
-small_joined [] ys h k = k
-small_joined (t ∷ xs) ys h k = (h.0, small_joined xs ys h.1 k)
-
-small_reverse : (all : List Terminal) → AreSmall all → AreSmall (reverse all)
-small_reverse [] h = tt
-small_reverse (t ∷ all) h = rw (reverse-append (t ∷ []) all) (small_joined (reverse all) (t ∷ []) (small_reverse all h.1) (h.0, tt))
-
-pub small_backwards : (all : List Terminal) → All IsSmall all → AreSmall (reverse all)
-small_backwards all h = small_reverse all (each_small all h)

@@ -35,10 +35,6 @@ module _ {A : Type 0} (g : Rule A) (more : List ℕ) (all : List Terminal) where
     first = (rest, stops rest fails.halts, refl);
   }
 
-  same_tree : (a b : A) (r : List Terminal) → Starts more [] ⊎ ((b ≡ a) × (r ≡ [])) → b ≡ a
-  same_tree a b r (inl s) = cc
-  same_tree a b r (inr (e, q)) = e
-
   one_tree : (o : Outcome A) → Exact g more all o → (a b : A) → g.reads all a [] → g.reads all b [] → a ≡ b
   one_tree (Ok (c, rest)) found a b h k = to_c a (found.only a [] h) ∙ sym (to_c b (found.only b [] k)) where
     to_c : (x : A) → Starts more [] ⊎ ((x ≡ c) × ([] ≡ rest)) → x ≡ c
