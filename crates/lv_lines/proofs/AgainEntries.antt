@@ -1,9 +1,8 @@
 -- What was written is read again: entries.
-use Rattle.std.proofs.Common.{◌≡◌, ℕ, zero, suc, ◌+◌, ◌^◌, ◌<◌, ◌≤◌, Bool, true, false, ◌&&◌, not, nat_le, eqb, List, [], ◌∷◌, ◌++◌, length, take, drop, get_or, Option, Some, None, refl, sym, ap, ◌∙◌, append_assoc, length-append, arith}
-use Rattle.std.specs.Prelude.{codes, decimal, slice_index}
+use Rattle.std.proofs.Common.{◌≡◌, ℕ, ◌+◌, ◌^◌, ◌<◌, Bool, true, false, ◌&&◌, not, nat_le, eqb, List, [], ◌∷◌, ◌++◌, length, take, drop, get_or, Some, refl, sym, ap, ◌∙◌, append_assoc, length-append, arith}
+use Rattle.std.specs.Prelude.{codes, decimal}
 use Rattle.std.specs.Char.{is_ascii_digit}
-use Rattle.std.specs.List.{flat_map, list_all, prefix_len, AllByRecursion}
-use Rattle.std.specs.Str.{bytes_eq}
+use Rattle.std.specs.List.{flat_map, list_all, prefix_len}
 use Rattle.std.proofs.lemmas.Fmt.{decimal_digit}
 use Rattle.std.proofs.lemmas.List.{append-nil, get_or-append-add, take-append-drop, drop_at}
 use Rattle.std.proofs.lemmas.Slice.Eq.{bytes_eq-Decides}
@@ -14,18 +13,18 @@ use Rattle.lv_plain.specs.declared.entry.MarkOutcome.{MarkOutcome}
 use Rattle.lv_plain.specs.declared.entry.MarkOutcome.TheVariants as mark
 use Rattle.lv_plain.specs.declared.entry.Entry.{Entry}
 use Rattle.lv_plain.specs.declared.entry.Entry.TheVariants.{Session, Fetched, Idle, Busy, Installed, Moved, Empty, Released, Marked, MarkUnknown, Cleaned}
-use Rattle.lv_reading.specs.Reading.{Reader, choice, begins, expect, stops}
+use Rattle.lv_reading.specs.Reading.{begins, expect, stops}
 use Rattle.lv_reading.proofs.Again.{IsRead, many_again, expect_again, prefix_len_again}
 use Rattle.lv_reading.proofs.Decimals.{natural_again, decimal_digits, decimal_some}
 use Rattle.lv_lines.specs.declared.names.Names.{Names}
-use Rattle.lv_lines.specs.Transcript.{name_of, fault_text, reply_text, step_text, forced_line, worker_text, outcome_text, entry_text, text_of}
-use Rattle.lv_lines.specs.Entries.{begins_word, continues_word, IsWord, IsNames, IsReply, ReplyHasNames, IsStep, IsWorker, IsOutcome, OutcomeHasNames, IsEntry, HasNames, AreEntries}
-use Rattle.lv_lines.specs.Words.{word, word_len, is_numbered, place_in, name_in, own}
+use Rattle.lv_lines.specs.Transcript.{name_of, reply_text, step_text, forced_line, worker_text, outcome_text, entry_text, text_of}
+use Rattle.lv_lines.specs.Entries.{begins_word, continues_word, IsWord, IsNames, IsStep, IsWorker, IsOutcome, IsEntry, HasNames, AreEntries}
+use Rattle.lv_lines.specs.Words.{word_len, is_numbered}
 use Rattle.lv_lines.specs.Readers.{step, step_line, forced, is_forced, statement, worker, fetched, installed, moved, idle, busy, empty, released, short_line, worker_line, of_worker, upto, already, mark_refused, any_outcome, marked, mark_unknown, of_mark, cleaned, is_cleaned, named_line, any_entry, goes_on, all_entries}
 use Rattle.lv_lines.proofs.TakesWords.{and_parts}
-use Rattle.lv_lines.proofs.AgainWords.{word_all, word_some, word_again, name_is_word, place_again, name_again, own_again, digits_begin}
+use Rattle.lv_lines.proofs.AgainWords.{word_all, word_again, name_is_word, place_again, name_again, own_again}
 use Rattle.lv_lines.proofs.AgainFaults.{store_fault_again}
-use Rattle.lv_lines.proofs.AgainReplies.{join, regroup3, regroup4, regroup5, any_reply_again}
+use Rattle.lv_lines.proofs.AgainReplies.{join, regroup3, regroup5, any_reply_again}
 
 -- ---- the second word
 

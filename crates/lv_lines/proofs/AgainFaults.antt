@@ -1,5 +1,5 @@
 -- What was written is read again: faults.
-use Rattle.std.proofs.Common.{◌≡◌, ℕ, ◌^◌, ◌<◌, ◌≤◌, Bool, true, false, List, [], ◌∷◌, ◌++◌, length, Option, Some, None, refl, sym, ap, ◌∙◌, append_assoc, arith}
+use Rattle.std.proofs.Common.{◌≡◌, ℕ, ◌^◌, ◌<◌, List, ◌∷◌, ◌++◌, length, Some, refl, ap, ◌∙◌, append_assoc, arith}
 use Rattle.std.specs.Prelude.{codes, decimal, ℤ}
 use Rattle.std.specs.Fmt.{signed_decimal}
 use Rattle.lv_values.specs.declared.value.Value.{Value}
@@ -9,7 +9,7 @@ use Rattle.lv_schema.specs.declared.fault.LimitKind.{LimitKind}
 use Rattle.lv_schema.specs.declared.fault.LimitKind.TheVariants as limit
 use Rattle.lv_schema.specs.declared.fault.ProfileRule.{ProfileRule}
 use Rattle.lv_schema.specs.declared.fault.ProfileRule.TheVariants as rule
-use Rattle.lv_reading.specs.Reading.{given, begins, expect}
+use Rattle.lv_reading.specs.Reading.{given, begins}
 use Rattle.lv_reading.specs.Numbers.{IsWide}
 use Rattle.lv_reading.proofs.Again.{expect_again}
 use Rattle.lv_reading.proofs.Decimals.{natural_again, number_again}

@@ -1,5 +1,5 @@
 -- What was written is read again: replies.
-use Rattle.std.proofs.Common.{◌≡◌, ℕ, ◌^◌, ◌<◌, ◌≤◌, Bool, true, false, List, [], ◌∷◌, ◌++◌, length, Option, Some, None, refl, sym, ap, ◌∙◌, append_assoc, arith}
+use Rattle.std.proofs.Common.{◌≡◌, ℕ, ◌^◌, ◌<◌, List, [], ◌∷◌, ◌++◌, length, Option, Some, None, refl, ap, ◌∙◌, append_assoc, arith}
 use Rattle.std.specs.Prelude.{codes, decimal}
 use Rattle.std.specs.List.{flat_map, AllByRecursion}
 use Rattle.lv_values.specs.declared.value.Value.{Value}
@@ -8,7 +8,7 @@ use Rattle.lv_schema.specs.declared.fault.Fault.{Fault}
 use Rattle.lv_plain.specs.declared.entry.Reply.{Reply}
 use Rattle.lv_plain.specs.declared.entry.Reply.TheVariants.{Made, Changed, Alone, Began, Committed, RolledBack, Rows, Tasks, Refused}
 use Rattle.lv_reading.specs.Reading.{begins, expect}
-use Rattle.lv_reading.proofs.Again.{expect_again, times_again}
+use Rattle.lv_reading.proofs.Again.{times_again}
 use Rattle.lv_reading.proofs.Decimals.{natural_again}
 use Rattle.lv_lines.specs.declared.names.Names.{Names}
 use Rattle.lv_lines.specs.Transcript.{name_of, commit_text, task_line, fault_text, reply_text}

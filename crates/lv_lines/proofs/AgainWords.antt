@@ -1,19 +1,18 @@
 -- What was written is read again: words, names, texts, values, rows and keys.
-use Rattle.std.proofs.Common.{◌≡◌, ◌≢◌, ℕ, zero, suc, ◌+◌, ◌^◌, ◌<◌, Bool, true, false, cond, ◌&&◌, ◌||◌, not, eqb, nat_lt, List, [], ◌∷◌, ◌++◌, length, get_or, Option, Some, None, refl, sym, ap, ◌∙◌, append_assoc, arith}
-use Rattle.std.specs.Prelude.{codes, decimal, position, ◌==◌, pos, negsuc, ℤ}
+use Rattle.std.proofs.Common.{◌≡◌, ℕ, zero, suc, ◌^◌, ◌<◌, Bool, true, false, cond, not, eqb, nat_lt, List, [], ◌∷◌, ◌++◌, length, get_or, Some, None, refl, sym, ap, ◌∙◌, append_assoc, arith}
+use Rattle.std.specs.Prelude.{codes, decimal, ◌==◌, pos, negsuc, ℤ}
 use Rattle.std.specs.Char.{is_ascii_digit}
 use Rattle.std.specs.Fmt.{signed_decimal}
-use Rattle.std.specs.List.{flat_map, join_by, list_all, prefix_len, position_or_len, AllByRecursion, IsDistinct}
-use Rattle.std.specs.Str.{bytes_eq, is_utf8, IsUtf8, IsAscii}
+use Rattle.std.specs.List.{join_by, list_all, position_or_len, AllByRecursion, IsDistinct}
+use Rattle.std.specs.Str.{bytes_eq, is_utf8, IsAscii}
 use Rattle.std.proofs.lemmas.Bool.{eqb-true}
 use Rattle.std.proofs.lemmas.Slice.Eq.{bytes_eq-Decides}
 use Rattle.std.proofs.lemmas.Str.{is_utf8-from_IsUtf8, IsUtf8-from_ascii}
 use Rattle.lv_values.specs.declared.value.Value.{Value}
 use Rattle.lv_values.specs.declared.value.Value.TheVariants.{Num, Text}
-use Rattle.lv_values.specs.Print.{doubled, value_text, values_text, row_line}
-use Rattle.lv_reading.specs.Reading.{begins, expect, byte, stops, separated, until}
+use Rattle.lv_values.specs.Print.{value_text, values_text, row_line}
+use Rattle.lv_reading.specs.Reading.{begins, expect, byte, stops, until}
 use Rattle.lv_reading.specs.Numbers.{IsWide}
-use Rattle.lv_reading.proofs.Takes.{until_text}
 use Rattle.lv_reading.proofs.Again.{run_again, separated_again, until_again}
 use Rattle.lv_reading.proofs.Decimals.{number_again, decimal_digits, decimal_some}
 use Rattle.lv_lines.specs.Transcript.{name_of, key_text}

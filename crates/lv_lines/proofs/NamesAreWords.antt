@@ -1,13 +1,13 @@
 -- The names of programs and of the schema are words of transcripts.
-use Rattle.std.proofs.Common.{◌≡◌, ℕ, zero, suc, ◌<◌, Bool, true, false, List, [], ◌∷◌, length, get_or, refl, ap, ◌∙◌, arith}
-use Rattle.std.specs.Prelude.{◌≢◌, ◌&&◌, ◌||◌, not, nat_le, codes}
+use Rattle.std.proofs.Common.{◌≡◌, ℕ, suc, Bool, true, false, List, [], ◌∷◌, length, refl, ap, ◌∙◌, arith}
+use Rattle.std.specs.Prelude.{◌≢◌, ◌&&◌, not, nat_le, codes}
 use Rattle.std.specs.List.{All, AllPairs, AllByRecursion, IsDistinct, list_all}
 use Rattle.std.specs.Str.{bytes_eq}
 use Rattle.std.proofs.lemmas.List.Elements.{All-head, All-tail, All-weaker, recursion_from_All}
 use Rattle.std.proofs.lemmas.Slice.Eq.{bytes_eq-Decides}
 use Rattle.lv_plain.specs.SessionNames.{is_session_name, is_reserved, AreSessionNames}
 use Rattle.lv_schema.specs.Names.{begins_name, continues_name, is_lower_name, is_name, has_name, keywords}
-use Rattle.lv_lines.specs.Entries.{is_word, IsWord, AreWords}
+use Rattle.lv_lines.specs.Entries.{IsWord, AreWords}
 use Rattle.lv_lines.proofs.TakesWords.{and_parts}
 
 pub program_word : (name : List ℕ) → is_lower_name name ≡ true → IsWord name

@@ -1,5 +1,5 @@
 -- What is read was written: replies and entries.
-use Rattle.std.proofs.Common.{◌≡◌, ℕ, ◌^◌, ◌<◌, ◌≤◌, Bool, true, ◌&&◌, nat_le, List, [], ◌∷◌, ◌++◌, length, Option, refl, sym, ap, ◌∙◌, append_assoc, arith}
+use Rattle.std.proofs.Common.{◌≡◌, ℕ, ◌^◌, ◌<◌, true, ◌&&◌, nat_le, List, [], ◌∷◌, ◌++◌, length, refl, sym, ap, ◌∙◌, append_assoc, arith}
 use Rattle.std.specs.Prelude.{codes, decimal}
 use Rattle.std.specs.List.{flat_map, AllByRecursion}
 use Rattle.std.proofs.lemmas.List.{append-nil}
@@ -11,14 +11,14 @@ use Rattle.lv_plain.specs.declared.entry.Reply.{Reply}
 use Rattle.lv_plain.specs.declared.entry.MarkOutcome.{MarkOutcome}
 use Rattle.lv_plain.specs.declared.entry.Entry.{Entry}
 use Rattle.lv_reading.specs.Reading.{begins}
-use Rattle.lv_reading.proofs.Takes.{Takes, then_takes, last_takes, pure_takes, choice_takes, check_takes, expect_takes, run_takes, many_takes, times_takes}
+use Rattle.lv_reading.proofs.Takes.{Takes, then_takes, pure_takes, choice_takes, check_takes, expect_takes, run_takes, many_takes, times_takes}
 use Rattle.lv_reading.proofs.Decimals.{natural_takes}
 use Rattle.lv_lines.specs.declared.names.Names.{Names}
 use Rattle.lv_lines.specs.Transcript.{name_of, commit_text, task_line, reply_text, step_text, forced_line, worker_text, outcome_text, entry_text, text_of}
-use Rattle.lv_lines.specs.Entries.{continues_word, IsRow, IsNumber, IsTask, IsReply, ReplyHasNames, IsStep, IsWorker, IsOutcome, OutcomeHasNames, IsStoreFault, FaultHasNames, IsEntry, HasNames, AreEntries}
+use Rattle.lv_lines.specs.Entries.{continues_word, IsNumber, IsTask, IsReply, ReplyHasNames, IsStep, IsWorker, IsOutcome, OutcomeHasNames, IsStoreFault, FaultHasNames, IsEntry, HasNames}
 use Rattle.lv_lines.specs.Words.{word, is_numbered}
 use Rattle.lv_lines.specs.Readers.{some_number, commit_number, made, alone, changed, counted, began, committed, rolled_back, rows, task, tasks, refused, answered, ended, any_reply, step, step_line, forced, statement, worker, fetched, installed, moved, idle, busy, empty, released, short_line, worker_line, of_worker, upto, already, mark_refused, any_outcome, marked, mark_unknown, of_mark, cleaned, is_cleaned, named_line, any_entry, goes_on, all_entries}
-use Rattle.lv_lines.proofs.TakesWords.{IsPlace, IsPlaceOf, place_takes, name_takes, own_takes, row_takes}
+use Rattle.lv_lines.proofs.TakesWords.{place_takes, name_takes, own_takes, row_takes}
 use Rattle.lv_lines.proofs.TakesFaults.{any_fault_takes, store_fault_takes}
 
 -- what holds of both holds of each

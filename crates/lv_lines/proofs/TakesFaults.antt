@@ -1,12 +1,10 @@
 -- What is read was written: faults.
-use Rattle.std.proofs.Common.{◌≡◌, ℕ, ◌^◌, ◌<◌, Bool, true, false, cond, List, [], ◌∷◌, ◌++◌, length, Option, Some, None, refl, sym, ap, ◌∙◌}
+use Rattle.std.proofs.Common.{◌≡◌, ℕ, ◌^◌, ◌<◌, Bool, true, false, cond, List, [], ◌∷◌, ◌++◌, Some, refl, sym, ap, ◌∙◌}
 use Rattle.std.specs.Prelude.{codes, decimal, find}
 use Rattle.std.specs.Str.{bytes_eq}
 use Rattle.std.proofs.lemmas.Slice.Eq.{bytes_eq-Decides}
 use Rattle.lv_values.specs.declared.value.Value.{Value}
 use Rattle.lv_schema.specs.declared.fault.Fault.{Fault}
-use Rattle.lv_schema.specs.declared.fault.LimitKind.{LimitKind}
-use Rattle.lv_schema.specs.declared.fault.ProfileRule.{ProfileRule}
 use Rattle.lv_reading.proofs.Takes.{Takes, then_takes, last_takes, pure_takes, choice_takes, given_takes, expect_takes, run_takes}
 use Rattle.lv_reading.proofs.Decimals.{natural_takes, number_takes}
 use Rattle.lv_lines.specs.declared.names.Names.{Names}

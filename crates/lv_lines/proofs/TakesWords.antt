@@ -1,17 +1,15 @@
 -- What is read was written: words, names, texts, values, rows and keys.
-use Rattle.std.proofs.Common.{◌≡◌, ℕ, ◌+◌, ◌^◌, ◌<◌, Bool, true, false, cond, ◌&&◌, not, eqb, List, [], ◌∷◌, ◌++◌, length, get_or, Option, Some, None, refl, sym, ap, ◌∙◌}
-use Rattle.std.specs.Prelude.{codes, position, ◌==◌, IsUtf8}
-use Rattle.std.specs.List.{flat_map, join_by, list_all, AllByRecursion}
-use Rattle.std.specs.Str.{bytes_eq, is_utf8}
+use Rattle.std.proofs.Common.{◌≡◌, ℕ, ◌^◌, ◌<◌, Bool, true, false, cond, ◌&&◌, not, List, [], ◌∷◌, ◌++◌, length, get_or, Option, Some, None, refl, sym, ap, ◌∙◌}
+use Rattle.std.specs.Prelude.{codes, ◌==◌, IsUtf8}
+use Rattle.std.specs.List.{flat_map, join_by, list_all}
+use Rattle.std.specs.Str.{bytes_eq}
 use Rattle.std.proofs.lemmas.Bool.{eqb-true}
 use Rattle.std.proofs.lemmas.List.{append-nil}
 use Rattle.std.proofs.lemmas.List.Quantifiers.{position-Some}
 use Rattle.std.proofs.lemmas.Slice.Eq.{bytes_eq-Decides}
 use Rattle.std.proofs.lemmas.Str.{IsUtf8-from_is_utf8}
 use Rattle.lv_values.specs.declared.value.Value.{Value}
-use Rattle.lv_values.specs.declared.value.Value.TheVariants.{Num, Text}
 use Rattle.lv_values.specs.Print.{doubled, value_text, values_behind, values_text, row_line}
-use Rattle.lv_reading.specs.Reading.{pure, until}
 use Rattle.lv_reading.proofs.Takes.{Takes, then_takes, last_takes, pure_takes, choice_takes, choose_takes, check_takes, below_takes, given_takes, expect_takes, byte_takes, run_takes, separated_takes, until_text, until_takes}
 use Rattle.lv_reading.proofs.Decimals.{number_takes}
 use Rattle.lv_lines.specs.Transcript.{name_of, key_text}

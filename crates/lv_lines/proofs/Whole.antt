@@ -1,5 +1,5 @@
 -- A whole text, read and written.
-use Rattle.std.proofs.Common.{◌≡◌, ℕ, List, [], ◌∷◌, ◌++◌, Some, None, refl, sym, ap, ◌∙◌}
+use Rattle.std.proofs.Common.{◌≡◌, ℕ, List, [], Some, refl, sym, ap, ◌∙◌}
 use Rattle.std.proofs.lemmas.List.{append-nil}
 use Rattle.lv_plain.specs.declared.entry.Entry.{Entry}
 use Rattle.lv_reading.specs.Reading.{IsBytes}

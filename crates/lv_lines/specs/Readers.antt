@@ -1,5 +1,5 @@
 -- How each form of line is read.
-use Rattle.std.specs.Prelude.{ℕ, ◌-◌, ◌^◌, Bool, true, false, not, ◌&&◌, nat_le, List, [], ◌∷◌, drop, length, codes, Option, Some, None, is_some, find}
+use Rattle.std.specs.Prelude.{ℕ, ◌^◌, Bool, true, false, not, ◌&&◌, nat_le, List, [], ◌∷◌, drop, codes, Option, Some, None, find}
 use Rattle.std.specs.Char.{is_ascii_digit}
 use Rattle.std.specs.List.{prefix_len}
 use Rattle.std.specs.Str.{bytes_eq}
@@ -21,7 +21,7 @@ use Rattle.lv_plain.specs.declared.entry.Entry.{Entry}
 use Rattle.lv_plain.specs.declared.entry.Entry.TheVariants as entry
 use Rattle.lv_lines.specs.declared.names.Names.{Names}
 use Rattle.lv_lines.specs.Transcript.{limit_word, rule_word}
-use Rattle.lv_lines.specs.Words.{word, word_len, is_numbered, place_in, name_in, own, own_word, row, key}
+use Rattle.lv_lines.specs.Words.{word, is_numbered, place_in, name_in, own, own_word, row, key}
 
 -- a number of 64 bits, and one of 32
 abbrev pub count64 : Reader ℕ
