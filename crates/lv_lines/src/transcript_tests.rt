@@ -1,5 +1,5 @@
 //! Transcripts that are read and printed again, and texts that are no transcripts.
-ghost use Rattle.std.specs.Prelude.{IfOk};
+ghost use Rattle.std.specs.Prelude.{◌≡◌, IfOk, map};
 ghost use Rattle.lv_lines.specs.Entries.{IsNames};
 
 use super::*;
@@ -8,22 +8,24 @@ use lv_values::{NoMemory, Text, Value};
 use std::alloc::Global;
 use std::test::Fail;
 
+/// Texts of these.
+fn texts_of(alloc: Global, names: &[&str]) -> Result<Texts, NoMemory>
+    ensures { IfOk result (λ texts. texts ≡ map (λ name. name.now) names.now) }
+{
+    let mut texts = Texts::new(alloc);
+    for name in names {
+        texts.push(Text::from_str(alloc, *name)?)?;
+    }
+    Ok(texts)
+}
+
 /// A session may be called `force` or `clean`: the lines stay apart.
 fn names_of(alloc: Global) -> Result<Names, NoMemory>
     ensures { IfOk result (λ names. IsNames names) }
 {
-    let mut sessions = Texts::new(alloc);
-    sessions.push(Text::from_str(alloc, "setup")?)?;
-    sessions.push(Text::from_str(alloc, "a")?)?;
-    sessions.push(Text::from_str(alloc, "b")?)?;
-    sessions.push(Text::from_str(alloc, "force")?)?;
-    sessions.push(Text::from_str(alloc, "clean")?)?;
-    let mut tables = Texts::new(alloc);
-    tables.push(Text::from_str(alloc, "item")?)?;
-    tables.push(Text::from_str(alloc, "big")?)?;
-    let mut views = Texts::new(alloc);
-    views.push(Text::from_str(alloc, "per_item")?)?;
-    views.push(Text::from_str(alloc, "lines")?)?;
+    let sessions = texts_of(alloc, &["setup", "a", "b", "force", "clean"])?;
+    let tables = texts_of(alloc, &["item", "big"])?;
+    let views = texts_of(alloc, &["per_item", "lines"])?;
     Ok(Names {
         sessions,
         tables,
