@@ -10,6 +10,7 @@ mod names;
 mod print_conditions;
 mod print_lists;
 mod print_names;
+mod print_sources;
 mod queries;
 mod sources;
 mod statements;
