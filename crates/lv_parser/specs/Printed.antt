@@ -193,10 +193,19 @@ abbrev pub output_if : Option Named → List Lexeme
 output_if None = []
 output_if (Some output) = output_tokens output
 
+abbrev pub plain_tokens : ColName → Option Named → List Lexeme
+plain_tokens col output = col_tokens col ++ output_if output
+
+abbrev pub sum_tokens : ColName → Named → List Lexeme
+sum_tokens col output = the "sum" ∷ in_parens (col_tokens col) ++ output_tokens output
+
+abbrev pub count_tokens : Named → List Lexeme
+count_tokens output = the "count" ∷ in_parens (sign (codes "*") ∷ []) ++ output_tokens output
+
 abbrev pub item_tokens : ItemTree → List Lexeme
-item_tokens (i.Plain col output) = col_tokens col ++ output_if output
-item_tokens (i.Sum col output) = the "sum" ∷ in_parens (col_tokens col) ++ output_tokens output
-item_tokens (i.Count output) = the "count" ∷ in_parens (sign (codes "*") ∷ []) ++ output_tokens output
+item_tokens (i.Plain col output) = plain_tokens col output
+item_tokens (i.Sum col output) = sum_tokens col output
+item_tokens (i.Count output) = count_tokens output
 
 -- what is added to a column
 abbrev pub amount_tokens : ℤ → List Lexeme
@@ -234,18 +243,43 @@ abbrev pub listed_tokens : Option (List ColName) → List Lexeme
 listed_tokens None = sign (codes "*") ∷ []
 listed_tokens (Some cols) = between comma (map col_tokens cols)
 
+abbrev pub key_tokens : List Named → List Lexeme
+key_tokens key = comma ∷ the "primary" ∷ the "key" ∷ in_parens (between comma (map name_tokens key))
+
+abbrev pub create_table_tokens : Named → List ColumnTree → List Named → List Lexeme
+create_table_tokens table columns key =
+    the "create" ∷ the "table" ∷ name_tokens table ++ in_parens (between comma (map column_tokens columns) ++ key_tokens key)
+
+abbrev pub view_name_tokens : Named → List Lexeme
+view_name_tokens view = the "create" ∷ the "view" ∷ name_tokens view ++ the "as" ∷ the "select" ∷ []
+
+abbrev pub create_view_tokens : Named → List ItemTree → List RefTree → CondTree → List ColName → List Lexeme
+create_view_tokens view items refs cond groups =
+    view_name_tokens view ++ between comma (map item_tokens items) ++ from_tokens refs cond ++ groups_tokens groups
+
+abbrev pub insert_tokens : Named → List Tuple → List Lexeme
+insert_tokens table tuples = the "insert" ∷ the "into" ∷ name_tokens table ++ the "values" ∷ between comma (map tuple_tokens tuples)
+
+abbrev pub update_tokens : Named → List Assign → CondTree → List Lexeme
+update_tokens table sets cond = the "update" ∷ name_tokens table ++ the "set" ∷ between comma (map assign_tokens sets) ++ filter_tokens cond
+
+abbrev pub delete_tokens : Named → CondTree → List Lexeme
+delete_tokens table cond = the "delete" ∷ the "from" ∷ name_tokens table ++ filter_tokens cond
+
+abbrev pub select_tokens : Option (List ColName) → List RefTree → CondTree → List (ColName × Bool) → List Lexeme
+select_tokens listed refs cond order = the "select" ∷ listed_tokens listed ++ from_tokens refs cond ++ order_tokens order
+
+abbrev pub show_tasks_tokens : List Lexeme
+show_tasks_tokens = the "show" ∷ the "tasks" ∷ []
+
 abbrev pub stmt_tokens : Stmt → List Lexeme
-stmt_tokens (st.CreateTable table columns key) =
-    the "create" ∷ the "table" ∷ name_tokens table
-    ++ in_parens (between comma (map column_tokens columns) ++ comma ∷ the "primary" ∷ the "key" ∷ in_parens (between comma (map name_tokens key)))
-stmt_tokens (st.CreateView view items refs cond groups) =
-    the "create" ∷ the "view" ∷ name_tokens view ++ the "as" ∷ the "select" ∷ between comma (map item_tokens items)
-    ++ from_tokens refs cond ++ groups_tokens groups
-stmt_tokens (st.Insert table tuples) = the "insert" ∷ the "into" ∷ name_tokens table ++ the "values" ∷ between comma (map tuple_tokens tuples)
-stmt_tokens (st.Update table sets cond) = the "update" ∷ name_tokens table ++ the "set" ∷ between comma (map assign_tokens sets) ++ filter_tokens cond
-stmt_tokens (st.Delete table cond) = the "delete" ∷ the "from" ∷ name_tokens table ++ filter_tokens cond
-stmt_tokens (st.Select listed refs cond order) = the "select" ∷ listed_tokens listed ++ from_tokens refs cond ++ order_tokens order
+stmt_tokens (st.CreateTable table columns key) = create_table_tokens table columns key
+stmt_tokens (st.CreateView view items refs cond groups) = create_view_tokens view items refs cond groups
+stmt_tokens (st.Insert table tuples) = insert_tokens table tuples
+stmt_tokens (st.Update table sets cond) = update_tokens table sets cond
+stmt_tokens (st.Delete table cond) = delete_tokens table cond
+stmt_tokens (st.Select listed refs cond order) = select_tokens listed refs cond order
 stmt_tokens st.Begin = the "begin" ∷ []
 stmt_tokens st.Commit = the "commit" ∷ []
 stmt_tokens st.Rollback = the "rollback" ∷ []
-stmt_tokens st.ShowTasks = the "show" ∷ the "tasks" ∷ []
+stmt_tokens st.ShowTasks = show_tasks_tokens

@@ -11,12 +11,15 @@ mod print_conditions;
 mod print_lists;
 mod print_names;
 mod print_sources;
+mod print_parts;
+mod print_statements;
 mod queries;
 mod sources;
 mod statements;
 mod stop;
 mod tree;
 
+pub use print_statements::print;
 pub use tree::{
     Assign, AssignValue, Assigns, ColName, ColNames, ColumnKind, ColumnTree, ColumnTrees, CondTree,
     CondTrees, ItemTree, ItemTrees, Literal, Literals, Named, Names, OperandTree, OrderTrees,
