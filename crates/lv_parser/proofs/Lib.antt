@@ -11,6 +11,7 @@ pub mod Tables
 pub mod Views
 pub mod ExactRules
 pub mod Shift
+pub mod PrintShows
 pub mod ShownLemmas
 pub mod Whole
 pub mod Loops
