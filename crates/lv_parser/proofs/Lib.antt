@@ -11,7 +11,10 @@ pub mod Tables
 pub mod Views
 pub mod ExactRules
 pub mod Shift
+pub mod PrintHonest
+pub mod PrintRules
 pub mod PrintShows
+pub mod PrintWords
 pub mod ShownLemmas
 pub mod Whole
 pub mod Loops

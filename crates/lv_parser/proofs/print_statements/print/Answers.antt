@@ -1,0 +1,5 @@
+use Rattle.lv_parser.proofs.PrintRules.{name_prints}
+use Rattle.lv_parser.proofs.PrintHonest.{honest_name}
+use Rattle.lv_parser.proofs.PrintWords.{the_and}
+use Rattle.lv_parser.proofs.PrintShows.{says_parts}
+use Rattle.lv_parser.proofs.print_statements.print.Goals as goal
