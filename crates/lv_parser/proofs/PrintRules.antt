@@ -13,14 +13,20 @@ use Rattle.lv_lexer.proofs.Spelling.{number_spells, number_says, text_spells, te
 use Rattle.lv_parser.specs.declared.tree.Named.{Named}
 use Rattle.lv_parser.specs.declared.tree.ColName.{ColName}
 use Rattle.lv_parser.specs.declared.tree.Literal.{Literal}
+use Rattle.lv_parser.specs.declared.tree.Tuple.{Tuple}
+use Rattle.lv_parser.specs.declared.tree.Sign.{Sign}
+use Rattle.lv_parser.specs.declared.tree.Sign.TheVariants as s
+use Rattle.lv_parser.specs.declared.tree.OperandTree.{OperandTree}
+use Rattle.lv_parser.specs.declared.tree.OperandTree.TheVariants as o
+use Rattle.lv_parser.specs.declared.conditions.Within.{Within}
 use Rattle.lv_parser.specs.Rule.{Rule, token, pure, ◌>>=◌, ◌>>◌, ◌<$>◌, ◌or◌, optional, many, separated, ReadsEach, ReadsIf}
 use Rattle.lv_parser.specs.Trees.{named_of, column_of, number_at, text_at}
 use Rattle.lv_parser.specs.Grammar as rule
-use Rattle.lv_parser.specs.Bare.{bare_name, bare_name_if, bare_col, bare_literal}
-use Rattle.lv_parser.specs.Printed.{behind, between, name_tokens, qualifier_tokens, col_tokens, number_tokens, literal_tokens}
+use Rattle.lv_parser.specs.Bare.{bare_name, bare_name_if, bare_col, bare_literal, bare_tuple, bare_operand}
+use Rattle.lv_parser.specs.Printed.{behind, between, name_tokens, qualifier_tokens, col_tokens, number_tokens, literal_tokens, tuple_tokens, comma, op_token, operand_tokens, comparison_tokens}
 use Rattle.lv_parser.proofs.PrintHonest.{IsHonest, AreHonest, IsNameText, honest_name, honest_number}
 use Rattle.lv_parser.proofs.PrintShows.{IsSaid, Says, AllSpell, all_spell_append, Shows, pure_shows, token_shows, then_shows, made_shows, left_shows, right_shows, some_shows, none_shows, weaker, EachShows, separated_shows}
-use Rattle.lv_parser.proofs.PrintWords.{IsThe, the_dot, the_minus}
+use Rattle.lv_parser.proofs.PrintWords.{IsThe, the_dot, the_minus, the_left_paren, the_right_paren, the_comma_sign, the_equal, the_not_equal, the_less, the_less_equal, the_greater, the_greater_equal}
 
 -- what is printed of a tree spells and is read again, but for places
 pub record Again {A : Type 0} (rule : Rule A) (bare : A → A) (tokens : A → List Lexeme) (a : A) : Type 0 where
@@ -171,3 +177,112 @@ literal_prints ts l rest h (inr (t, mid, (e, is), (made, end))) =
     let left = left_by ts t mid e h in
     let P : Literal → Type 0 = λ x. Again rule.literal bare_literal literal_tokens x in
     (same_rest mid rest end left.1, subst P (sym made) (text_again t.text t.byte))
+
+-- ---- lists
+
+abbrev pub EachAgain : {A : Type 0} → Rule A → (A → A) → (A → List Lexeme) → List A → Type 0
+EachAgain rule bare tokens [] = Unit {0}
+EachAgain rule bare tokens (a ∷ more) = Again rule bare tokens a × EachAgain rule bare tokens more
+
+module _ {A : Type 0} (rule : Rule A) (bare : A → A) (tokens : A → List Lexeme) (k : Class) (x : Lexeme) (the_x : IsThe x k) where
+  pub each_shows : (items : List A) → EachAgain rule bare tokens items → EachShows rule bare tokens items
+  each_shows [] each = tt
+  each_shows (a ∷ more) each = (each.0.shows, each_shows more each.1)
+
+  behind_spelled : (items : List A) → EachAgain rule bare tokens items → AllSpell (behind x (map tokens items))
+  behind_spelled [] each = tt
+  behind_spelled (a ∷ more) each = (the_x.spelled, all_spell_append (tokens a) (behind x (map tokens more)) each.0.spelled (behind_spelled more each.1))
+
+  pub list_again : (a : A) (more : List A) → EachAgain rule bare tokens (a ∷ more) → Again (separated k rule) (map bare) (λ items. between x (map tokens items)) (a ∷ more)
+  list_again a more each = record {
+    spelled = all_spell_append (tokens a) (behind x (map tokens more)) each.0.spelled (behind_spelled more each.1);
+    shows = separated_shows rule bare tokens k x the_x.of_class a more (each_shows (a ∷ more) each);
+  }
+
+  each_prints : Prints rule bare tokens → (ts : List Terminal) (items : List A) (rest : List Terminal) → AreHonest ts → ReadsEach (token k >> rule) ts items rest
+      → AreHonest rest × EachAgain rule bare tokens items
+  each_prints prints ts [] rest h r = (same_rest ts rest r h, tt)
+  each_prints prints ts (a ∷ more) rest h (mid, (t, mid2, (e, is), r), others) =
+      let one = prints mid2 a mid (left_by ts t mid2 e h).1 r in
+      let all = each_prints prints mid more rest one.0 others in
+      (all.0, (one.1, all.1))
+
+  pub separated_prints : Prints rule bare tokens → Prints (separated k rule) (map bare) (λ items. between x (map tokens items))
+  separated_prints prints ts items rest h (first, mid, r, (more, mid2, each, (made, end))) =
+      let one = prints ts first mid h r in
+      let all = each_prints prints mid more mid2 one.0 each in
+      let P : List A → Type 0 = λ xs. Again (separated k rule) (map bare) (λ items. between x (map tokens items)) xs in
+      (same_rest mid2 rest end all.0, subst P (sym made) (list_again first more (one.1, all.1)))
+
+-- ---- tuples
+
+tuple_again : (t : Tuple) → Again (separated k.Comma rule.literal) (map bare_literal) (λ items. between comma (map literal_tokens items)) t.values → Again rule.tuple bare_tuple tuple_tokens t
+unfolding rule.tuple
+tuple_again t values = record {
+  spelled = (the_left_paren.spelled, all_spell_append (between comma (map literal_tokens t.values)) (sign (codes ")") ∷ []) values.spelled (the_right_paren.spelled, tt));
+  shows = then_shows (sign (codes "(") ∷ []) (between comma (map literal_tokens t.values) ++ sign (codes ")") ∷ []) (the_shows (sign (codes "(")) k.LeftParen the_left_paren)
+      (λ p is. then_shows (between comma (map literal_tokens t.values)) (sign (codes ")") ∷ []) values.shows
+      (λ found e. made_shows (λ b. bare_tuple b ≡ bare_tuple t) (the_shows (sign (codes ")")) k.RightParen the_right_paren)
+      (λ close is. ap (λ (xs : List Literal). record { byte = 0; values = xs }) e)));
+}
+
+pub tuple_prints : Prints rule.tuple bare_tuple tuple_tokens
+unfolding rule.tuple
+tuple_prints ts t rest h (paren, m1, (e, is), (values, m2, r, (close, m3, (f, is2), (made, end)))) =
+    let list = separated_prints rule.literal bare_literal literal_tokens k.Comma comma the_comma_sign literal_prints m1 values m2 (left_by ts paren m1 e h).1 r in
+    let P : Tuple → Type 0 = λ x. Again rule.tuple bare_tuple tuple_tokens x in
+    (same_rest m3 rest end (left_by m2 close m3 f list.0).1, subst P (sym made) (tuple_again (record { byte = paren.byte; values = values }) list.1))
+
+-- ---- comparisons
+
+pub operand_prints : (within : Within) → Prints (rule.operand within) bare_operand operand_tokens
+unfolding rule.operand
+operand_prints within ts x rest h (inl (c, mid, r, (made, end))) =
+    let col = col_prints ts c mid h r in
+    let P : OperandTree → Type 0 = λ x. Again (rule.operand within) bare_operand operand_tokens x in
+    (same_rest mid rest end col.0, subst P (sym made) (record {
+      spelled = col.1.spelled;
+      shows = left_shows (made_shows (λ b. bare_operand b ≡ bare_operand (o.Column c)) col.1.shows (λ a e. ap (λ (x : ColName). o.Column x) e));
+    }))
+operand_prints within ts x rest h (inr (l, mid, r, (made, end))) =
+    let literal = literal_prints ts l mid h r in
+    let P : OperandTree → Type 0 = λ x. Again (rule.operand within) bare_operand operand_tokens x in
+    (same_rest mid rest end literal.0, subst P (sym made) (record {
+      spelled = literal.1.spelled;
+      shows = right_shows (made_shows (λ b. bare_operand b ≡ bare_operand (o.Literal l)) literal.1.shows (λ a e. ap (λ (x : Literal). o.Literal x) e));
+    }))
+
+itself : Sign → Sign
+itself x = x
+
+abbrev op_tokens : Sign → List Lexeme
+op_tokens x = op_token x ∷ []
+
+one_op : (k : Class) (x : Sign) → IsThe (op_token x) k → Shows (token k >> pure x) (λ b. b ≡ x) (op_tokens x)
+one_op k x h = made_shows (λ b. b ≡ x) (the_shows (op_token x) k h) (λ t is. refl)
+
+op_spelled : (x : Sign) → AllSpell (op_tokens x)
+op_spelled s.Eq = (the_equal.spelled, tt)
+op_spelled s.Ne = (the_not_equal.spelled, tt)
+op_spelled s.Lt = (the_less.spelled, tt)
+op_spelled s.Le = (the_less_equal.spelled, tt)
+op_spelled s.Gt = (the_greater.spelled, tt)
+op_spelled s.Ge = (the_greater_equal.spelled, tt)
+
+op_shows : (x : Sign) → Shows rule.op (λ b. b ≡ x) (op_tokens x)
+unfolding rule.op
+op_shows s.Eq = left_shows (one_op k.Equal s.Eq the_equal)
+op_shows s.Ne = right_shows (left_shows (one_op k.NotEqual s.Ne the_not_equal))
+op_shows s.Lt = right_shows (right_shows (left_shows (one_op k.Less s.Lt the_less)))
+op_shows s.Le = right_shows (right_shows (right_shows (left_shows (one_op k.LessEqual s.Le the_less_equal))))
+op_shows s.Gt = right_shows (right_shows (right_shows (right_shows (left_shows (one_op k.Greater s.Gt the_greater)))))
+op_shows s.Ge = right_shows (right_shows (right_shows (right_shows (right_shows (one_op k.GreaterEqual s.Ge the_greater_equal)))))
+
+op_left : (ts : List Terminal) (x : Sign) (rest : List Terminal) → AreHonest ts → rule.op.reads ts x rest → AreHonest rest
+unfolding rule.op
+op_left ts x rest h (inl (t, mid, (e, is), (made, end))) = same_rest mid rest end (left_by ts t mid e h).1
+op_left ts x rest h (inr (inl (t, mid, (e, is), (made, end)))) = same_rest mid rest end (left_by ts t mid e h).1
+op_left ts x rest h (inr (inr (inl (t, mid, (e, is), (made, end))))) = same_rest mid rest end (left_by ts t mid e h).1
+op_left ts x rest h (inr (inr (inr (inl (t, mid, (e, is), (made, end)))))) = same_rest mid rest end (left_by ts t mid e h).1
+op_left ts x rest h (inr (inr (inr (inr (inl (t, mid, (e, is), (made, end))))))) = same_rest mid rest end (left_by ts t mid e h).1
+op_left ts x rest h (inr (inr (inr (inr (inr (t, mid, (e, is), (made, end))))))) = same_rest mid rest end (left_by ts t mid e h).1
