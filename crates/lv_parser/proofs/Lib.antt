@@ -12,6 +12,8 @@ pub mod Views
 pub mod ExactRules
 pub mod Shift
 pub mod PrintHonest
+pub mod BareLemmas
+pub mod PrintConds
 pub mod PrintRules
 pub mod PrintShows
 pub mod PrintWords

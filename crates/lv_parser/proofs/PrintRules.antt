@@ -255,13 +255,13 @@ operand_prints within ts x rest h (inr (l, mid, r, (made, end))) =
 itself : Sign → Sign
 itself x = x
 
-abbrev op_tokens : Sign → List Lexeme
+abbrev pub op_tokens : Sign → List Lexeme
 op_tokens x = op_token x ∷ []
 
 one_op : (k : Class) (x : Sign) → IsThe (op_token x) k → Shows (token k >> pure x) (λ b. b ≡ x) (op_tokens x)
 one_op k x h = made_shows (λ b. b ≡ x) (the_shows (op_token x) k h) (λ t is. refl)
 
-op_spelled : (x : Sign) → AllSpell (op_tokens x)
+pub op_spelled : (x : Sign) → AllSpell (op_tokens x)
 op_spelled s.Eq = (the_equal.spelled, tt)
 op_spelled s.Ne = (the_not_equal.spelled, tt)
 op_spelled s.Lt = (the_less.spelled, tt)
@@ -269,7 +269,7 @@ op_spelled s.Le = (the_less_equal.spelled, tt)
 op_spelled s.Gt = (the_greater.spelled, tt)
 op_spelled s.Ge = (the_greater_equal.spelled, tt)
 
-op_shows : (x : Sign) → Shows rule.op (λ b. b ≡ x) (op_tokens x)
+pub op_shows : (x : Sign) → Shows rule.op (λ b. b ≡ x) (op_tokens x)
 unfolding rule.op
 op_shows s.Eq = left_shows (one_op k.Equal s.Eq the_equal)
 op_shows s.Ne = right_shows (left_shows (one_op k.NotEqual s.Ne the_not_equal))
@@ -278,7 +278,7 @@ op_shows s.Le = right_shows (right_shows (right_shows (left_shows (one_op k.Less
 op_shows s.Gt = right_shows (right_shows (right_shows (right_shows (left_shows (one_op k.Greater s.Gt the_greater)))))
 op_shows s.Ge = right_shows (right_shows (right_shows (right_shows (right_shows (one_op k.GreaterEqual s.Ge the_greater_equal)))))
 
-op_left : (ts : List Terminal) (x : Sign) (rest : List Terminal) → AreHonest ts → rule.op.reads ts x rest → AreHonest rest
+pub op_left : (ts : List Terminal) (x : Sign) (rest : List Terminal) → AreHonest ts → rule.op.reads ts x rest → AreHonest rest
 unfolding rule.op
 op_left ts x rest h (inl (t, mid, (e, is), (made, end))) = same_rest mid rest end (left_by ts t mid e h).1
 op_left ts x rest h (inr (inl (t, mid, (e, is), (made, end)))) = same_rest mid rest end (left_by ts t mid e h).1
