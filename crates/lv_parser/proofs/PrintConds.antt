@@ -252,3 +252,116 @@ separated_known k u K known ts items rest h (first, mid, r, (more, mid2, each, (
 map_twice : (f : Shown → List Lexeme) (items : List CondTree) → map (λ p. f (shown p)) items ≡ map f (map shown items)
 map_twice f [] = refl
 map_twice f (p ∷ items) = ap (λ (xs : List (List Lexeme)). f (shown p) ∷ xs) (map_twice f items)
+
+module _ (u : Rule CondTree) (tokens : CondTree → List Lexeme) (k : Class) (x : Lexeme) (the_x : IsThe x k) where
+  -- what each part needs
+  abbrev IsPart : CondTree → Type 0
+  IsPart p = AllSpell (tokens p) × Shows u (Alike p) (tokens p)
+
+  parts_show : (items : List CondTree) → Each IsPart items → EachShows u bare_cond tokens items
+  parts_show [] each = tt
+  parts_show (p ∷ items) each = (each.0.1, parts_show items each.1)
+
+  behind_spells : (items : List CondTree) → Each IsPart items → AllSpell (behind x (map tokens items))
+  behind_spells [] each = tt
+  behind_spells (p ∷ items) each = (the_x.spelled, all_spell_append (tokens p) (behind x (map tokens items)) each.0.0 (behind_spells items each.1))
+
+  parts_spell : (items : List CondTree) → Each IsPart items → AllSpell (between x (map tokens items))
+  parts_spell [] each = tt
+  parts_spell (p ∷ items) each = all_spell_append (tokens p) (behind x (map tokens items)) each.0.0 (behind_spells items each.1)
+
+  -- two or more parts make one node
+  chain_shows : (node : List CondTree → CondTree) (bare-node : (parts : List CondTree) → bare_cond (node parts) ≡ node (map bare_cond parts))
+      (first second : CondTree) (more : List CondTree) → Each IsPart (first ∷ second ∷ more)
+      → Shows (gathered node <$> separated k u) (Alike (node (first ∷ second ∷ more))) (between x (map tokens (first ∷ second ∷ more)))
+  chain_shows node bare-node first second more each =
+      made_shows (Alike (node (first ∷ second ∷ more)))
+      (separated_shows u bare_cond tokens k x the_x.of_class first (second ∷ more) (parts_show (first ∷ second ∷ more) each))
+      (λ found e. gathered_alike node bare-node found first second more e)
+
+each_part : (K L : CondTree → Type 0) → ((p : CondTree) → K p → L p) → (items : List CondTree) → Each K items → Each L items
+each_part K L f [] each = tt
+each_part K L f (p ∷ items) each = (f p each.0, each_part K L f items each.1)
+
+module _ (within : Within) (depth : ℕ) where
+  and_known : (first second : CondTree) (more : List CondTree) → Each (IsUnit within depth) (first ∷ second ∷ more) → IsConj within depth (c.And (first ∷ second ∷ more))
+  and_known first second more each =
+      let items = first ∷ second ∷ more in
+      let tree = c.And items in
+      let tokens = between (the "and") (map as_unit items) in
+      let are : alone tree ≡ tokens = tokens_of tree _ (shown-And items) ∙ ap (between (the "and")) (sym (map_twice (part_tokens true) items)) in
+      let parts = each_part (IsUnit within depth) (IsPart (rule.unit within depth) as_unit k.And (the "and") the_and) (λ p u. (part_spelled true p u.spelled, u.unit)) items each in
+      let shows = chain_shows (rule.unit within depth) as_unit k.And (the "and") the_and c.And bare-And first second more parts in
+      let conj = as_tokens tokens (alone tree) (sym are) shows in
+      record {
+        spelled = spelled_as (alone tree) tokens are (parts_spell (rule.unit within depth) as_unit k.And (the "and") the_and items parts);
+        cond = one_cond conj;
+        conj = as_tokens (alone tree) (as_conj tree) (sym (bare_part false tree (ap (is_wrapped false) (chain_of tree _ (shown-And items))))) conj;
+      }
+
+  or_known : (first second : CondTree) (more : List CondTree) → Each (IsConj within depth) (first ∷ second ∷ more) → IsCond within depth (c.Or (first ∷ second ∷ more))
+  or_known first second more each =
+      let items = first ∷ second ∷ more in
+      let tree = c.Or items in
+      let tokens = between (the "or") (map as_conj items) in
+      let are : alone tree ≡ tokens = tokens_of tree _ (shown-Or items) ∙ ap (between (the "or")) (sym (map_twice (part_tokens false) items)) in
+      let conj = rule.conj_of (rule.unit within depth) in
+      let parts = each_part (IsConj within depth) (IsPart conj as_conj k.Or (the "or") the_or) (λ p u. (part_spelled false p u.spelled, u.conj)) items each in
+      record {
+        spelled = spelled_as (alone tree) tokens are (parts_spell conj as_conj k.Or (the "or") the_or items parts);
+        cond = as_tokens tokens (alone tree) (sym are) (chain_shows conj as_conj k.Or (the "or") the_or c.Or bare-Or first second more parts);
+      }
+
+  -- what a conjunction reads
+  abbrev KnownConj : CondTree → Type 0
+  KnownConj p = IsUnit within depth p ⊎ (IsConj within depth p × ((shown p).chain ≡ Ands))
+
+  as_part_of_or : (p : CondTree) → KnownConj p → IsConj within depth p
+  as_part_of_or p (inl u) = record { spelled = u.spelled; cond = u.cond; conj = u.conj }
+  as_part_of_or p (inr (u, e)) = u
+
+  gathered_conj : (first : CondTree) (more : List CondTree) → Each (IsUnit within depth) (first ∷ more) → KnownConj (gathered c.And (first ∷ more))
+  gathered_conj first [] each = inl each.0
+  gathered_conj first (second ∷ more) each = inr (and_known first second more each, chain_of (c.And (first ∷ second ∷ more)) _ (shown-And (first ∷ second ∷ more)))
+
+  conj_known : Knows (rule.unit within depth) (IsUnit within depth) → Knows (rule.conj_of (rule.unit within depth)) KnownConj
+  conj_known unit ts p rest h (items, mid, r, (made, end)) =
+      let list = separated_known k.And (rule.unit within depth) (IsUnit within depth) unit ts items mid h r in
+      let known = gathered_conj list.1.0 list.1.1 list.1.3 in
+      (same_rest mid rest end list.0, subst KnownConj (sym (made ∙ ap (gathered c.And) list.1.2)) known)
+
+  abbrev KnownCond : CondTree → Type 0
+  KnownCond p = Levels within depth (shown p).chain p
+
+  one_level : (p : CondTree) → KnownConj p → KnownCond p
+  one_level p (inl u) = at_each_level within depth (shown p).chain p u
+  one_level p (inr (u, e)) = let P : Chain → Type 0 = λ chain. Levels within depth chain p in subst P (sym e) u
+
+  gathered_cond : (first : CondTree) (more : List CondTree) → Each KnownConj (first ∷ more) → KnownCond (gathered c.Or (first ∷ more))
+  gathered_cond first [] each = one_level first each.0
+  gathered_cond first (second ∷ more) each =
+      let items = first ∷ second ∷ more in
+      let P : Chain → Type 0 = λ chain. Levels within depth chain (c.Or items) in
+      subst P (sym (chain_of (c.Or items) _ (shown-Or items))) (or_known first second more (each_part KnownConj (IsConj within depth) as_part_of_or items each))
+
+  cond_known : Knows (rule.unit within depth) (IsUnit within depth) → Knows (rule.cond_of (rule.unit within depth)) KnownCond
+  cond_known unit ts p rest h (items, mid, r, (made, end)) =
+      let list = separated_known k.Or (rule.conj_of (rule.unit within depth)) KnownConj (conj_known unit) ts items mid h r in
+      let known = gathered_cond list.1.0 list.1.1 list.1.3 in
+      (same_rest mid rest end list.0, subst KnownCond (sym (made ∙ ap (gathered c.Or) list.1.2)) known)
+
+-- what a unit reads
+pub unit_known : (within : Within) (depth : ℕ) → Knows (rule.unit within depth) (IsUnit within depth)
+unfolding rule.unit
+unit_known within zero ts p rest h r =
+    let known = comparison_known within ts p rest h r in
+    (known.0, from_unit within zero p known.2 known.1 known.3)
+unit_known within (suc depth) ts p rest h (inl (t, mid, (e, is), (inner, mid2, r, (made, end)))) =
+    let known = unit_known within depth mid inner mid2 (left_by ts t mid e h).1 r in
+    (same_rest mid2 rest end known.0, subst (IsUnit within (suc depth)) (sym made) (not_known within depth inner known.1))
+unit_known within (suc depth) ts p rest h (inr (inl (t, mid, (e, is), (inner, mid2, r, (close, mid3, (f, is2), (made, end)))))) =
+    let known = cond_known within depth (unit_known within depth) mid inner mid2 (left_by ts t mid e h).1 r in
+    (same_rest mid3 rest end (left_by mid2 close mid3 f known.0).1, subst (IsUnit within (suc depth)) (sym made) (up within depth inner (shown inner).chain refl known.1))
+unit_known within (suc depth) ts p rest h (inr (inr r)) =
+    let known = comparison_known within ts p rest h r in
+    (known.0, from_unit within (suc depth) p known.2 known.1 (right_shows (right_shows known.3)))
