@@ -1,12 +1,13 @@
 -- What is read of a condition is read again where it is printed.
-use Rattle.std.proofs.Common.{◌≡◌, ℕ, zero, suc, Bool, true, false, cond, List, [], ◌∷◌, ◌++◌, map, Option, Some, None, ◌⊎◌, inl, inr, refl, sym, ap, ◌∙◌, subst, codes}
+use Rattle.std.proofs.Common.{◌≡◌, ℕ, zero, suc, Bool, true, false, cond, List, [], ◌∷◌, ◌++◌, map, Option, Some, None, ◌⊎◌, inl, inr, refl, sym, ap, ◌∙◌, subst, codes, rules}
 use Rattle.lv_lexer.specs.declared.terminals.Class.{Class}
 use Rattle.lv_lexer.specs.declared.terminals.Class.TheVariants as k
 use Rattle.lv_lexer.specs.declared.terminals.Terminal.{Terminal}
 use Rattle.lv_lexer.specs.Written.{Lexeme, word, sign}
 use Rattle.lv_parser.specs.declared.tree.Sign.{Sign}
 use Rattle.lv_parser.specs.declared.tree.OperandTree.{OperandTree}
-use Rattle.lv_parser.specs.declared.tree.CondTree.{CondTree}
+use Rattle.lv_parser.specs.declared.tree.CondTree.{CondTree, the_lemmas, out-CondTree}
+use Rattle.lv_parser.specs.declared.tree.CondTree.TheOpen.{CondTree-F}
 use Rattle.lv_parser.specs.declared.tree.CondTree.TheVariants as c
 use Rattle.lv_parser.specs.declared.conditions.Within.{Within}
 use Rattle.lv_parser.specs.Rule.{Rule, token, pure, ◌>>=◌, ◌>>◌, ◌<$>◌, ◌or◌, optional, many, separated, ReadsEach, ReadsIf}
@@ -79,18 +80,43 @@ as_conj p = part_tokens false (shown p)
 abbrev alone : CondTree → List Lexeme
 alone p = (shown p).tokens
 
+-- each of them is known
+abbrev pub Each : (CondTree → Type 0) → List CondTree → Type 0
+Each K [] = Unit {0}
+Each K (p ∷ more) = K p × Each K more
+
+pub each_part : (K L : CondTree → Type 0) → ((p : CondTree) → K p → L p) → (items : List CondTree) → Each K items → Each L items
+each_part K L f [] each = tt
+each_part K L f (p ∷ items) each = (f p each.0, each_part K L f items each.1)
+
+-- there is a condition, and each part of an And can be printed as a condition by itself
+pub record IsParted (K : CondTree → Type 0) (p : CondTree) : Type 0 where
+  pub some : (shown p).chain ≡ Nothing → ⊥
+  pub parts : (ps : List CondTree) → p ≡ c.And ps → Each K ps
+
+parted_more : (K L : CondTree → Type 0) → ((p : CondTree) → K p → L p) → (p : CondTree) → IsParted K p → IsParted L p
+parted_more K L f p h = record { some = h.some; parts = λ ps e. each_part K L f ps (h.parts ps e) }
+
 module _ (within : Within) (depth : ℕ) where
+  -- printed as a condition by itself
+  pub record IsAlone (p : CondTree) : Type 0 where
+    pub spelled : AllSpell (alone p)
+    pub cond : Shows (rule.cond_of (rule.unit within depth)) (Alike p) (alone p)
+
   -- read as a condition, as a part of an Or, and as a part of an And
   pub record IsCond (p : CondTree) : Type 0 where
+    pub parted : IsParted IsAlone p
     pub spelled : AllSpell (alone p)
     pub cond : Shows (rule.cond_of (rule.unit within depth)) (Alike p) (alone p)
 
   pub record IsConj (p : CondTree) : Type 0 where
+    pub parted : IsParted IsAlone p
     pub spelled : AllSpell (alone p)
     pub cond : Shows (rule.cond_of (rule.unit within depth)) (Alike p) (alone p)
     pub conj : Shows (rule.conj_of (rule.unit within depth)) (Alike p) (as_conj p)
 
   pub record IsUnit (p : CondTree) : Type 0 where
+    pub parted : IsParted IsAlone p
     pub spelled : AllSpell (alone p)
     pub cond : Shows (rule.cond_of (rule.unit within depth)) (Alike p) (alone p)
     pub conj : Shows (rule.conj_of (rule.unit within depth)) (Alike p) (as_conj p)
@@ -106,8 +132,8 @@ module _ (within : Within) (depth : ℕ) where
   at_each_level : (chain : Chain) (p : CondTree) → IsUnit p → Levels chain p
   at_each_level Nothing p u = u
   at_each_level Single p u = u
-  at_each_level Ands p u = record { spelled = u.spelled; cond = u.cond; conj = u.conj }
-  at_each_level Ors p u = record { spelled = u.spelled; cond = u.cond }
+  at_each_level Ands p u = record { parted = u.parted; spelled = u.spelled; cond = u.cond; conj = u.conj }
+  at_each_level Ors p u = record { parted = u.parted; spelled = u.spelled; cond = u.cond }
 
 parens_spelled : (xs : List Lexeme) → AllSpell xs → AllSpell (in_parens xs)
 parens_spelled xs h = (the_left_paren.spelled, all_spell_append xs (sign (codes ")") ∷ []) h (the_right_paren.spelled, tt))
@@ -135,22 +161,28 @@ wrapped in_and p e = rw e refl
 bare_part : (in_and : Bool) (p : CondTree) → is_wrapped in_and (shown p).chain ≡ false → part_tokens in_and (shown p) ≡ alone p
 bare_part in_and p e = rw e refl
 
+alone_deeper : (within : Within) (depth : ℕ) (p : CondTree) → IsAlone within depth p → IsAlone within (suc depth) p
+alone_deeper within depth p h = record { spelled = h.spelled; cond = more_shows (cond_more (rule.unit within depth) (rule.unit within (suc depth)) (deeper within depth)) h.cond }
+
 -- what stands in parentheses is a unit one level deeper, printed with them or without
 module _ (within : Within) (depth : ℕ) (p : CondTree) where
   up : (chain : Chain) → (shown p).chain ≡ chain → Levels within depth chain p → IsUnit within (suc depth) p
   up Nothing e u = record {
+    parted = parted_more (IsAlone within depth) (IsAlone within (suc depth)) (alone_deeper within depth) p u.parted;
     spelled = u.spelled;
     cond = more_shows (cond_more (rule.unit within depth) (rule.unit within (suc depth)) (deeper within depth)) u.cond;
     conj = more_shows (conj_more (rule.unit within depth) (rule.unit within (suc depth)) (deeper within depth)) u.conj;
     unit = more_shows (deeper within depth) u.unit;
   }
   up Single e u = record {
+    parted = parted_more (IsAlone within depth) (IsAlone within (suc depth)) (alone_deeper within depth) p u.parted;
     spelled = u.spelled;
     cond = more_shows (cond_more (rule.unit within depth) (rule.unit within (suc depth)) (deeper within depth)) u.cond;
     conj = more_shows (conj_more (rule.unit within depth) (rule.unit within (suc depth)) (deeper within depth)) u.conj;
     unit = more_shows (deeper within depth) u.unit;
   }
   up Ands e u = record {
+    parted = parted_more (IsAlone within depth) (IsAlone within (suc depth)) (alone_deeper within depth) p u.parted;
     spelled = u.spelled;
     cond = more_shows (cond_more (rule.unit within depth) (rule.unit within (suc depth)) (deeper within depth)) u.cond;
     conj = more_shows (conj_more (rule.unit within depth) (rule.unit within (suc depth)) (deeper within depth)) u.conj;
@@ -159,6 +191,7 @@ module _ (within : Within) (depth : ℕ) (p : CondTree) where
   up Ors e u =
       let unit = in_parens_shows within depth (alone p) u.cond in
       record {
+        parted = parted_more (IsAlone within depth) (IsAlone within (suc depth)) (alone_deeper within depth) p u.parted;
         spelled = u.spelled;
         cond = more_shows (cond_more (rule.unit within depth) (rule.unit within (suc depth)) (deeper within depth)) u.cond;
         conj = as_tokens (in_parens (alone p)) (as_conj p) (sym (wrapped false p (ap (is_wrapped false) e))) (one_conj unit);
@@ -166,10 +199,20 @@ module _ (within : Within) (depth : ℕ) (p : CondTree) where
       }
 
 -- a comparison or a NOT, which is no chain
+no_chain : (p : CondTree) → (shown p).chain ≡ Single → (shown p).chain ≡ Nothing → ⊥
+no_chain p e f = let h : Single ≡ Nothing = sym e ∙ f in cc
+
+no_ands : (K : CondTree → Type 0) (p : CondTree) → (shown p).chain ≡ Single → IsParted K p
+no_ands K p e = record {
+  some = no_chain p e;
+  parts = λ ps is. let h : Single ≡ Ands = sym e ∙ ap (λ (q : CondTree). (shown q).chain) is ∙ ap (λ (y : Shown). y.chain) (shown-And ps) in absurd cc;
+}
+
 from_unit : (within : Within) (depth : ℕ) (p : CondTree) → (shown p).chain ≡ Single → AllSpell (alone p) → Shows (rule.unit within depth) (Alike p) (alone p) → IsUnit within depth p
 from_unit within depth p e spelled unit =
     let conj = one_conj unit in
     record {
+      parted = no_ands (IsAlone within depth) p e;
       spelled = spelled;
       cond = one_cond conj;
       conj = as_tokens (alone p) (as_conj p) (sym (bare_part false p (ap (is_wrapped false) e))) conj;
@@ -226,11 +269,6 @@ module _ (within : Within) where
 
 -- ---- chains
 
--- each of them is known
-abbrev Each : (CondTree → Type 0) → List CondTree → Type 0
-Each K [] = Unit {0}
-Each K (p ∷ more) = K p × Each K more
-
 abbrev Knows : Rule CondTree → (CondTree → Type 0) → Type 0
 Knows u K = (ts : List Terminal) (p : CondTree) (rest : List Terminal) → AreHonest ts → u.reads ts p rest → AreHonest rest × K p
 
@@ -279,9 +317,14 @@ module _ (u : Rule CondTree) (tokens : CondTree → List Lexeme) (k : Class) (x 
       (separated_shows u bare_cond tokens k x the_x.of_class first (second ∷ more) (parts_show (first ∷ second ∷ more) each))
       (λ found e. gathered_alike node bare-node found first second more e)
 
-each_part : (K L : CondTree → Type 0) → ((p : CondTree) → K p → L p) → (items : List CondTree) → Each K items → Each L items
-each_part K L f [] each = tt
-each_part K L f (p ∷ items) each = (f p each.0, each_part K L f items each.1)
+layer_same : (xs ys : List CondTree) → CondTree-F.And xs ≡ CondTree-F.And ys → xs ≡ ys
+layer_same xs ys e = cc
+
+opened : (xs : List CondTree) → out-CondTree (c.And xs) ≡ CondTree-F.And xs
+opened xs = search (rules, the_lemmas)
+
+same_parts : (xs ys : List CondTree) → c.And xs ≡ c.And ys → xs ≡ ys
+same_parts xs ys e = layer_same xs ys (sym (opened xs) ∙ (ap out-CondTree e ∙ opened ys))
 
 module _ (within : Within) (depth : ℕ) where
   and_known : (first second : CondTree) (more : List CondTree) → Each (IsUnit within depth) (first ∷ second ∷ more) → IsConj within depth (c.And (first ∷ second ∷ more))
@@ -293,7 +336,12 @@ module _ (within : Within) (depth : ℕ) where
       let parts = each_part (IsUnit within depth) (IsPart (rule.unit within depth) as_unit k.And (the "and") the_and) (λ p u. (part_spelled true p u.spelled, u.unit)) items each in
       let shows = chain_shows (rule.unit within depth) as_unit k.And (the "and") the_and c.And bare-And first second more parts in
       let conj = as_tokens tokens (alone tree) (sym are) shows in
+      let each_alone = each_part (IsUnit within depth) (IsAlone within depth) (λ p u. record { spelled = u.spelled; cond = u.cond }) items each in
       record {
+        parted = record {
+          some = λ f. let h : Ands ≡ Nothing = sym (chain_of tree _ (shown-And items)) ∙ f in cc;
+          parts = λ ps e. subst (Each (IsAlone within depth)) (same_parts items ps e) each_alone;
+        };
         spelled = spelled_as (alone tree) tokens are (parts_spell (rule.unit within depth) as_unit k.And (the "and") the_and items parts);
         cond = one_cond conj;
         conj = as_tokens (alone tree) (as_conj tree) (sym (bare_part false tree (ap (is_wrapped false) (chain_of tree _ (shown-And items))))) conj;
@@ -308,6 +356,10 @@ module _ (within : Within) (depth : ℕ) where
       let conj = rule.conj_of (rule.unit within depth) in
       let parts = each_part (IsConj within depth) (IsPart conj as_conj k.Or (the "or") the_or) (λ p u. (part_spelled false p u.spelled, u.conj)) items each in
       record {
+        parted = record {
+          some = λ f. let h : Ors ≡ Nothing = sym (chain_of tree _ (shown-Or items)) ∙ f in cc;
+          parts = λ ps e. let h : Ors ≡ Ands = sym (chain_of tree _ (shown-Or items)) ∙ ap (λ (q : CondTree). (shown q).chain) e ∙ ap (λ (y : Shown). y.chain) (shown-And ps) in absurd cc;
+        };
         spelled = spelled_as (alone tree) tokens are (parts_spell conj as_conj k.Or (the "or") the_or items parts);
         cond = as_tokens tokens (alone tree) (sym are) (chain_shows conj as_conj k.Or (the "or") the_or c.Or bare-Or first second more parts);
       }
@@ -317,7 +369,7 @@ module _ (within : Within) (depth : ℕ) where
   KnownConj p = IsUnit within depth p ⊎ (IsConj within depth p × ((shown p).chain ≡ Ands))
 
   as_part_of_or : (p : CondTree) → KnownConj p → IsConj within depth p
-  as_part_of_or p (inl u) = record { spelled = u.spelled; cond = u.cond; conj = u.conj }
+  as_part_of_or p (inl u) = record { parted = u.parted; spelled = u.spelled; cond = u.cond; conj = u.conj }
   as_part_of_or p (inr (u, e)) = u
 
   gathered_conj : (first : CondTree) (more : List CondTree) → Each (IsUnit within depth) (first ∷ more) → KnownConj (gathered c.And (first ∷ more))
