@@ -16,6 +16,7 @@ pub mod BareLemmas
 pub mod PrintConds
 pub mod PrintRules
 pub mod PrintShows
+pub mod PrintSources
 pub mod PrintWords
 pub mod ShownLemmas
 pub mod Whole

@@ -396,7 +396,7 @@ module _ (within : Within) (depth : ℕ) where
       let P : Chain → Type 0 = λ chain. Levels within depth chain (c.Or items) in
       subst P (sym (chain_of (c.Or items) _ (shown-Or items))) (or_known first second more (each_part KnownConj (IsConj within depth) as_part_of_or items each))
 
-  cond_known : Knows (rule.unit within depth) (IsUnit within depth) → Knows (rule.cond_of (rule.unit within depth)) KnownCond
+  pub cond_known : Knows (rule.unit within depth) (IsUnit within depth) → Knows (rule.cond_of (rule.unit within depth)) KnownCond
   cond_known unit ts p rest h (items, mid, r, (made, end)) =
       let list = separated_known k.Or (rule.conj_of (rule.unit within depth)) KnownConj (conj_known unit) ts items mid h r in
       let known = gathered_cond list.1.0 list.1.1 list.1.3 in
