@@ -1,5 +1,5 @@
 -- What is read of a condition is read again where it is printed.
-use Rattle.std.proofs.Common.{◌≡◌, ℕ, zero, suc, Bool, true, false, cond, List, [], ◌∷◌, ◌++◌, map, Option, Some, None, ◌⊎◌, inl, inr, refl, sym, ap, ◌∙◌, subst, codes, rules}
+use Rattle.std.proofs.Common.{◌≡◌, ℕ, zero, suc, Bool, true, false, cond, List, [], ◌∷◌, ◌++◌, map, Option, Some, None, ◌⊎◌, inl, inr, refl, sym, ap, ◌∙◌, subst, codes, rules, arith, length, ◌≤◌}
 use Rattle.lv_lexer.specs.declared.terminals.Class.{Class}
 use Rattle.lv_lexer.specs.declared.terminals.Class.TheVariants as k
 use Rattle.lv_lexer.specs.declared.terminals.Terminal.{Terminal}
@@ -93,9 +93,10 @@ each_part K L f (p ∷ items) each = (f p each.0, each_part K L f items each.1)
 pub record IsParted (K : CondTree → Type 0) (p : CondTree) : Type 0 where
   pub some : (shown p).chain ≡ Nothing → ⊥
   pub parts : (ps : List CondTree) → p ≡ c.And ps → Each K ps
+  pub two : (ps : List CondTree) → p ≡ c.And ps → 2 ≤ length ps
 
 parted_more : (K L : CondTree → Type 0) → ((p : CondTree) → K p → L p) → (p : CondTree) → IsParted K p → IsParted L p
-parted_more K L f p h = record { some = h.some; parts = λ ps e. each_part K L f ps (h.parts ps e) }
+parted_more K L f p h = record { some = h.some; parts = λ ps e. each_part K L f ps (h.parts ps e); two = h.two }
 
 module _ (within : Within) (depth : ℕ) where
   -- printed as a condition by itself
@@ -206,6 +207,7 @@ no_ands : (K : CondTree → Type 0) (p : CondTree) → (shown p).chain ≡ Singl
 no_ands K p e = record {
   some = no_chain p e;
   parts = λ ps is. let h : Single ≡ Ands = sym e ∙ ap (λ (q : CondTree). (shown q).chain) is ∙ ap (λ (y : Shown). y.chain) (shown-And ps) in absurd cc;
+  two = λ ps is. let h : Single ≡ Ands = sym e ∙ ap (λ (q : CondTree). (shown q).chain) is ∙ ap (λ (y : Shown). y.chain) (shown-And ps) in absurd cc;
 }
 
 from_unit : (within : Within) (depth : ℕ) (p : CondTree) → (shown p).chain ≡ Single → AllSpell (alone p) → Shows (rule.unit within depth) (Alike p) (alone p) → IsUnit within depth p
@@ -341,6 +343,7 @@ module _ (within : Within) (depth : ℕ) where
         parted = record {
           some = λ f. let h : Ands ≡ Nothing = sym (chain_of tree _ (shown-And items)) ∙ f in cc;
           parts = λ ps e. subst (Each (IsAlone within depth)) (same_parts items ps e) each_alone;
+          two = λ ps e. subst (λ (xs : List CondTree). 2 ≤ length xs) (same_parts items ps e) (omega arith);
         };
         spelled = spelled_as (alone tree) tokens are (parts_spell (rule.unit within depth) as_unit k.And (the "and") the_and items parts);
         cond = one_cond conj;
@@ -359,6 +362,7 @@ module _ (within : Within) (depth : ℕ) where
         parted = record {
           some = λ f. let h : Ors ≡ Nothing = sym (chain_of tree _ (shown-Or items)) ∙ f in cc;
           parts = λ ps e. let h : Ors ≡ Ands = sym (chain_of tree _ (shown-Or items)) ∙ ap (λ (q : CondTree). (shown q).chain) e ∙ ap (λ (y : Shown). y.chain) (shown-And ps) in absurd cc;
+          two = λ ps e. let h : Ors ≡ Ands = sym (chain_of tree _ (shown-Or items)) ∙ ap (λ (q : CondTree). (shown q).chain) e ∙ ap (λ (y : Shown). y.chain) (shown-And ps) in absurd cc;
         };
         spelled = spelled_as (alone tree) tokens are (parts_spell conj as_conj k.Or (the "or") the_or items parts);
         cond = as_tokens tokens (alone tree) (sym are) (chain_shows conj as_conj k.Or (the "or") the_or c.Or bare-Or first second more parts);

@@ -75,7 +75,7 @@ unfolding rule.cond
 one_of within p h = record { spelled = h.spelled; shows = h.cond }
 
 parted_of : (within : Within) (p : CondTree) → IsParted (IsAlone within rule.max_nesting) p → IsParted (IsOne within) p
-parted_of within p h = record { some = h.some; parts = λ ps e. each_part (IsAlone within rule.max_nesting) (IsOne within) (one_of within) ps (h.parts ps e) }
+parted_of within p h = record { some = h.some; parts = λ ps e. each_part (IsAlone within rule.max_nesting) (IsOne within) (one_of within) ps (h.parts ps e); two = h.two }
 
 whole_of : (within : Within) (chain : Chain) (p : CondTree) → Levels within rule.max_nesting chain p → IsWhole within p
 whole_of within Nothing p u = record { parted = parted_of within p u.parted; one = one_of within p (record { spelled = u.spelled; cond = u.cond }) }
@@ -235,3 +235,128 @@ module _ (within : Within) where
       many_next r (Some p) more (AlikeAll (r ∷ more) (p ∷ q ∷ parts)) (AlikeAll more (q ∷ parts)) (join_tokens r (shown p).tokens) (joins more (map (λ p. (shown p).tokens) (q ∷ parts)))
       (join_shows within r p each.0 ones.0) (others_show more (q ∷ parts) each.1 ones.1)
       (λ j found a b. (one_more_table r more j found a.0 b.0, with_some j.on p (ons found) (taken more (q ∷ parts)) a.1 b.1))
+
+  join_spells : (r : RefTree) (p : CondTree) → Again rule.ref bare_ref ref_tokens r → IsOne within p → AllSpell (join_tokens r (shown p).tokens)
+  join_spells r p h one = (the_join.spelled, all_spell_append (ref_tokens r) (the "on" ∷ (shown p).tokens) h.spelled (the_on.spelled, one.spelled))
+
+  joins_spell : (refs : List RefTree) (parts : List CondTree) → EachRef refs → Each (IsOne within) parts → AllSpell (joins refs (map (λ p. (shown p).tokens) parts))
+  joins_spell [] parts each ones = tt
+  joins_spell (r ∷ more) [] each ones = (the_comma_sign.spelled, all_spell_append (ref_tokens r) (joins more []) each.0.spelled (joins_spell more [] each.1 tt))
+  joins_spell (r ∷ more) (p ∷ []) each ones =
+      (the_comma_sign.spelled, all_spell_append (ref_tokens r) (joins more ((shown p).tokens ∷ [])) each.0.spelled (joins_spell more (p ∷ []) each.1 ones))
+  joins_spell (r ∷ more) (p ∷ q ∷ parts) each ones =
+      all_spell_append (join_tokens r (shown p).tokens) (joins more (map (λ p. (shown p).tokens) (q ∷ parts))) (join_spells r p each.0 ones.0) (joins_spell more (q ∷ parts) each.1 ones.1)
+
+  left_each : (refs : List RefTree) (parts : List CondTree) → Each (IsOne within) parts → Each (IsOne within) (left_over refs parts)
+  left_each [] parts ones = ones
+  left_each (r ∷ more) [] ones = left_each more [] ones
+  left_each (r ∷ more) (p ∷ []) ones = left_each more (p ∷ []) ones
+  left_each (r ∷ more) (p ∷ q ∷ parts) ones = left_each more (q ∷ parts) ones.1
+
+left_small : (refs : List RefTree) (parts : List CondTree) → length parts ≤ length refs + 1 → length (left_over refs parts) ≤ 1
+left_small [] parts h = omega arith
+left_small (r ∷ more) [] h = left_small more [] (omega arith)
+left_small (r ∷ more) (p ∷ []) h = left_small more (p ∷ []) (omega arith)
+left_small (r ∷ more) (p ∷ q ∷ parts) h = left_small more (q ∷ parts) (omega arith)
+
+-- conditions with parts that are alike are alike
+gathered_same : (xs ys : List CondTree) → map bare_cond xs ≡ map bare_cond ys → bare_cond (gathered c.And xs) ≡ bare_cond (gathered c.And ys)
+gathered_same [] [] e = refl
+gathered_same [] (y ∷ ys) e = absurd cc
+gathered_same (x ∷ xs) [] e = absurd cc
+gathered_same (x ∷ []) (y ∷ []) e = cc
+gathered_same (x ∷ []) (y ∷ z ∷ ys) e = absurd cc
+gathered_same (x ∷ w ∷ xs) (y ∷ []) e = absurd cc
+gathered_same (x ∷ w ∷ xs) (y ∷ z ∷ ys) e = bare-And (x ∷ w ∷ xs) ∙ ap c.And e ∙ sym (bare-And (y ∷ z ∷ ys))
+
+map_append : (xs ys : List CondTree) → map bare_cond (xs ++ ys) ≡ map bare_cond xs ++ map bare_cond ys
+map_append [] ys = refl
+map_append (x ∷ xs) ys = ap (λ (zs : List CondTree). bare_cond x ∷ zs) (map_append xs ys)
+
+-- ---- FROM and WHERE together
+
+-- alike but for places
+abbrev pub AlikeFrom : List RefTree → CondTree → List Joined → Option CondTree → Type 0
+AlikeFrom refs p joined kept = (map bare_ref (tables_of joined) ≡ map bare_ref refs) × (bare_cond (condition_of joined kept) ≡ bare_cond p)
+
+abbrev pub AlikeRefs : RefTree → List RefTree → List CondTree → List Joined → Type 0
+AlikeRefs first more parts found = (map bare_ref (tables_of found) ≡ map bare_ref (first ∷ more)) × (map bare_cond (ons found) ≡ map bare_cond (taken more parts))
+
+-- the printed references and condition are read again
+pub record PrintsFrom (within : Within) (refs : List RefTree) (p : CondTree) : Type 0 where
+  pub first : RefTree
+  pub more : List RefTree
+  pub parts : List CondTree
+  pub from_part : List Lexeme
+  pub where_part : List Lexeme
+  pub tokens : from_tokens refs p ≡ from_part ++ where_part
+  pub from_spelled : AllSpell from_part
+  pub where_spelled : AllSpell where_part
+  pub from : Shows (rule.from within) (AlikeRefs first more parts) from_part
+  pub filter : (joined : List Joined) → AlikeRefs first more parts joined → Shows (rule.filter within) (AlikeFrom refs p joined) where_part
+
+module _ (within : Within) (first : RefTree) (more : List RefTree) (p : CondTree) (ps : List CondTree) (ref : Again rule.ref bare_ref ref_tokens first) (each : EachRef more) (ones : Each (IsOne within) ps)
+    (few : length ps ≤ suc (length more)) (placed : placed_parts (suc (length more)) (shown p) ≡ map (λ q. (shown q).tokens) ps) (gathers : p ≡ gathered c.And ps) where
+  from_shows : Shows (rule.from within) (AlikeRefs first more ps) (the "from" ∷ ref_tokens first ++ joins more (map (λ q. (shown q).tokens) ps))
+  unfolding rule.from
+  from_shows =
+      the_then (the "from") k.From the_from (ref_tokens first ++ joins more (map (λ q. (shown q).tokens) ps))
+      (then_shows (ref_tokens first) (joins more (map (λ q. (shown q).tokens) ps)) ref.shows (λ a e. made_shows (AlikeRefs first more ps) (others_show within more ps each ones)
+      (λ found alike. (ap (λ (x : RefTree). x ∷ map bare_ref (tables_of found)) e ∙ ap (λ (xs : List RefTree). bare_ref first ∷ xs) alike.0, alike.1))))
+
+  -- the parts that were read, in order
+  conditions : (joined : List Joined) (kept : Option CondTree) (left : List CondTree) → left_over more ps ≡ left → AlikeRefs first more ps joined → map bare_cond (with_on kept []) ≡ map bare_cond left
+      → AlikeFrom (first ∷ more) p joined kept
+  conditions joined kept left are alike last =
+      let read : map bare_cond (parts_of joined kept) ≡ map bare_cond (ons joined) ++ map bare_cond (with_on kept []) = ap (map bare_cond) (parts_are joined kept) ∙ map_append (ons joined) (with_on kept []) in
+      let was : map bare_cond ps ≡ map bare_cond (taken more ps) ++ map bare_cond left =
+          ap (map bare_cond) (taken_and_left more ps ∙ ap (λ (xs : List CondTree). taken more ps ++ xs) are) ∙ map_append (taken more ps) left in
+      let same : map bare_cond (parts_of joined kept) ≡ map bare_cond ps =
+          read ∙ ap (λ (xs : List CondTree). xs ++ map bare_cond (with_on kept [])) alike.1 ∙ ap (λ (xs : List CondTree). map bare_cond (taken more ps) ++ xs) last ∙ sym was in
+      (alike.0, gathered_same (parts_of joined kept) ps same ∙ ap bare_cond (sym gathers))
+
+  kept_is : (kept : Option CondTree) (w : CondTree) → option_map bare_cond kept ≡ Some (bare_cond w) → map bare_cond (with_on kept []) ≡ map bare_cond (w ∷ [])
+  kept_is None w e = absurd cc
+  kept_is (Some q) w e = let same : bare_cond q ≡ bare_cond w = cc in ap (λ (x : CondTree). x ∷ []) same
+
+  kept_none : (kept : Option CondTree) → option_map bare_cond kept ≡ None → map bare_cond (with_on kept []) ≡ []
+  kept_none None e = refl
+  kept_none (Some q) e = absurd cc
+
+  -- WHERE, by the parts that are left
+  record Filters (left : List CondTree) : Type 0 where
+    spelled : AllSpell (where_tokens (map (λ q. (shown q).tokens) left))
+    shows : (joined : List Joined) → AlikeRefs first more ps joined → Shows (rule.filter within) (AlikeFrom (first ∷ more) p joined) (where_tokens (map (λ q. (shown q).tokens) left))
+
+  filters : (left : List CondTree) → left_over more ps ≡ left → length left ≤ 1 → Each (IsOne within) left → Filters left
+  filters [] are small one = record {
+    spelled = tt;
+    shows = λ joined alike. weaker (AlikeFrom (first ∷ more) p joined) (filter_none within) (λ kept e. conditions joined kept [] are alike (kept_none kept e));
+  }
+  filters (w ∷ []) are small one = record {
+    spelled = (the_where.spelled, one.0.spelled);
+    shows = λ joined alike. weaker (AlikeFrom (first ∷ more) p joined) (filter_some within w one.0) (λ kept e. conditions joined kept (w ∷ []) are alike (kept_is kept w e));
+  }
+  filters (w ∷ x ∷ left) are small one = absurd (omega arith)
+
+  prints_from : PrintsFrom within (first ∷ more) p
+  prints_from =
+      let texts = map (λ q. (shown q).tokens) ps in
+      let left = left_over more ps in
+      let by_left = filters left refl (left_small more ps (omega arith)) (left_each within more ps ones) in
+      let from_part = the "from" ∷ ref_tokens first ++ joins more texts in
+      let where_part = where_tokens (map (λ q. (shown q).tokens) left) in
+      let parts : joined_tokens more (placed_parts (suc (length more)) (shown p)) ≡ joins more texts ++ where_part =
+          ap (joined_tokens more) placed ∙ joins_and_where more texts ∙ ap (λ (xs : List (List Lexeme)). joins more texts ++ where_tokens xs) (left_map (λ q. (shown q).tokens) more ps) in
+      record {
+        first = first;
+        more = more;
+        parts = ps;
+        from_part = from_part;
+        where_part = where_part;
+        tokens = ap (λ (xs : List Lexeme). the "from" ∷ ref_tokens first ++ xs) parts ∙ sym (append_assoc (the "from" ∷ ref_tokens first) (joins more texts) where_part);
+        from_spelled = (the_from.spelled, all_spell_append (ref_tokens first) (joins more texts) ref.spelled (joins_spell within more ps each ones));
+        where_spelled = by_left.spelled;
+        from = from_shows;
+        filter = by_left.shows;
+      }
