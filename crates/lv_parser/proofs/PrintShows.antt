@@ -72,6 +72,10 @@ none_shows Q q = record { again = λ ts rest s. (None, sym s, q) }
 pub weaker : {A : Type 0} {p : Rule A} {P : A → Type 0} (Q : A → Type 0) {xs : List Lexeme} → Shows p P xs → ((a : A) → P a → Q a) → Shows p Q xs
 weaker Q first q = record { again = λ ts rest s. let a = first.again ts rest s in (a.0, a.1, q a.0 a.2) }
 
+-- the same tokens, written in another way
+pub as_tokens_of : {A : Type 0} {p : Rule A} {Q : A → Type 0} (xs ys : List Lexeme) → xs ≡ ys → Shows p Q xs → Shows p Q ys
+as_tokens_of {p = p} {Q = Q} xs ys e h = let P : List Lexeme → Type 0 = λ zs. Shows p Q zs in subst P e h
+
 -- ---- lists
 
 -- each of these is shown so

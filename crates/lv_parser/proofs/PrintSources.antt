@@ -1,24 +1,27 @@
 -- What is read after FROM, with its condition, is read again where it is printed.
 use Rattle.std.proofs.Common.{◌≡◌, ℕ, zero, suc, ◌+◌, ◌≤◌, Bool, true, false, List, [], ◌∷◌, ◌++◌, map, length, Option, Some, None, option_map, ◌⊎◌, inl, inr, refl, sym, ap, ◌∙◌, subst, append_assoc, codes, arith}
-use Rattle.std.proofs.lemmas.List.{append-nil}
+use Rattle.std.proofs.lemmas.Bool.{cases_lt}
 use Rattle.lv_lexer.specs.declared.terminals.Class.TheVariants as k
 use Rattle.lv_lexer.specs.declared.terminals.Terminal.{Terminal}
 use Rattle.lv_lexer.specs.Written.{Lexeme, sign}
 use Rattle.lv_parser.specs.declared.tree.Named.{Named}
 use Rattle.lv_parser.specs.declared.tree.RefTree.{RefTree}
-use Rattle.lv_parser.specs.declared.tree.CondTree.{CondTree}
+use Rattle.lv_parser.specs.declared.tree.CondTree.{CondTree, out-CondTree, roll-CondTree}
+use Rattle.lv_parser.specs.declared.tree.CondTree.TheVariants.{rolls-True, rolls-Cmp, rolls-And, rolls-Or, rolls-Not}
+use Rattle.lv_parser.specs.declared.tree.CondTree.TheViews.{roll-out-CondTree}
+use Rattle.lv_parser.specs.declared.tree.CondTree.TheOpen.{CondTree-F}
 use Rattle.lv_parser.specs.declared.tree.CondTree.TheVariants as c
 use Rattle.lv_parser.specs.declared.conditions.Within.{Within}
 use Rattle.lv_parser.specs.declared.sources.Joined.{Joined}
 use Rattle.lv_parser.specs.Rule.{Rule, token, pure, ◌>>=◌, ◌>>◌, ◌<$>◌, ◌or◌, optional, many, separated, ReadsEach, ReadsIf}
-use Rattle.lv_parser.specs.Trees.{gathered, with_on, tables_of, parts_of, condition_of}
+use Rattle.lv_parser.specs.Trees.{gathered, cond_or_true, with_on, tables_of, parts_of, condition_of}
 use Rattle.lv_parser.specs.Grammar as rule
 use Rattle.lv_parser.specs.Bare.{bare_name, bare_ref, bare_cond}
-use Rattle.lv_parser.specs.Printed.{Chain, Nothing, Single, Ands, Ors, Shown, the, comma, shown, name_tokens, alias_tokens, ref_tokens, where_tokens, whole, join_tokens, joined_tokens, placed_parts, from_tokens}
+use Rattle.lv_parser.specs.Printed.{Chain, Nothing, Single, Ands, Ors, Shown, the, comma, shown, name_tokens, alias_tokens, ref_tokens, where_tokens, whole, join_tokens, joined_tokens, placed_parts, from_tokens, filter_tokens}
 use Rattle.lv_parser.proofs.BareLemmas.{bare-True, bare-And}
-use Rattle.lv_parser.proofs.ShownLemmas.{shown-True, placed-And_few}
+use Rattle.lv_parser.proofs.ShownLemmas.{shown-True, shown-Cmp, shown-And, shown-Or, shown-Not, whole-Some, whole-True, placed-And_few, placed-And_many}
 use Rattle.lv_parser.proofs.PrintHonest.{AreHonest}
-use Rattle.lv_parser.proofs.PrintShows.{IsSaid, Says, says_parts, AllSpell, all_spell_append, Shows, then_shows, made_shows, left_shows, right_shows, some_shows, none_shows, weaker}
+use Rattle.lv_parser.proofs.PrintShows.{IsSaid, Says, says_parts, AllSpell, all_spell_append, Shows, then_shows, made_shows, left_shows, right_shows, some_shows, none_shows, weaker, as_tokens_of}
 use Rattle.lv_parser.proofs.PrintWords.{IsThe, the_as, the_from, the_join, the_on, the_where, the_comma_sign}
 use Rattle.lv_parser.proofs.PrintRules.{Again, Prints, left_by, same_rest, the_shows, the_then, name_prints}
 use Rattle.lv_parser.proofs.PrintConds.{Each, each_part, Alike, Levels, IsAlone, IsParted, IsCond, IsConj, IsUnit, cond_known, unit_known}
@@ -360,3 +363,174 @@ module _ (within : Within) (first : RefTree) (more : List RefTree) (p : CondTree
         from = from_shows;
         filter = by_left.shows;
       }
+
+-- ---- what was read
+
+-- a reference that was read, with its ON condition
+abbrev IsJoined : Within → Joined → Type 0
+IsJoined within j = Again rule.ref bare_ref ref_tokens j.table × IsFilter within j.on
+
+abbrev EachJoined : Within → List Joined → Type 0
+EachJoined within [] = Unit {0}
+EachJoined within (j ∷ more) = IsJoined within j × EachJoined within more
+
+inner_left : (ts mid : List Terminal) (o : Option Terminal) → AreHonest ts → ReadsIf (token k.Inner) ts o mid → AreHonest mid
+inner_left ts mid None h r = same_rest ts mid r h
+inner_left ts mid (Some t) h (e, is) = (left_by ts t mid e h).1
+
+another_known : (within : Within) (ts : List Terminal) (j : Joined) (rest : List Terminal) → AreHonest ts → (another within).reads ts j rest → AreHonest rest × IsJoined within j
+another_known within ts j rest h (inl (t, mid, (e, is), (table, mid2, r, (made, end)))) =
+    let ref = ref_prints mid table mid2 (left_by ts t mid e h).1 r in
+    (same_rest mid2 rest end ref.0, subst (IsJoined within) (sym made) (ref.1, tt))
+another_known within ts j rest h (inr (o, m0, s, (t, mid, (e, is), (table, mid2, r, (u, mid3, (f, is2), (on, mid4, q, (made, end))))))) =
+    let ref = ref_prints mid table mid2 (left_by m0 t mid e (inner_left ts m0 o h s)).1 r in
+    let cond = whole_known within mid3 on mid4 (left_by mid2 u mid3 f ref.0).1 q in
+    (same_rest mid4 rest end cond.0, subst (IsJoined within) (sym made) (ref.1, cond.1))
+
+others_known : (within : Within) (ts : List Terminal) (found : List Joined) (rest : List Terminal) → AreHonest ts → ReadsEach (another within) ts found rest → AreHonest rest × EachJoined within found
+others_known within ts [] rest h r = (same_rest ts rest r h, tt)
+others_known within ts (j ∷ more) rest h (mid, r, others) =
+    let one = another_known within ts j mid h r in
+    let all = others_known within mid more rest one.0 others in
+    (all.0, (one.1, all.1))
+
+-- what FROM gave: a first reference, and others with their conditions
+pub record IsFrom (within : Within) (joined : List Joined) : Type 0 where
+  first : RefTree
+  more : List Joined
+  is : joined ≡ record { table = first; on = None } ∷ more
+  ref : Again rule.ref bare_ref ref_tokens first
+  each : EachJoined within more
+
+pub from_known : (within : Within) (ts : List Terminal) (joined : List Joined) (rest : List Terminal) → AreHonest ts → (rule.from within).reads ts joined rest → AreHonest rest × IsFrom within joined
+unfolding rule.from
+from_known within ts joined rest h (t, mid, (e, is), (first, mid2, r, (more, mid3, q, (made, end)))) =
+    let ref = ref_prints mid first mid2 (left_by ts t mid e h).1 r in
+    let others = others_known within mid2 more mid3 ref.0 q in
+    (same_rest mid3 rest end others.0, record { first = first; more = more; is = made; ref = ref.1; each = others.1 })
+
+each_ref : (within : Within) (more : List Joined) → EachJoined within more → EachRef (tables_of more)
+each_ref within [] each = tt
+each_ref within (j ∷ more) each = (each.0.0, each_ref within more each.1)
+
+-- the parts of the condition
+parts_known : (within : Within) (more : List Joined) (kept : Option CondTree) → EachJoined within more → IsFilter within kept → Each (IsWhole within) (parts_of more kept)
+parts_known within [] None each filter = tt
+parts_known within [] (Some p) each filter = (filter, tt)
+parts_known within (j ∷ more) kept each filter = by j.on each.0.1 (parts_known within more kept each.1 filter)
+  where
+    by : (on : Option CondTree) → IsFilter within on → Each (IsWhole within) (parts_of more kept) → Each (IsWhole within) (with_on on (parts_of more kept))
+    by None h rest = rest
+    by (Some p) h rest = (h, rest)
+
+parts_few : (more : List Joined) (kept : Option CondTree) → length (parts_of more kept) ≤ suc (length more)
+parts_few [] None = omega arith
+parts_few [] (Some p) = omega arith
+parts_few (j ∷ more) kept = by j.on (parts_few more kept)
+  where
+    by : (on : Option CondTree) → length (parts_of more kept) ≤ suc (length more) → length (with_on on (parts_of more kept)) ≤ suc (suc (length more))
+    by None h = omega arith
+    by (Some p) h = omega arith
+
+length_tables : (more : List Joined) → length (tables_of more) ≡ length more
+length_tables [] = refl
+length_tables (j ∷ more) = ap suc (length_tables more)
+
+-- ---- the parts that are printed
+
+texts : List CondTree → List (List Lexeme)
+texts ps = map (λ q. (shown q).tokens) ps
+
+-- the condition as parts that can be printed behind so many references
+pub record Placed (within : Within) (refs : ℕ) (p : CondTree) : Type 0 where
+  parts : List CondTree
+  few : length parts ≤ refs
+  placed : placed_parts refs (shown p) ≡ map (λ q. (shown q).tokens) parts
+  gathers : p ≡ gathered c.And parts
+  ones : Each (IsOne within) parts
+
+placed_none : (within : Within) (refs : ℕ) → Placed within refs c.True
+placed_none within refs = record { parts = []; few = omega arith; placed = ap (placed_parts refs) shown-True; gathers = refl; ones = tt }
+
+-- a condition that is no And stands alone
+placed_alone : (within : Within) (refs : ℕ) (p : CondTree) → 1 ≤ refs → placed_parts refs (shown p) ≡ (shown p).tokens ∷ [] → IsOne within p → Placed within refs p
+placed_alone within refs p some placed one = record { parts = p ∷ []; few = some; placed = placed; gathers = refl; ones = (one, tt) }
+
+gathered_two : (ps : List CondTree) → 2 ≤ length ps → gathered c.And ps ≡ c.And ps
+gathered_two [] h = absurd (omega arith)
+gathered_two (p ∷ []) h = absurd (omega arith)
+gathered_two (p ∷ q ∷ ps) h = refl
+
+placed_and : (within : Within) (refs : ℕ) (p : CondTree) (ps : List CondTree) → 1 ≤ refs → p ≡ c.And ps → IsWhole within p → Placed within refs p
+placed_and within refs p ps some is known = elim (cases_lt refs (length ps)) [
+    inl many ↦ placed_alone within refs p some
+      (ap (λ (q : CondTree). placed_parts refs (shown q)) is ∙ placed-And_many refs ps many ∙ ap whole (shown-And ps)
+      ∙ ap (λ (y : Shown). y.tokens ∷ []) (sym (shown-And ps)) ∙ ap (λ (q : CondTree). (shown q).tokens ∷ []) (sym is)) known.one
+  | inr few ↦ record {
+      parts = ps;
+      few = few;
+      placed = ap (λ (q : CondTree). placed_parts refs (shown q)) is ∙ placed-And_few refs ps few;
+      gathers = is ∙ sym (gathered_two ps (known.parted.two ps is));
+      ones = known.parted.parts ps is;
+    }
+  ]
+
+-- one part
+placed_one : (within : Within) (refs : ℕ) (p : CondTree) → 1 ≤ refs → IsWhole within p → Placed within refs p
+placed_one within refs p some known = by (out-CondTree p) refl
+  where
+    alone_by : (q : CondTree) (x : Shown) → p ≡ q → shown q ≡ x → placed_parts refs x ≡ x.tokens ∷ [] → Placed within refs p
+    alone_by q x is shows placed =
+        placed_alone within refs p some (ap (λ (t : CondTree). placed_parts refs (shown t)) is ∙ ap (placed_parts refs) shows ∙ placed ∙ ap (λ (y : Shown). y.tokens ∷ []) (sym shows) ∙ ap (λ (t : CondTree). (shown t).tokens ∷ []) (sym is)) known.one
+    by : (layer : CondTree-F CondTree) → out-CondTree p ≡ layer → Placed within refs p
+    by CondTree-F.True e =
+        let is : p ≡ c.True = sym (roll-out-CondTree p) ∙ ap roll-CondTree e ∙ rolls-True in
+        absurd (known.parted.some (ap (λ (t : CondTree). (shown t).chain) is ∙ ap (λ (y : Shown). y.chain) shown-True))
+    by (CondTree-F.Cmp op l r) e = alone_by (c.Cmp op l r) _ (sym (roll-out-CondTree p) ∙ ap roll-CondTree e ∙ rolls-Cmp op l r) (shown-Cmp op l r) refl
+    by (CondTree-F.And ps) e = placed_and within refs p ps some (sym (roll-out-CondTree p) ∙ ap roll-CondTree e ∙ rolls-And ps) known
+    by (CondTree-F.Or ps) e = alone_by (c.Or ps) _ (sym (roll-out-CondTree p) ∙ ap roll-CondTree e ∙ rolls-Or ps) (shown-Or ps) refl
+    by (CondTree-F.Not q) e = alone_by (c.Not q) _ (sym (roll-out-CondTree p) ∙ ap roll-CondTree e ∙ rolls-Not q) (shown-Not q) refl
+
+whole_one : (within : Within) (p : CondTree) → IsWhole within p → IsOne within p
+whole_one within p h = h.one
+
+-- the condition of these parts
+placed_gathered : (within : Within) (refs : ℕ) (qs : List CondTree) → length qs ≤ refs → Each (IsWhole within) qs → Placed within refs (gathered c.And qs)
+placed_gathered within refs [] few each = placed_none within refs
+placed_gathered within refs (q ∷ []) few each = placed_one within refs q few each.0
+placed_gathered within refs (q ∷ r ∷ more) few each = record {
+  parts = q ∷ r ∷ more;
+  few = few;
+  placed = placed-And_few refs (q ∷ r ∷ more) few;
+  gathers = refl;
+  ones = each_part (IsWhole within) (IsOne within) (whole_one within) (q ∷ r ∷ more) each;
+}
+
+-- What FROM and WHERE gave is read again where it is printed.
+pub sources_again : (within : Within) (joined : List Joined) (kept : Option CondTree) → IsFrom within joined → IsFilter within kept → PrintsFrom within (tables_of joined) (condition_of joined kept)
+sources_again within joined kept from filter =
+    let all = record { table = from.first; on = None } ∷ from.more in
+    let refs = suc (length (tables_of from.more)) in
+    let few : length (parts_of from.more kept) ≤ refs = omega (arith, parts_few from.more kept, length_tables from.more) in
+    let placed = placed_gathered within refs (parts_of from.more kept) few (parts_known within from.more kept from.each filter) in
+    let P : List Joined → Type 0 = λ js. PrintsFrom within (tables_of js) (condition_of js kept) in
+    subst P (sym from.is) (prints_from within from.first (tables_of from.more) (condition_of all kept) placed.parts from.ref (each_ref within from.more from.each) placed.ones placed.few placed.placed placed.gathers)
+
+-- ---- a condition alone
+
+-- WHERE of an UPDATE or a DELETE
+pub filter_again : (within : Within) (kept : Option CondTree) → IsFilter within kept → AllSpell (filter_tokens (cond_or_true kept)) × Shows (rule.filter within) (λ o. bare_cond (cond_or_true o) ≡ bare_cond (cond_or_true kept)) (filter_tokens (cond_or_true kept))
+filter_again within None h =
+    let are : where_tokens (whole (shown c.True)) ≡ [] = ap where_tokens whole-True in
+    (subst AllSpell (sym are) tt, as_tokens_of [] (filter_tokens c.True) (sym are) (weaker (λ o. bare_cond (cond_or_true o) ≡ bare_cond c.True) (filter_none within) given))
+  where
+    given : (o : Option CondTree) → option_map bare_cond o ≡ None → bare_cond (cond_or_true o) ≡ bare_cond c.True
+    given None e = refl
+    given (Some q) e = absurd cc
+filter_again within (Some p) h =
+    let are : where_tokens (whole (shown p)) ≡ the "where" ∷ (shown p).tokens = ap where_tokens (whole-Some p h.parted.some) in
+    (subst AllSpell (sym are) (the_where.spelled, h.one.spelled), as_tokens_of (the "where" ∷ (shown p).tokens) (filter_tokens p) (sym are) (weaker (λ o. bare_cond (cond_or_true o) ≡ bare_cond p) (filter_some within p h.one) given))
+  where
+    given : (o : Option CondTree) → option_map bare_cond o ≡ Some (bare_cond p) → bare_cond (cond_or_true o) ≡ bare_cond p
+    given None e = absurd cc
+    given (Some q) e = cc

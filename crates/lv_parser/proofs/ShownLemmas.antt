@@ -9,7 +9,7 @@ use Rattle.lv_parser.specs.declared.tree.CondTree.TheVariants as c
 use Rattle.lv_parser.specs.declared.tree.CondTree.TheVariants.{rolls-And, rolls-Or}
 use Rattle.lv_parser.specs.declared.tree.CondTree.TheOpen.{CondTree-F}
 use Rattle.lv_parser.specs.declared.tree.CondTree.TheFolds.{fold-CondTree, fold-roll-CondTree}
-use Rattle.lv_parser.specs.Printed.{Shown, Nothing, Single, Ands, Ors, shown, shown_step, single, no_condition, part_tokens, between, the, comparison_tokens, whole, placed_parts}
+use Rattle.lv_parser.specs.Printed.{Chain, Shown, Nothing, Single, Ands, Ors, shown, shown_step, single, no_condition, part_tokens, between, the, comparison_tokens, whole, placed_parts}
 
 pub shown-True : shown c.True ≡ no_condition
 shown-True = search (rules, the_lemmas)
@@ -49,3 +49,16 @@ placed-And_many refs parts h = ap (placed_parts refs) (shown-And parts) ∙ many
     many : (t : Bool) → t ≡ false → cond t (map (λ p. p.tokens) (map shown parts)) (whole (shown_step (CondTree-F.And (map shown parts)))) ≡ whole (shown_step (CondTree-F.And (map shown parts)))
     many true e = absurd cc
     many false e = refl
+
+pub whole-True : whole (shown c.True) ≡ []
+whole-True = ap whole shown-True
+
+-- where there is a condition, it is one part
+pub whole-Some : (p : CondTree) → ((shown p).chain ≡ Nothing → ⊥) → whole (shown p) ≡ (shown p).tokens ∷ []
+whole-Some p some = by (shown p).chain (shown p).tokens (shown p).parts some
+  where
+    by : (chain : Chain) (tokens : List Lexeme) (parts : List (List Lexeme)) → (chain ≡ Nothing → ⊥) → whole (record { chain = chain; tokens = tokens; parts = parts }) ≡ tokens ∷ []
+    by Nothing tokens parts some = absurd (some refl)
+    by Single tokens parts some = refl
+    by Ands tokens parts some = refl
+    by Ors tokens parts some = refl
