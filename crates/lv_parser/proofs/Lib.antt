@@ -14,6 +14,7 @@ pub mod Shift
 pub mod PrintHonest
 pub mod BareLemmas
 pub mod PrintConds
+pub mod PrintParts
 pub mod PrintRules
 pub mod PrintShows
 pub mod PrintSources

@@ -117,13 +117,13 @@ col_prints ts c rest h (first, mid, r, (Some second, mid2, (dot, mid3, (e, is), 
 
 -- ---- values
 
-number_is : (n : ℕ) (t : Terminal) → n < 10 ^ 38 → IsSaid (number n) t → t.number ≡ n
+pub number_is : (n : ℕ) (t : Terminal) → n < 10 ^ 38 → IsSaid (number n) t → t.number ≡ n
 number_is n t small is = ap (λ (u : Terminal). u.number) is ∙ number_says n small
 
 abbrev IsNum : ℤ → Literal → Type 0
 IsNum z l = bare_literal l ≡ record { value = v.Num z; byte = 0 }
 
-minus_is : (n : ℕ) → pos 0 -ℤ pos (suc n) ≡ negsuc n
+pub minus_is : (n : ℕ) → pos 0 -ℤ pos (suc n) ≡ negsuc n
 minus_is n = omega (arith, ints)
 
 shows_pos : (n : ℕ) → n < 10 ^ 38 → Shows rule.literal (IsNum (pos n)) (number_tokens (pos n))
