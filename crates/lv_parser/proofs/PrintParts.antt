@@ -172,3 +172,99 @@ ord_prints ts x rest h (by, m1, r, (o, m2, s, (made, end))) =
     let col = col_prints ts by m1 h r in
     let P : ColName × Bool → Type 0 = λ y. Again rule.ord bare_ord ord_tokens y in
     (same_rest m2 rest end (falls_left m1 o m2 col.0 s), subst P (sym made) (ord_again by (unwrap_or o false) col.1))
+
+-- ---- SET
+
+abbrev amount_rule : Rule ℤ
+amount_rule = (do token k.Plus; n ← token k.Number; pure (pos n.number)) or (do token k.Minus; n ← token k.Number; pure (pos 0 -ℤ pos n.number))
+
+-- what is added can be printed
+record IsAmount (z : ℤ) : Type 0 where
+  spelled : AllSpell (amount_tokens z)
+  shows : Shows amount_rule (λ b. b ≡ z) (amount_tokens z)
+
+plus_amount : (n : ℕ) → n < 10 ^ 38 → IsAmount (pos n)
+plus_amount n small = record {
+  spelled = (the_plus.spelled, (number_spells n small, tt));
+  shows = left_shows (the_then (sign (codes "+")) k.Plus the_plus (number n ∷ []) (made_shows (λ b. b ≡ pos n) (token_shows k.Number (number n) (λ b. refl)) (λ t is. ap (λ (m : ℕ). pos m) (number_is n t small is))));
+}
+
+minus_amount : (n : ℕ) → suc n < 10 ^ 38 → IsAmount (negsuc n)
+minus_amount n small = record {
+  spelled = (the_minus.spelled, (number_spells (suc n) small, tt));
+  shows = right_shows (the_then (sign (codes "-")) k.Minus the_minus (number (suc n) ∷ []) (made_shows (λ b. b ≡ negsuc n) (token_shows k.Number (number (suc n)) (λ b. refl))
+      (λ t is. ap (λ (m : ℕ). pos 0 -ℤ pos m) (number_is (suc n) t small is) ∙ minus_is n)));
+}
+
+taken_amount : (n : ℕ) → n < 10 ^ 38 → IsAmount (pos 0 -ℤ pos n)
+taken_amount zero small = plus_amount 0 small
+taken_amount (suc n) small = subst IsAmount (sym (minus_is n)) (minus_amount n small)
+
+amount_known : (ts : List Terminal) (z : ℤ) (rest : List Terminal) → AreHonest ts → amount_rule.reads ts z rest → AreHonest rest × IsAmount z
+amount_known ts z rest h (inl (t, m1, (e, is), (n, m2, (f, is2), (made, end)))) =
+    let left = left_by m1 n m2 f (left_by ts t m1 e h).1 in
+    (same_rest m2 rest end left.1, subst IsAmount (sym made) (plus_amount n.number (honest_number n left.0 is2)))
+amount_known ts z rest h (inr (t, m1, (e, is), (n, m2, (f, is2), (made, end)))) =
+    let left = left_by m1 n m2 f (left_by ts t m1 e h).1 in
+    (same_rest m2 rest end left.1, subst IsAmount (sym made) (taken_amount n.number (honest_number n left.0 is2)))
+
+abbrev value_rule : Rule AssignValue
+value_rule = (a.Literal <$> rule.literal)
+    or (do
+      source ← rule.name
+      amount ← optional amount_rule
+      pure (source_of source amount))
+
+-- what a column is set to can be printed
+record IsAssigned (x : AssignValue) : Type 0 where
+  spelled : AllSpell (assigned_tokens x)
+  shows : Shows value_rule (λ b. bare_value b ≡ bare_value x) (assigned_tokens x)
+
+literal_assigned : (l : Literal) → Again rule.literal bare_literal literal_tokens l → IsAssigned (a.Literal l)
+literal_assigned l again = record {
+  spelled = again.spelled;
+  shows = left_shows (made_shows (λ b. bare_value b ≡ bare_value (a.Literal l)) again.shows (λ b e. ap (λ (y : Literal). a.Literal y) e));
+}
+
+column_assigned : (n : Named) → Again rule.name bare_name name_tokens n → IsAssigned (a.Column n)
+column_assigned n again = record {
+  spelled = again.spelled;
+  shows = right_shows (then_shows (name_tokens n) [] again.shows (λ b e. made_shows (λ x. bare_value x ≡ bare_value (a.Column n)) (none_shows (λ o. o ≡ None) refl)
+      (λ o none. ap (λ (x : Option ℤ). bare_value (source_of b x)) none ∙ ap (λ (y : Named). a.Column y) e)));
+}
+
+plus_assigned : (n : Named) (z : ℤ) → Again rule.name bare_name name_tokens n → IsAmount z → IsAssigned (a.Plus n z)
+plus_assigned n z again amount = record {
+  spelled = all_spell_append (name_tokens n) (amount_tokens z) again.spelled amount.spelled;
+  shows = right_shows (then_shows (name_tokens n) (amount_tokens z) again.shows (λ b e. made_shows (λ x. bare_value x ≡ bare_value (a.Plus n z)) (some_shows (λ o. o ≡ Some z) amount.shows (λ y f. ap (λ (w : ℤ). Some w) f))
+      (λ o some. ap (λ (x : Option ℤ). bare_value (source_of b x)) some ∙ ap (λ (y : Named). a.Plus y z) e)));
+}
+
+value_known : (ts : List Terminal) (x : AssignValue) (rest : List Terminal) → AreHonest ts → value_rule.reads ts x rest → AreHonest rest × IsAssigned x
+value_known ts x rest h (inl (l, m1, r, (made, end))) =
+    let literal = literal_prints ts l m1 h r in
+    (same_rest m1 rest end literal.0, subst IsAssigned (sym made) (literal_assigned l literal.1))
+value_known ts x rest h (inr (n, m1, r, (None, m2, s, (made, end)))) =
+    let name = name_prints ts n m1 h r in
+    (same_rest m2 rest end (same_rest m1 m2 s name.0), subst IsAssigned (sym made) (column_assigned n name.1))
+value_known ts x rest h (inr (n, m1, r, (Some z, m2, s, (made, end)))) =
+    let name = name_prints ts n m1 h r in
+    let amount = amount_known m1 z m2 name.0 s in
+    (same_rest m2 rest end amount.0, subst IsAssigned (sym made) (plus_assigned n z name.1 amount.1))
+
+assign_again : (n : Named) (x : AssignValue) → Again rule.name bare_name name_tokens n → IsAssigned x → Again rule.assign bare_assign assign_tokens (record { column = n; value = x })
+unfolding rule.assign
+assign_again n x name value = record {
+  spelled = all_spell_append (name_tokens n) (sign (codes "=") ∷ assigned_tokens x) name.spelled (the_equal.spelled, value.spelled);
+  shows = then_shows (name_tokens n) (sign (codes "=") ∷ assigned_tokens x) name.shows
+      (λ b e. the_then (sign (codes "=")) k.Equal the_equal (assigned_tokens x) (made_shows (λ y. bare_assign y ≡ bare_assign (record { column = n; value = x })) value.shows
+      (λ v f. ap (λ (m : Named). record { column = m; value = bare_value v }) e ∙ ap (λ (w : AssignValue). record { column = bare_name n; value = w }) f)));
+}
+
+pub assign_prints : Prints rule.assign bare_assign assign_tokens
+unfolding rule.assign
+assign_prints ts x rest h (n, m1, r, (t, m2, (e, is), (v, m3, s, (made, end)))) =
+    let name = name_prints ts n m1 h r in
+    let value = value_known m2 v m3 (left_by m1 t m2 e name.0).1 s in
+    let P : Assign → Type 0 = λ y. Again rule.assign bare_assign assign_tokens y in
+    (same_rest m3 rest end value.0, subst P (sym made) (assign_again n v name.1 value.1))
