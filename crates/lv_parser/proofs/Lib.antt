@@ -18,6 +18,7 @@ pub mod PrintParts
 pub mod PrintRules
 pub mod PrintShows
 pub mod PrintSources
+pub mod PrintStmts
 pub mod PrintWords
 pub mod ShownLemmas
 pub mod Whole

@@ -84,10 +84,10 @@ plain_again col output c spelled shows = record {
 behind_parens : (xs ys : List Lexeme) → sign (codes "(") ∷ (xs ++ (sign (codes ")") ∷ ys)) ≡ in_parens xs ++ ys
 behind_parens xs ys = ap (λ (zs : List Lexeme). sign (codes "(") ∷ zs) (sym (append_assoc xs (sign (codes ")") ∷ []) ys))
 
-parens_spell : (xs ys : List Lexeme) → AllSpell xs → AllSpell ys → AllSpell (in_parens xs ++ ys)
+pub parens_spell : (xs ys : List Lexeme) → AllSpell xs → AllSpell ys → AllSpell (in_parens xs ++ ys)
 parens_spell xs ys f g = subst AllSpell (behind_parens xs ys) (the_left_paren.spelled, all_spell_append xs (sign (codes ")") ∷ ys) f (the_right_paren.spelled, g))
 
-parens_then : {A B : Type 0} {p : Rule A} {q : A → Rule B} {P : A → Type 0} {Q : B → Type 0} (xs ys : List Lexeme) → Shows p P xs → ((a : A) → P a → Shows (q a) Q ys)
+pub parens_then : {A B : Type 0} {p : Rule A} {q : A → Rule B} {P : A → Type 0} {Q : B → Type 0} (xs ys : List Lexeme) → Shows p P xs → ((a : A) → P a → Shows (q a) Q ys)
     → Shows (token k.LeftParen >> (p >>= λ a. token k.RightParen >> q a)) Q (in_parens xs ++ ys)
 parens_then {Q = Q} xs ys inside after =
     as_tokens_of (sign (codes "(") ∷ (xs ++ (sign (codes ")") ∷ ys))) (in_parens xs ++ ys) (behind_parens xs ys)
