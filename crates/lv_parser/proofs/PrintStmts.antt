@@ -111,3 +111,167 @@ update_prints ts s rest h (t, m1, (e, is), (table, m2, r, (u, m3, (f, is2), (set
     let list = separated_prints rule.assign bare_assign assign_tokens k.Comma comma the_comma_sign assign_prints m3 sets m4 (left_by m2 u m3 f name.0).1 p in
     let filter = filter_known stands.Query m4 kept m5 list.0 q in
     (same_rest m5 rest end filter.0, subst (IsAgain rule.update) (sym made) (update_again table sets kept name.1 list.1 filter.1))
+
+-- ---- lists that may be left out
+
+-- a list behind two words, where there is one
+abbrev Tail : {A : Type 0} → Class → Class → Rule A → Rule (Option (List A))
+Tail first second rule = optional (token first >> token second >> separated k.Comma rule)
+
+module _ {A : Type 0} (rule : Rule A) (bare_one : A → A) (tokens : A → List Lexeme) (prints : Prints rule bare_one tokens) (first second : Class) (x y : Lexeme) (the_x : IsThe x first) (the_y : IsThe y second) where
+  abbrev tail_tokens : List A → List Lexeme
+  tail_tokens [] = []
+  tail_tokens (a ∷ more) = x ∷ y ∷ between comma (map tokens (a ∷ more))
+
+  record IsTail (o : Option (List A)) : Type 0 where
+    spelled : AllSpell (tail_tokens (list_or_none o))
+    shows : Shows (Tail first second rule) (λ b. map bare_one (list_or_none b) ≡ map bare_one (list_or_none o)) (tail_tokens (list_or_none o))
+
+  some_tail : (a : A) (more : List A) → Again (separated k.Comma rule) (map bare_one) (λ xs. between comma (map tokens xs)) (a ∷ more) → IsTail (Some (a ∷ more))
+  some_tail a more list = record {
+    spelled = (the_x.spelled, (the_y.spelled, list.spelled));
+    shows = some_shows (λ b. map bare_one (list_or_none b) ≡ map bare_one (a ∷ more)) (two_then (between comma (map tokens (a ∷ more))) list.shows) (λ found e. e);
+  }
+    where
+      two_then : {Q : List A → Type 0} (zs : List Lexeme) → Shows (separated k.Comma rule) Q zs → Shows (token first >> token second >> separated k.Comma rule) Q (x ∷ y ∷ zs)
+      two_then zs h = then_shows (x ∷ y ∷ []) zs (then_shows (x ∷ []) (y ∷ []) (the_shows x first the_x) (λ t is. the_shows y second the_y)) (λ t is. h)
+
+  tail_known : (ts : List Terminal) (o : Option (List A)) (rest : List Terminal) → AreHonest ts → (Tail first second rule).reads ts o rest → AreHonest rest × IsTail o
+  tail_known ts None rest h r = (same_rest ts rest r h, record { spelled = tt; shows = none_shows (λ b. map bare_one (list_or_none b) ≡ []) refl })
+  tail_known ts (Some items) rest h (u, m0, (t, m1, (e, is), (f, is2)), (a, m2, r, (more, m3, q, (made, end)))) =
+      let list = separated_prints rule bare_one tokens k.Comma comma the_comma_sign prints m0 items rest (left_by m1 u m0 f (left_by ts t m1 e h).1).1 (a, m2, r, (more, m3, q, (made, end))) in
+      let P : List A → Type 0 = λ xs. Again (separated k.Comma rule) (map bare_one) (λ xs. between comma (map tokens xs)) xs in
+      (list.0, subst (λ (xs : List A). IsTail (Some xs)) (sym made) (some_tail a more (subst P made list.1)))
+
+-- ---- SELECT
+
+abbrev listed_rule : Rule (Option (List ColName))
+listed_rule = (token k.Star >> pure None) or (Some <$> separated k.Comma rule.col)
+
+record IsListed (o : Option (List ColName)) : Type 0 where
+  spelled : AllSpell (listed_tokens o)
+  shows : Shows listed_rule (λ b. option_map (map bare_col) b ≡ option_map (map bare_col) o) (listed_tokens o)
+
+listed_known : (ts : List Terminal) (o : Option (List ColName)) (rest : List Terminal) → AreHonest ts → listed_rule.reads ts o rest → AreHonest rest × IsListed o
+listed_known ts o rest h (inl (t, m1, (e, is), (made, end))) =
+    (same_rest m1 rest end (left_by ts t m1 e h).1, subst IsListed (sym made) (record {
+      spelled = (the_star.spelled, tt);
+      shows = left_shows (made_shows (λ b. option_map (map bare_col) b ≡ None) (the_shows (sign (codes "*")) k.Star the_star) (λ u is. refl));
+    }))
+listed_known ts o rest h (inr (items, m1, r, (made, end))) =
+    let list = separated_prints rule.col bare_col col_tokens k.Comma comma the_comma_sign col_prints ts items m1 h r in
+    (same_rest m1 rest end list.0, subst IsListed (sym made) (record {
+      spelled = list.1.spelled;
+      shows = right_shows (made_shows (λ b. option_map (map bare_col) b ≡ Some (map bare_col items)) list.1.shows (λ found e. ap (λ (xs : List ColName). Some xs) e));
+    }))
+
+order_tokens_are : (xs : List (ColName × Bool)) → tail_tokens rule.ord bare_ord ord_tokens ord_prints k.Order k.By (the "order") (the "by") the_order the_by xs ≡ order_tokens xs
+order_tokens_are [] = refl
+order_tokens_are (x ∷ xs) = refl
+
+groups_tokens_are : (xs : List ColName) → tail_tokens rule.col bare_col col_tokens col_prints k.Group k.By (the "group") (the "by") the_group the_by xs ≡ groups_tokens xs
+groups_tokens_are [] = refl
+groups_tokens_are (x ∷ xs) = refl
+
+-- FROM and WHERE between other tokens
+from_between : (front : List Lexeme) (from parts where_part tail : List Lexeme) → from ≡ parts ++ where_part → front ++ (parts ++ (where_part ++ tail)) ≡ front ++ from ++ tail
+from_between front from parts where_part tail e =
+    ap (λ (xs : List Lexeme). front ++ xs) (sym (append_assoc parts where_part tail) ∙ ap (λ (xs : List Lexeme). xs ++ tail) (sym e)) ∙ sym (append_assoc front from tail)
+
+abbrev IsOrder : Option (List (ColName × Bool)) → Type 0
+IsOrder = IsTail rule.ord bare_ord ord_tokens ord_prints k.Order k.By (the "order") (the "by") the_order the_by
+
+abbrev IsGroups : Option (List ColName) → Type 0
+IsGroups = IsTail rule.col bare_col col_tokens col_prints k.Group k.By (the "group") (the "by") the_group the_by
+
+same_select : (l m : Option (List ColName)) (rs qs : List RefTree) (p q : CondTree) (xs ys : List (ColName × Bool)) → option_map (map bare_col) l ≡ option_map (map bare_col) m → map bare_ref rs ≡ map bare_ref qs → bare_cond p ≡ bare_cond q → map bare_ord xs ≡ map bare_ord ys
+    → bare (st.Select l rs p xs) ≡ bare (st.Select m qs q ys)
+same_select l m rs qs p q xs ys e f g h =
+    ap (λ (z : Option (List ColName)). st.Select z (map bare_ref rs) (bare_cond p) (map bare_ord xs)) e ∙ ap (λ (z : List RefTree). st.Select (option_map (map bare_col) m) z (bare_cond p) (map bare_ord xs)) f
+    ∙ ap (λ (z : CondTree). st.Select (option_map (map bare_col) m) (map bare_ref qs) z (map bare_ord xs)) g ∙ ap (λ (z : List (ColName × Bool)). st.Select (option_map (map bare_col) m) (map bare_ref qs) (bare_cond q) z) h
+
+select_again : (listed : Option (List ColName)) (joined : List Joined) (kept : Option CondTree) (order : Option (List (ColName × Bool))) → IsListed listed → PrintsFrom stands.Query (tables_of joined) (condition_of joined kept) → IsOrder order
+    → IsAgain rule.select (st.Select listed (tables_of joined) (condition_of joined kept) (list_or_none order))
+unfolding rule.select
+select_again listed joined kept order list sources tail =
+    let refs = tables_of joined in
+    let cond = condition_of joined kept in
+    let l = listed_tokens listed in
+    let f = sources.from_part in
+    let w = sources.where_part in
+    let last = list_or_none order in
+    let o = order_tokens last in
+    let are = order_tokens_are last in
+    let tail_spelled : AllSpell o = subst AllSpell are tail.spelled in
+    let tail_shows = as_tokens_of _ o are tail.shows in
+    let tokens : the "select" ∷ (l ++ (f ++ (w ++ o))) ≡ select_tokens listed refs cond last = from_between (the "select" ∷ l) (from_tokens refs cond) f w o sources.tokens in
+    record {
+      spelled = subst AllSpell tokens (the_select.spelled, all_spell_append l (f ++ (w ++ o)) list.spelled (all_spell_append f (w ++ o) sources.from_spelled (all_spell_append w o sources.where_spelled tail_spelled)));
+      shows = as_tokens_of (the "select" ∷ (l ++ (f ++ (w ++ o)))) (select_tokens listed refs cond last) tokens
+          (the_then (the "select") k.Select the_select (l ++ (f ++ (w ++ o))) (then_shows l (f ++ (w ++ o)) list.shows
+          (λ found e. then_shows f (w ++ o) sources.from (λ js ej. then_shows w o (sources.filter js ej) (λ ko ek. made_shows (λ b. bare b ≡ bare (st.Select listed refs cond last)) tail_shows
+          (λ xs ex. same_select found listed (tables_of js) refs (condition_of js ko) cond (list_or_none xs) last e ek.0 ek.1 ex))))));
+    }
+
+pub select_prints : Prints rule.select bare stmt_tokens
+unfolding rule.select
+select_prints ts s rest h (t, m1, (e, is), (listed, m2, r, (joined, m3, q, (kept, m4, p, (order, m5, o, (made, end)))))) =
+    let list = listed_known m1 listed m2 (left_by ts t m1 e h).1 r in
+    let from = from_known stands.Query m2 joined m3 list.0 q in
+    let filter = filter_known stands.Query m3 kept m4 from.0 p in
+    let tail = tail_known rule.ord bare_ord ord_tokens ord_prints k.Order k.By (the "order") (the "by") the_order the_by m4 order m5 filter.0 o in
+    (same_rest m5 rest end tail.0, subst (IsAgain rule.select) (sym made) (select_again listed joined kept order list.1 (sources_again stands.Query joined kept from.1 filter.1) tail.1))
+
+-- ---- CREATE VIEW
+
+same_view : (n m : Named) (is js : List ItemTree) (rs qs : List RefTree) (p q : CondTree) (xs ys : List ColName) → bare_name n ≡ bare_name m → map bare_item is ≡ map bare_item js → map bare_ref rs ≡ map bare_ref qs → bare_cond p ≡ bare_cond q → map bare_col xs ≡ map bare_col ys
+    → bare (st.CreateView n is rs p xs) ≡ bare (st.CreateView m js qs q ys)
+same_view n m is js rs qs p q xs ys d e f g h =
+    ap (λ (z : Named). st.CreateView z (map bare_item is) (map bare_ref rs) (bare_cond p) (map bare_col xs)) d
+    ∙ ap (λ (z : List ItemTree). st.CreateView (bare_name m) z (map bare_ref rs) (bare_cond p) (map bare_col xs)) e
+    ∙ ap (λ (z : List RefTree). st.CreateView (bare_name m) (map bare_item js) z (bare_cond p) (map bare_col xs)) f
+    ∙ ap (λ (z : CondTree). st.CreateView (bare_name m) (map bare_item js) (map bare_ref qs) z (map bare_col xs)) g
+    ∙ ap (λ (z : List ColName). st.CreateView (bare_name m) (map bare_item js) (map bare_ref qs) (bare_cond q) z) h
+
+-- all that stands before FROM
+view_front : (view : Named) (items rest : List Lexeme) → the "create" ∷ the "view" ∷ (name_tokens view ++ the "as" ∷ the "select" ∷ (items ++ rest)) ≡ (view_name_tokens view ++ items) ++ rest
+view_front view items rest = refl
+
+view_again : (view : Named) (items : List ItemTree) (joined : List Joined) (kept : Option CondTree) (groups : Option (List ColName)) → Again rule.name bare_name name_tokens view
+    → Again (separated k.Comma rule.item) (map bare_item) (λ xs. between comma (map item_tokens xs)) items → PrintsFrom stands.View (tables_of joined) (condition_of joined kept) → IsGroups groups
+    → IsAgain rule.create_view (st.CreateView view items (tables_of joined) (condition_of joined kept) (list_or_none groups))
+unfolding rule.create_view
+view_again view items joined kept groups name list sources tail =
+    let refs = tables_of joined in
+    let cond = condition_of joined kept in
+    let l = between comma (map item_tokens items) in
+    let f = sources.from_part in
+    let w = sources.where_part in
+    let last = list_or_none groups in
+    let o = groups_tokens last in
+    let are = groups_tokens_are last in
+    let tail_spelled : AllSpell o = subst AllSpell are tail.spelled in
+    let tail_shows = as_tokens_of _ o are tail.shows in
+    let inner = f ++ (w ++ o) in
+    let tokens : the "create" ∷ the "view" ∷ (name_tokens view ++ the "as" ∷ the "select" ∷ (l ++ inner)) ≡ create_view_tokens view items refs cond last =
+        view_front view l inner ∙ from_between (view_name_tokens view ++ l) (from_tokens refs cond) f w o sources.tokens in
+    record {
+      spelled = subst AllSpell tokens (the_create.spelled, (the_view.spelled, all_spell_append (name_tokens view) (the "as" ∷ the "select" ∷ (l ++ inner)) name.spelled
+          (the_as.spelled, (the_select.spelled, all_spell_append l inner list.spelled (all_spell_append f (w ++ o) sources.from_spelled (all_spell_append w o sources.where_spelled tail_spelled))))));
+      shows = as_tokens_of (the "create" ∷ the "view" ∷ (name_tokens view ++ the "as" ∷ the "select" ∷ (l ++ inner))) (create_view_tokens view items refs cond last) tokens
+          (the_then (the "create") k.Create the_create (the "view" ∷ (name_tokens view ++ the "as" ∷ the "select" ∷ (l ++ inner))) (the_then (the "view") k.View the_view (name_tokens view ++ the "as" ∷ the "select" ∷ (l ++ inner))
+          (then_shows (name_tokens view) (the "as" ∷ the "select" ∷ (l ++ inner)) name.shows (λ n d. the_then (the "as") k.As the_as (the "select" ∷ (l ++ inner)) (the_then (the "select") k.Select the_select (l ++ inner)
+          (then_shows l inner list.shows (λ found e. then_shows f (w ++ o) sources.from (λ js ej. then_shows w o (sources.filter js ej) (λ ko ek.
+          made_shows (λ b. bare b ≡ bare (st.CreateView view items refs cond last)) tail_shows
+          (λ xs ex. same_view n view found items (tables_of js) refs (condition_of js ko) cond (list_or_none xs) last d e ek.0 ek.1 ex))))))))));
+    }
+
+pub view_prints : Prints rule.create_view bare stmt_tokens
+unfolding rule.create_view
+view_prints ts s rest h (t, m1, (e, is), (u, m2, (f, is2), (view, m3, n, (v, m4, (g, is3), (x, m5, (d, is4), (items, m6, l, (joined, m7, q, (kept, m8, p, (groups, m9, o, (made, end)))))))))) =
+    let name = name_prints m2 view m3 (left_by m1 u m2 f (left_by ts t m1 e h).1).1 n in
+    let list = separated_prints rule.item bare_item item_tokens k.Comma comma the_comma_sign item_prints m5 items m6 (left_by m4 x m5 d (left_by m3 v m4 g name.0).1).1 l in
+    let from = from_known stands.View m6 joined m7 list.0 q in
+    let filter = filter_known stands.View m7 kept m8 from.0 p in
+    let tail = tail_known rule.col bare_col col_tokens col_prints k.Group k.By (the "group") (the "by") the_group the_by m8 groups m9 filter.0 o in
+    (same_rest m9 rest end tail.0, subst (IsAgain rule.create_view) (sym made) (view_again view items joined kept groups name.1 list.1 (sources_again stands.View joined kept from.1 filter.1) tail.1))
