@@ -275,3 +275,96 @@ view_prints ts s rest h (t, m1, (e, is), (u, m2, (f, is2), (view, m3, n, (v, m4,
     let filter = filter_known stands.View m7 kept m8 from.0 p in
     let tail = tail_known rule.col bare_col col_tokens col_prints k.Group k.By (the "group") (the "by") the_group the_by m8 groups m9 filter.0 o in
     (same_rest m9 rest end tail.0, subst (IsAgain rule.create_view) (sym made) (view_again view items joined kept groups name.1 list.1 (sources_again stands.View joined kept from.1 filter.1) tail.1))
+
+-- ---- CREATE TABLE
+
+same_table : (n m : Named) (cs ds : List ColumnTree) (xs ys : List Named) → bare_name n ≡ bare_name m → map bare_column cs ≡ map bare_column ds → map bare_name xs ≡ map bare_name ys → bare (st.CreateTable n cs xs) ≡ bare (st.CreateTable m ds ys)
+same_table n m cs ds xs ys d e f =
+    ap (λ (z : Named). st.CreateTable z (map bare_column cs) (map bare_name xs)) d ∙ ap (λ (z : List ColumnTree). st.CreateTable (bare_name m) z (map bare_name xs)) e ∙ ap (λ (z : List Named). st.CreateTable (bare_name m) (map bare_column ds) z) f
+
+table_again : (table : Named) (columns : List ColumnTree) (key : List Named) → Again rule.name bare_name name_tokens table → Again (separated k.Comma rule.column) (map bare_column) (λ xs. between comma (map column_tokens xs)) columns
+    → Again (separated k.Comma rule.name) (map bare_name) (λ xs. between comma (map name_tokens xs)) key → IsAgain rule.create_table (st.CreateTable table columns key)
+unfolding rule.create_table
+table_again table columns key name list keys =
+    let cs = between comma (map column_tokens columns) in
+    let ks = names key in
+    let close = sign (codes ")") ∷ [] in
+    let end = in_parens ks ++ close in
+    let inner = comma ∷ the "primary" ∷ the "key" ∷ end in
+    let tokens : the "create" ∷ the "table" ∷ (name_tokens table ++ sign (codes "(") ∷ (cs ++ inner)) ≡ create_table_tokens table columns key =
+        ap (λ (xs : List Lexeme). the "create" ∷ the "table" ∷ (name_tokens table ++ sign (codes "(") ∷ xs)) (sym (append_assoc cs (key_tokens key) close)) in
+    record {
+      spelled = subst AllSpell tokens (the_create.spelled, (the_table.spelled, all_spell_append (name_tokens table) (sign (codes "(") ∷ (cs ++ inner)) name.spelled
+          (the_left_paren.spelled, all_spell_append cs inner list.spelled (the_comma_sign.spelled, (the_primary.spelled, (the_key.spelled, parens_spell ks close keys.spelled (the_right_paren.spelled, tt)))))));
+      shows = as_tokens_of (the "create" ∷ the "table" ∷ (name_tokens table ++ sign (codes "(") ∷ (cs ++ inner))) (create_table_tokens table columns key) tokens
+          (the_then (the "create") k.Create the_create (the "table" ∷ (name_tokens table ++ sign (codes "(") ∷ (cs ++ inner))) (the_then (the "table") k.Table the_table (name_tokens table ++ sign (codes "(") ∷ (cs ++ inner))
+          (then_shows (name_tokens table) (sign (codes "(") ∷ (cs ++ inner)) name.shows (λ n d. the_then (sign (codes "(")) k.LeftParen the_left_paren (cs ++ inner)
+          (then_shows cs inner list.shows (λ found e. the_then comma k.Comma the_comma_sign (the "primary" ∷ the "key" ∷ end) (the_then (the "primary") k.Primary the_primary (the "key" ∷ end)
+          (the_then (the "key") k.Key the_key end (parens_then ks close keys.shows (λ xs f. made_shows (λ b. bare b ≡ bare (st.CreateTable table columns key)) (the_shows (sign (codes ")")) k.RightParen the_right_paren)
+          (λ t is. same_table n table found columns xs key d e f)))))))))));
+    }
+
+pub table_prints : Prints rule.create_table bare stmt_tokens
+unfolding rule.create_table
+table_prints ts s rest h (t, m1, (e, is), (u, m2, (f, is2), (table, m3, n, (v, m4, (g, is3), (columns, m5, l, (w, m6, (d, is4), (x, m7, (b, is5), (y, m8, (c, is6), (z, m9, (o, is7), (key, m10, q, (aa, m11, (i, is8), (bb, m12, (j, is9), (made, end))))))))))))) =
+    let name = name_prints m2 table m3 (left_by m1 u m2 f (left_by ts t m1 e h).1).1 n in
+    let list = separated_prints rule.column bare_column column_tokens k.Comma comma the_comma_sign column_prints m4 columns m5 (left_by m3 v m4 g name.0).1 l in
+    let left = left_by m8 z m9 o (left_by m7 y m8 c (left_by m6 x m7 b (left_by m5 w m6 d list.0).1).1).1 in
+    let keys = separated_prints rule.name bare_name name_tokens k.Comma comma the_comma_sign name_prints m9 key m10 left.1 q in
+    (same_rest m12 rest end (left_by m11 bb m12 j (left_by m10 aa m11 i keys.0).1).1, subst (IsAgain rule.create_table) (sym made) (table_again table columns key name.1 list.1 keys.1))
+
+-- ---- statements of one word or two
+
+word_again : (x : Lexeme) (k : Class) (s : Stmt) → IsThe x k → stmt_tokens s ≡ x ∷ [] → IsAgain (token k >> pure s) s
+word_again x k s the_x are = record {
+  spelled = subst AllSpell (sym are) (the_x.spelled, tt);
+  shows = as_tokens_of (x ∷ []) (stmt_tokens s) (sym are) (made_shows (λ b. bare b ≡ bare s) (the_shows x k the_x) (λ t is. refl));
+}
+
+word_prints : (x : Lexeme) (k : Class) (s : Stmt) → IsThe x k → stmt_tokens s ≡ x ∷ [] → Prints (token k >> pure s) bare stmt_tokens
+word_prints x k s the_x are ts a rest h (t, mid, (e, is), (made, end)) =
+    (same_rest mid rest end (left_by ts t mid e h).1, subst (IsAgain (token k >> pure s)) (sym made) (word_again x k s the_x are))
+
+tasks_again : IsAgain (token k.Show >> token k.Tasks >> pure st.ShowTasks) st.ShowTasks
+tasks_again = record {
+  spelled = (the_show.spelled, (the_tasks.spelled, tt));
+  shows = made_shows (λ b. bare b ≡ bare st.ShowTasks) (the_then (the "show") k.Show the_show (the "tasks" ∷ []) (the_shows (the "tasks") k.Tasks the_tasks)) (λ t is. refl);
+}
+
+tasks_prints : Prints (token k.Show >> token k.Tasks >> pure st.ShowTasks) bare stmt_tokens
+tasks_prints ts a rest h (u, m2, (t, m1, (e, is), (f, is2)), (made, end)) =
+    (same_rest m2 rest end (left_by m1 u m2 f (left_by ts t m1 e h).1).1, subst (IsAgain (token k.Show >> token k.Tasks >> pure st.ShowTasks)) (sym made) tasks_again)
+
+-- ---- any statement
+
+left_again : (p q : Rule Stmt) (s : Stmt) → IsAgain p s → IsAgain (p or q) s
+left_again p q s h = record { spelled = h.spelled; shows = left_shows h.shows }
+
+right_again : (p q : Rule Stmt) (s : Stmt) → IsAgain q s → IsAgain (p or q) s
+right_again p q s h = record { spelled = h.spelled; shows = right_shows h.shows }
+
+or_prints : (p q : Rule Stmt) → Prints p bare stmt_tokens → Prints q bare stmt_tokens → Prints (p or q) bare stmt_tokens
+or_prints p q f g ts s rest h (inl r) = let one = f ts s rest h r in (one.0, left_again p q s one.1)
+or_prints p q f g ts s rest h (inr r) = let one = g ts s rest h r in (one.0, right_again p q s one.1)
+
+pub statement_prints : Prints rule.statement bare stmt_tokens
+unfolding rule.statement
+statement_prints =
+    or_prints _ _ table_prints (or_prints _ _ view_prints (or_prints _ _ insert_prints (or_prints _ _ update_prints (or_prints _ _ delete_prints (or_prints _ _ select_prints
+    (or_prints _ _ (word_prints (the "begin") k.Begin st.Begin the_begin refl) (or_prints _ _ (word_prints (the "commit") k.Commit st.Commit the_commit refl)
+    (or_prints _ _ (word_prints (the "rollback") k.Rollback st.Rollback the_rollback refl) tasks_prints))))))))
+
+-- ---- a line
+
+line_again : (s : Stmt) → IsAgain rule.statement s → IsAgain rule.line s
+unfolding rule.line
+line_again s h = record {
+  spelled = h.spelled;
+  shows = record { again = λ ts rest says. let a = h.shows.again ts rest says in (a.0, (a.0, rest, a.1, (None, rest, refl, (refl, refl))), a.2) };
+}
+
+pub line_prints : (ts : List Terminal) (s : Stmt) → AreHonest ts → rule.line.reads ts s [] → IsAgain rule.line s
+unfolding rule.line
+line_prints ts s h (found, m1, r, (o, m2, semi, (made, end))) =
+    let statement = statement_prints ts found m1 h r in
+    subst (IsAgain rule.line) (sym made) (line_again found statement.1)
