@@ -11,6 +11,7 @@ pub mod Tables
 pub mod Views
 pub mod ExactRules
 pub mod Shift
+pub mod PrintFollow
 pub mod PrintHonest
 pub mod BareLemmas
 pub mod PrintConds
