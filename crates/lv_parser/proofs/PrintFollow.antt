@@ -360,5 +360,92 @@ row_from (first ∷ more) q =
 row_filter : (q : CondTree) → Free (p.filter_tokens q)
 row_filter q = let known = row_cond q in row_where _ (row_whole (shown q).chain (shown q).tokens (shown q).parts known.tokens)
 
-pub all_follow : Unit {0}
-all_follow = tt
+-- ---- statements
+
+row_column : (c : ColumnTree) → Operand (p.column_tokens c)
+row_column c = by c.kind
+  where
+    by : (x : ColumnKind) → Operand (p.name_tokens c.name ++ p.kind_token x ∷ [])
+    by kind.Int = operand_of (then (weak (row_name c.name)) (row_word (codes "int")))
+    by kind.Text = operand_of (then (weak (row_name c.name)) (row_word (codes "text")))
+
+row_output : (n : Named) → Row Any Both (p.output_tokens n)
+row_output n = then (weak (row_the (codes "as"))) (row_name n)
+
+row_item : (x : ItemTree) → Operand (p.item_tokens x)
+row_item (i.Plain col None) = operand_of (then (weak (row_col col)) (none Any))
+row_item (i.Plain col (Some n)) = operand_of (then (weak (row_col col)) (row_output n))
+row_item (i.Sum col n) = operand_of (then (then (weak (row_the (codes "sum"))) (weak (row_parens (p.col_tokens col) (operand_of (row_col col))))) (row_output n))
+row_item (i.Count n) = operand_of (then (then (weak (row_the (codes "count"))) (weak (row_parens (sign (codes "*") ∷ []) (operand_of (row_sign 42 refl refl refl))))) (row_output n))
+
+row_amount : (n : Named) (z : ℤ) → Operand (p.name_tokens n ++ p.amount_tokens z)
+row_amount n (pos m) = operand_of (then (weak (row_name n)) (then (row_sign 43 refl refl refl) (row_number m)))
+row_amount n (negsuc m) = operand_of (then (both_opens (row_name n)) (row_minus (suc m)))
+
+row_assigned : (x : AssignValue) → Operand (p.assigned_tokens x)
+row_assigned (a.Literal l) = row_literal l
+row_assigned (a.Column n) = operand_of (row_name n)
+row_assigned (a.Plus n z) = row_amount n z
+
+row_assign : (x : Assign) → Operand (p.assign_tokens x)
+row_assign x = from_any Opens (then (both_shuts (row_name x.column)) (then (row_op (codes "=") refl) (row_assigned x.value)))
+
+row_ord : (x : ColName × Bool) → Operand (p.ord_tokens x)
+row_ord x = by x.1
+  where
+    by : (t : Bool) → Operand (p.col_tokens x.0 ++ p.falls_tokens t)
+    by true = operand_of (then (weak (row_col x.0)) (row_the (codes "desc")))
+    by false = operand_of (then (weak (row_col x.0)) (none Any))
+
+row_named : (n : Named) → Operand (p.name_tokens n)
+row_named n = operand_of (row_name n)
+
+row_cols : (c : ColName) → Operand (p.col_tokens c)
+row_cols c = operand_of (row_col c)
+
+row_groups : (cs : List ColName) → Free (p.groups_tokens cs)
+row_groups [] = none Any
+row_groups (c ∷ cs) = then (weak (row_the (codes "group"))) (then (row_the (codes "by")) (row_list p.col_tokens row_cols (c ∷ cs)))
+
+row_order : (xs : List (ColName × Bool)) → Free (p.order_tokens xs)
+row_order [] = none Any
+row_order (x ∷ xs) = then (weak (row_the (codes "order"))) (then (row_the (codes "by")) (row_list p.ord_tokens row_ord (x ∷ xs)))
+
+row_listed : (o : Option (List ColName)) → Operand (p.listed_tokens o)
+row_listed None = operand_of (row_sign 42 refl refl refl)
+row_listed (Some cs) = row_list p.col_tokens row_cols cs
+
+row_key : (key : List Named) → Free (p.key_tokens key)
+row_key key = then (weak row_comma) (then (weak (row_the (codes "primary"))) (then (weak (row_the (codes "key"))) (weak (row_parens (between comma (map p.name_tokens key)) (row_list p.name_tokens row_named key)))))
+
+row_stmt : (x : Stmt) → Free (p.stmt_tokens x)
+row_stmt (st.CreateTable table columns key) =
+    then (then (weak (row_the (codes "create"))) (then (weak (row_the (codes "table"))) (weak (row_name table))))
+    (weak (row_parens (between comma (map p.column_tokens columns) ++ p.key_tokens key) (then (row_list p.column_tokens row_column columns) (row_key key))))
+row_stmt (st.CreateView view items refs q groups) =
+    then (then (then (then (then (weak (row_the (codes "create"))) (then (weak (row_the (codes "view"))) (weak (row_name view)))) (then (weak (row_the (codes "as"))) (row_the (codes "select"))))
+    (row_list p.item_tokens row_item items)) (row_from refs q)) (row_groups groups)
+row_stmt (st.Insert table tuples) =
+    then (then (weak (row_the (codes "insert"))) (then (weak (row_the (codes "into"))) (weak (row_name table)))) (then (row_the (codes "values")) (row_list p.tuple_tokens row_tuple tuples))
+row_stmt (st.Update table sets q) =
+    then (then (then (weak (row_the (codes "update"))) (weak (row_name table))) (then (row_the (codes "set")) (row_list p.assign_tokens row_assign sets))) (row_filter q)
+row_stmt (st.Delete table q) = then (then (weak (row_the (codes "delete"))) (then (weak (row_the (codes "from"))) (weak (row_name table)))) (row_filter q)
+row_stmt (st.Select listed refs q order) = then (then (then (row_the (codes "select")) (row_listed listed)) (row_from refs q)) (row_order order)
+row_stmt st.Begin = weak (row_the (codes "begin"))
+row_stmt st.Commit = weak (row_the (codes "commit"))
+row_stmt st.Rollback = weak (row_the (codes "rollback"))
+row_stmt st.ShowTasks = then (weak (row_the (codes "show"))) (weak (row_the (codes "tasks")))
+
+-- ---- all of them
+
+read_behind : (x : Lexeme) (xs : List Lexeme) → AllSpell (x ∷ xs) → Follows x xs → CanBeRead (x ∷ xs)
+read_behind x [] spelled f = spelled.0
+read_behind x (y ∷ ys) spelled f = (spelled.0, f.0, read_behind y ys spelled.1 f.1)
+
+can_be_read : (xs : List Lexeme) → AllSpell xs → Free xs → CanBeRead xs
+can_be_read [] spelled f = tt
+can_be_read (x ∷ xs) spelled f = read_behind x xs spelled (f.follows (word []) tt).1
+
+-- What is printed of a statement can be read, where each token spells its kind.
+pub printed_can_be_read : (x : Stmt) → AllSpell (p.stmt_tokens x) → CanBeRead (p.stmt_tokens x)
+printed_can_be_read x spelled = can_be_read (p.stmt_tokens x) spelled (row_stmt x)

@@ -1,4 +1,4 @@
-use Rattle.lv_parser.proofs.PrintFollow.{all_follow}
+use Rattle.lv_parser.proofs.PrintFollow.{printed_can_be_read}
 use Rattle.lv_parser.proofs.PrintStmts.{insert_prints}
 use Rattle.lv_parser.proofs.PrintParts.{column_prints}
 use Rattle.lv_parser.proofs.PrintSources.{ref_prints}
