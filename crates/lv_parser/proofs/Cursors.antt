@@ -1,5 +1,5 @@
 -- The next token of a list that lies backwards, as the code takes it off.
-use Rattle.std.proofs.Common.{◌≡◌, ℕ, Bool, true, false, List, [], ◌∷◌, ◌++◌, ◌-◌, ◌<◌, zero, suc, length, reverse, arith, subst, Option, Some, None, slice_get, MatchOption, IfSome, Result, Ok, Err, refl, sym, ap, ◌∙◌}
+use Rattle.std.proofs.Common.{◌≡◌, ℕ, Bool, true, false, List, [], ◌∷◌, ◌++◌, ◌-◌, ◌<◌, zero, suc, length, reverse, arith, subst, Option, Some, None, slice_get, MatchOption, IfSome, All, Result, Ok, Err, refl, sym, ap, ◌∙◌}
 use Rattle.std.proofs.lemmas.List.{reverse-append}
 use denote.Enum.Bare.{same_true, true_same, sameb}
 use Rattle.lv_lexer.specs.contracts.terminals.Class.{the_type}

@@ -450,10 +450,6 @@ module _ {A : Type 0} (p : Rule A) (pf pm : List ℕ) (pb : Begins p pf false) w
   optional_front all r (inl e) = inl e
   optional_front all r (inr h) = pb.front all r h
 
-  nonempty : {T : Type 0} (all r : List Terminal) → ((r ≡ all) × (false ≡ true)) ⊎ Starts pf all → T ⊎ Starts pf all
-  nonempty all r (inl (e, q)) = cc
-  nonempty all r (inr s) = inr s
-
   pub begun : (all : List Terminal) (a : A) (r : List Terminal) → p.reads all a r → Starts pf all
   begun all a r h = begun_2 (pb.reads all a r h) where
     begun_2 : ((r ≡ all) × (false ≡ true)) ⊎ Starts pf all → Starts pf all

@@ -494,11 +494,7 @@ statement_reads =
     (or_reads (sees_tests k.Create) create_reads
     (or_reads (sees_tests k.Insert) insert_reads
     (or_reads (sees_tests k.Update) update_reads
-    (or_reads (sees_tests k.Delete) delete_reads
-    (or_reads (sees_tests k.Select) select_reads
-    (or_reads (sees_tests k.Begin) (word_reads k.Begin st.Begin)
-    (or_reads (sees_tests k.Commit) (word_reads k.Commit st.Commit)
-    (or_reads (sees_tests k.Rollback) (word_reads k.Rollback st.Rollback) tasks_reads refl) refl) refl) refl) refl) refl) refl) refl))
+    (or_reads (sees_tests k.Delete) delete_reads (or_reads (sees_tests k.Select) select_reads short_reads refl) refl) refl) refl) refl))
     refl refl
 
 pub line_reads : Reads rule.line read.line line_first (code k.Semicolon ∷ statement_more) false

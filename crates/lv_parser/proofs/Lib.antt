@@ -27,3 +27,4 @@ pub mod Loops
 pub mod Signs
 pub mod Units
 pub mod Apart
+pub mod Answered

@@ -45,3 +45,7 @@ module _ {A : Type 0} (test : List Terminal → Bool) (p : Reader A) where
 pub gives_err : {A B : Type 0} (o : Outcome A) (e : Stop) (rest : List Terminal) (o' : Outcome B) → Gives o (Err e) rest → (o ≡ Err rest → o' ≡ Err rest) → Gives o' (Err e) rest
 gives_err o Syntax rest o' h f = f h
 gives_err o NoMemory rest o' h f = tt
+
+pub at_syntax : {A : Type 0} (o : Outcome A) (e : Stop) (rest : List Terminal) → e ≡ Syntax → Gives o (Err e) rest → o ≡ Err rest
+at_syntax o Syntax rest e h = h
+at_syntax o NoMemory rest e h = cc

@@ -41,14 +41,6 @@ module _ {A : Type 0} (test : List Terminal → Bool) (p : Reader A) where
   unfolding many many_more
   more_after first all = sym (from_before (length all) (first ∷ []) [] all)
 
-module _ {A B : Type 0} (p : Reader A) (f k : A → Reader B) (same : (a : A) (all : List Terminal) → f a all ≡ k a all) where
-  same_at : (o : Outcome A) → and_then o f ≡ and_then o k
-  same_at (Ok (a, rest)) = same a rest
-  same_at (Err rest) = refl
-
-  pub same_later : (all : List Terminal) → (p >>= f) all ≡ (p >>= k) all
-  same_later all = same_at (p all)
-
 disjoint_nothing : (ks : List ℕ) → disjoint ks [] ≡ true
 disjoint_nothing [] = refl
 disjoint_nothing (k ∷ ks) = disjoint_nothing ks

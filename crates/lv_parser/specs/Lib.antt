@@ -6,5 +6,6 @@ pub mod Fault
 pub mod Reading
 pub mod Numbers
 pub mod Read
+pub mod Lines
 pub mod Printed
 pub mod Bare

@@ -36,6 +36,10 @@ unfoldable pub sees : Class → List Terminal → Bool
 sees k [] = false
 sees k (t ∷ rest) = same t.class k
 
+abbrev pub is_nothing : List Terminal → Bool
+is_nothing [] = true
+is_nothing (t ∷ rest) = false
+
 abbrev pub next : List Terminal → Option Terminal
 next [] = None
 next (t ∷ rest) = Some t

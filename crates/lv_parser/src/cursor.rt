@@ -1,22 +1,21 @@
 //! The tokens that are still to be read.
 
-ghost use Rattle.std.specs.Prelude.{◌≡◌, ◌↔◌, ◌^◌, ◌<◌, IsTrue, IfOk, IfSome, MatchOption, [], ◌∷◌, Ok, IsSome, drop, length, reverse};
+ghost use Rattle.std.specs.Prelude.{◌≡◌, ◌↔◌, ◌^◌, ◌<◌, IsTrue, All, IfOk, IfSome, MatchOption, [], ◌∷◌, Ok, IsSome, drop, length, reverse};
 ghost use Rattle.std.specs.Option.{option_copied};
 ghost use Rattle.lv_parser.specs.Class.{same};
 ghost use Rattle.lv_parser.specs.Fault.{byte_of};
-ghost use Rattle.lv_parser.specs.Reading.{Gives, sees, expect, optional, next, next_class};
-ghost use Rattle.lv_parser.specs.Numbers.{AreSmall, IsSmall};
+ghost use Rattle.lv_parser.specs.Reading.{Gives, sees, expect, optional, is_nothing, next, next_class};
+ghost use Rattle.lv_parser.specs.Numbers.{IsSmall};
 
 use crate::stop::Stop;
-use lv_lexer::{Class, Terminal};
-use lv_values::Items;
+use lv_lexer::{Class, Terminal, Terminals};
 use std::marker::Model;
 
 /// The tokens that are still to be read, seen in their order. The next one lies last, so that it is taken off
 /// without a copy. Each number among them has at most 38 digits.
 #[derive(Drop)]
 pub(crate) struct Cursor {
-    rest: Items<Terminal>,
+    rest: Terminals,
 }
 
 impl Model for Cursor {
@@ -38,12 +37,24 @@ fn same_class(a: Class, b: Class) -> bool
 }
 
 impl Cursor {
-    /// The tokens, of which the first to be read is the last of these.
-    pub fn new(backwards: Items<Terminal>) -> Cursor
-        requires { AreSmall backwards }
-        ensures { result ≡ reverse backwards }
+    /// The tokens, of which none is read yet. Cost: linear, without a copy.
+    pub fn new(terminals: Terminals) -> Cursor
+        requires { All IsSmall terminals }
+        ensures { result ≡ terminals }
     {
-        Cursor { rest: backwards }
+        let mut rest = terminals;
+        rest.reverse();
+        Cursor { rest }
+    }
+
+    /// Whether no token is left.
+    pub fn is_done(&self) -> bool
+        ensures { result ≡ is_nothing self.now }
+    {
+        match self.next() {
+            None => true,
+            Some(_) => false,
+        }
     }
 
     /// How many tokens are left.

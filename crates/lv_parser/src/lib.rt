@@ -5,13 +5,17 @@ mod changes;
 mod conditions;
 mod creation;
 mod cursor;
+mod laws;
+#[cfg(test)]
+mod line_tests;
 mod lists;
 mod names;
+mod parsing;
 mod print_conditions;
 mod print_lists;
 mod print_names;
-mod print_sources;
 mod print_parts;
+mod print_sources;
 mod print_statements;
 mod queries;
 mod sources;
@@ -19,7 +23,10 @@ mod statements;
 mod stop;
 mod tree;
 
+pub use laws::{reads_one_way, stops_at_one_place};
+pub use parsing::parse;
 pub use print_statements::print;
+pub use stop::ParseFault;
 pub use tree::{
     Assign, AssignValue, Assigns, ColName, ColNames, ColumnKind, ColumnTree, ColumnTrees, CondTree,
     CondTrees, ItemTree, ItemTrees, Literal, Literals, Named, Names, OperandTree, OrderTrees,

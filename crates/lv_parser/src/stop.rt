@@ -32,3 +32,13 @@ pub enum ParseFault {
     /// Memory was refused.
     NoMemory,
 }
+
+impl From<NoMemory> for ParseFault {
+    ghost use Rattle.lv_parser.specs.declared.stop.ParseFault.TheVariants.{NoMemory};
+
+    ghost from_gives = { λ _ e. e ≡ NoMemory };
+
+    fn from(_: NoMemory) -> ParseFault {
+        ParseFault::NoMemory
+    }
+}
