@@ -15,6 +15,7 @@ pub mod PrintFollow
 pub mod PrintHonest
 pub mod BareLemmas
 pub mod PrintConds
+pub mod PrintLine
 pub mod PrintParts
 pub mod PrintRules
 pub mod PrintShows

@@ -1,7 +1,10 @@
 //! A statement, printed as a line.
 
-ghost use Rattle.std.specs.Prelude.{◌≡◌, Bool, List, OnOk, IfOk};
+ghost use Rattle.std.specs.Prelude.{◌≡◌, ℕ, Bool, List, OnOk, IfOk};
 ghost use Rattle.lv_lexer.specs.Written.{with_tokens, line_of};
+ghost use Rattle.lv_parser.specs.declared.tree.Stmt.{Stmt};
+ghost use Rattle.lv_parser.specs.Bare.{bare};
+ghost use Rattle.lv_parser.specs.Lines.{ReadsAs};
 ghost use Rattle.lv_parser.specs.Printed as printed;
 
 use crate::print_lists::{Print, print_all};
@@ -214,9 +217,16 @@ fn print_stmt(alloc: Global, out: &mut Writer, stmt: &Stmt) -> Result<(), NoMemo
     }
 }
 
-/// The printed form of a statement.
+/// The printed form of a statement, as a line. Keywords are in lower case, one space stands between a word and a word or
+/// number that follows it, and no other space. Parentheses stand only round an Or in an And or an Or, round an And in an
+/// And, and round an And or an Or under NOT. Where the condition behind FROM is an And of no more parts than there are
+/// references, all its parts but the last are printed after ON. Cost: linear in the line.
 pub fn print(alloc: Global, stmt: &Stmt) -> Result<Text, NoMemory>
     ensures text { IfOk result (λ line. line ≡ line_of (printed.stmt_tokens stmt.now)) }
+
+    // What some line reads as, the printed line reads as again, but for places.
+    ensures again { (line : List ℕ) → ReadsAs line stmt.now
+        → IfOk result (λ text. (found : Stmt) × ReadsAs text found × (bare found ≡ bare stmt.now)) }
 {
     let mut out = Writer::new(alloc);
     print_stmt(alloc, &mut out, stmt)?;
