@@ -245,8 +245,8 @@ module _ (within : Within) where
       let are = tokens_of tree _ (shown-Cmp op left right) in
       let spelled = all_spell_append (operand_tokens left) (op_token op ∷ operand_tokens right) l.1.spelled ((op_spelled op).0, r.1.spelled) in
       let shows : Shows (rule.comparison within) (Alike tree) tokens =
-          then_shows (operand_tokens left) (op_token op ∷ operand_tokens right) l.1.shows
-          (λ a ea. then_shows (op_token op ∷ []) (operand_tokens right) (op_shows op) (λ x ex. made_shows (Alike tree) r.1.shows (λ b eb. alike x a b op left right ex ea eb)))
+      then_shows (operand_tokens left) (op_token op ∷ operand_tokens right) l.1.shows
+      (λ a ea. then_shows (op_token op ∷ []) (operand_tokens right) (op_shows op) (λ x ex. made_shows (Alike tree) r.1.shows (λ b eb. alike x a b op left right ex ea eb)))
       in
       let P : CondTree → Type 0 = λ q. AllSpell (alone q) × ((shown q).chain ≡ Single) × Shows (rule.comparison within) (Alike q) (alone q) in
       let known = subst P (sym made) (spelled_as (alone tree) tokens are spelled, chain_of tree _ (shown-Cmp op left right), as_tokens tokens (alone tree) (sym are) shows) in

@@ -40,6 +40,7 @@ spelled_fixed (entry ∷ more) word c a e = by (bytes_eq entry.0 word) (is_fixed
   where
     some_is : (d : Class) → ◌≡◌ {A = Option Class} (Some d) (Some c) → d ≡ c
     some_is d e = cc
+
     by : (t u : Bool) → is_fixed entry.1 ≡ u → (u && list_all (λ e. is_fixed e.1) more) ≡ true → cond t (Some entry.1) (spelled_by more word) ≡ Some c
         → (list_all (λ e. is_fixed e.1) more ≡ true → spelled_by more word ≡ Some c → is_fixed c ≡ true) → is_fixed c ≡ true
     by true true f a e rest = ap is_fixed (sym (some_is entry.1 e)) ∙ f
@@ -56,6 +57,7 @@ fit_fixed (entry ∷ more) bytes c n a e = by (starts_with nat_eq bytes entry.0)
   where
     first_is : (d : Class) (m : ℕ) → ◌≡◌ {A = Option (Class × ℕ)} (Some (d, m)) (Some (c, n)) → d ≡ c
     first_is d m e = let at : Option (Class × ℕ) → Class = λ o. elim o [ None ↦ d | Some p ↦ p.0 ] in ap at e
+
     by : (t u : Bool) → is_fixed entry.1 ≡ u → (u && list_all (λ e. is_fixed e.1) more) ≡ true → cond t (Some (entry.1, length entry.0)) (first_fit more bytes) ≡ Some (c, n)
         → (list_all (λ e. is_fixed e.1) more ≡ true → first_fit more bytes ≡ Some (c, n) → is_fixed c ≡ true) → is_fixed c ≡ true
     by true true f a e rest = ap is_fixed (sym (first_is entry.1 (length entry.0) e)) ∙ f

@@ -42,13 +42,15 @@ said_byte kind bytes b = ap (said kind bytes) (sym (byte_is kind bytes b))
 -- the terminals of a line are honest
 all_honest : (line : List ℕ) (tokens : List Token) → All (IsTokenOf line) tokens → AreHonest (lines.said line tokens)
 all_honest line [] all = tt
-all_honest line (t ∷ more) all =
-    (record {
-      kind = t.kind;
-      bytes = text_in line t;
-      spelled = (All-head (IsTokenOf line) t more all).spelled;
-      is = said_byte t.kind (text_in line t) (t.start + 1);
-    }, all_honest line more (All-tail (IsTokenOf line) t more all))
+all_honest line (t ∷ more) all = (
+  record {
+    kind = t.kind;
+    bytes = text_in line t;
+    spelled = (All-head (IsTokenOf line) t more all).spelled;
+    is = said_byte t.kind (text_in line t) (t.start + 1);
+  },
+  all_honest line more (All-tail (IsTokenOf line) t more all),
+)
 
 -- written tokens say what they spell
 all_said : (line : List ℕ) (tokens : List Token) (xs : List Lexeme) → AreWritten line tokens xs → Says xs (lines.said line tokens) []

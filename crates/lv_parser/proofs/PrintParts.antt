@@ -123,9 +123,11 @@ item_prints ts x rest h (inl (listed, m1, r, (None, m2, s, (made, end)))) =
 item_prints ts x rest h (inl (listed, m1, r, (Some output, m2, (t, m3, (e, is), s), (made, end)))) =
     let col = col_prints ts listed m1 h r in
     let name = name_prints m3 output m2 (left_by m1 t m3 e col.0).1 s in
-    let P : ItemTree → Type 0 = λ y. Again rule.item bare_item item_tokens y in
-    (same_rest m2 rest end name.0, subst P (sym made) (plain_again listed (Some output) col.1 (output_spells output name.1)
-    (some_shows (λ o. bare_name_if o ≡ Some (bare_name output)) (output_shows output name.1) (λ b f. ap (λ (y : Named). Some y) f))))
+    let P : ItemTree → Type 0 = λ y. Again rule.item bare_item item_tokens y in (
+      same_rest m2 rest end name.0,
+      subst P (sym made) (plain_again listed (Some output) col.1 (output_spells output name.1)
+          (some_shows (λ o. bare_name_if o ≡ Some (bare_name output)) (output_shows output name.1) (λ b f. ap (λ (y : Named). Some y) f))),
+    )
 item_prints ts x rest h (inr (inl (t, m1, (e, is), (u, m2, (f, is2), (summed, m3, r, (v, m4, (g, is3), (w, m5, (d, is4), (output, m6, s, (made, end))))))))) =
     let col = col_prints m2 summed m3 (left_by m1 u m2 f (left_by ts t m1 e h).1).1 r in
     let name = name_prints m5 output m6 (left_by m4 w m5 d (left_by m3 v m4 g col.0).1).1 s in

@@ -139,7 +139,7 @@ shows_negsuc n small =
     left_shows (then_shows (sign (codes "-") ∷ []) (number (suc n) ∷ []) (some_shows (λ m. (u : Terminal) × (m ≡ Some u)) (the_shows (sign (codes "-")) k.Minus the_minus) (λ u is. (u, refl)))
     (λ m some. made_shows (IsNum (negsuc n)) (token_shows k.Number (number (suc n)) (λ b. refl))
     (λ t is. ap (λ (o : Option Terminal). bare_literal (number_at o t)) some.1 ∙ ap (λ (i : ℕ). record { value = v.Num (pos 0 -ℤ pos i); byte = 0 }) (number_is (suc n) t small is)
-        ∙ ap (λ (z : ℤ). record { value = v.Num z; byte = 0 }) (minus_is n))))
+    ∙ ap (λ (z : ℤ). record { value = v.Num z; byte = 0 }) (minus_is n))))
 
 shows_text : (t : List ℕ) → Shows rule.literal (λ l. bare_literal l ≡ record { value = v.Text t; byte = 0 }) (text t ∷ [])
 unfolding rule.literal
@@ -239,18 +239,22 @@ pub operand_prints : (within : Within) → Prints (rule.operand within) bare_ope
 unfolding rule.operand
 operand_prints within ts x rest h (inl (c, mid, r, (made, end))) =
     let col = col_prints ts c mid h r in
-    let P : OperandTree → Type 0 = λ x. Again (rule.operand within) bare_operand operand_tokens x in
-    (same_rest mid rest end col.0, subst P (sym made) (record {
-      spelled = col.1.spelled;
-      shows = left_shows (made_shows (λ b. bare_operand b ≡ bare_operand (o.Column c)) col.1.shows (λ a e. ap (λ (x : ColName). o.Column x) e));
-    }))
+    let P : OperandTree → Type 0 = λ x. Again (rule.operand within) bare_operand operand_tokens x in (
+      same_rest mid rest end col.0,
+      subst P (sym made) (record {
+        spelled = col.1.spelled;
+        shows = left_shows (made_shows (λ b. bare_operand b ≡ bare_operand (o.Column c)) col.1.shows (λ a e. ap (λ (x : ColName). o.Column x) e));
+      }),
+    )
 operand_prints within ts x rest h (inr (l, mid, r, (made, end))) =
     let literal = literal_prints ts l mid h r in
-    let P : OperandTree → Type 0 = λ x. Again (rule.operand within) bare_operand operand_tokens x in
-    (same_rest mid rest end literal.0, subst P (sym made) (record {
-      spelled = literal.1.spelled;
-      shows = right_shows (made_shows (λ b. bare_operand b ≡ bare_operand (o.Literal l)) literal.1.shows (λ a e. ap (λ (x : Literal). o.Literal x) e));
-    }))
+    let P : OperandTree → Type 0 = λ x. Again (rule.operand within) bare_operand operand_tokens x in (
+      same_rest mid rest end literal.0,
+      subst P (sym made) (record {
+        spelled = literal.1.spelled;
+        shows = right_shows (made_shows (λ b. bare_operand b ≡ bare_operand (o.Literal l)) literal.1.shows (λ a e. ap (λ (x : Literal). o.Literal x) e));
+      }),
+    )
 
 itself : Sign → Sign
 itself x = x

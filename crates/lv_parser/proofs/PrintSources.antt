@@ -178,7 +178,7 @@ parts_are (j ∷ more) kept = by j.on (parts_are more kept)
 abbrev another : Within → Rule Joined
 another within =
     (do token k.Comma; table ← rule.ref; pure (record { table = table; on = None }))
-        or (do optional (token k.Inner); token k.Join; table ← rule.ref; token k.On; on ← rule.cond within; pure (record { table = table; on = Some on }))
+    or (do optional (token k.Inner); token k.Join; table ← rule.ref; token k.On; on ← rule.cond within; pure (record { table = table; on = Some on }))
 
 -- alike but for places
 abbrev AlikeJoined : RefTree → Option CondTree → Joined → Type 0
@@ -313,9 +313,9 @@ module _ (within : Within) (first : RefTree) (more : List RefTree) (p : CondTree
   conditions joined kept left are alike last =
       let read : map bare_cond (parts_of joined kept) ≡ map bare_cond (ons joined) ++ map bare_cond (with_on kept []) = ap (map bare_cond) (parts_are joined kept) ∙ map_append (ons joined) (with_on kept []) in
       let was : map bare_cond ps ≡ map bare_cond (taken more ps) ++ map bare_cond left =
-          ap (map bare_cond) (taken_and_left more ps ∙ ap (λ (xs : List CondTree). taken more ps ++ xs) are) ∙ map_append (taken more ps) left in
+      ap (map bare_cond) (taken_and_left more ps ∙ ap (λ (xs : List CondTree). taken more ps ++ xs) are) ∙ map_append (taken more ps) left in
       let same : map bare_cond (parts_of joined kept) ≡ map bare_cond ps =
-          read ∙ ap (λ (xs : List CondTree). xs ++ map bare_cond (with_on kept [])) alike.1 ∙ ap (λ (xs : List CondTree). map bare_cond (taken more ps) ++ xs) last ∙ sym was in
+      read ∙ ap (λ (xs : List CondTree). xs ++ map bare_cond (with_on kept [])) alike.1 ∙ ap (λ (xs : List CondTree). map bare_cond (taken more ps) ++ xs) last ∙ sym was in
       (alike.0, gathered_same (parts_of joined kept) ps same ∙ ap bare_cond (sym gathers))
 
   kept_is : (kept : Option CondTree) (w : CondTree) → option_map bare_cond kept ≡ Some (bare_cond w) → map bare_cond (with_on kept []) ≡ map bare_cond (w ∷ [])
@@ -350,7 +350,7 @@ module _ (within : Within) (first : RefTree) (more : List RefTree) (p : CondTree
       let from_part = the "from" ∷ ref_tokens first ++ joins more texts in
       let where_part = where_tokens (map (λ q. (shown q).tokens) left) in
       let parts : joined_tokens more (placed_parts (suc (length more)) (shown p)) ≡ joins more texts ++ where_part =
-          ap (joined_tokens more) placed ∙ joins_and_where more texts ∙ ap (λ (xs : List (List Lexeme)). joins more texts ++ where_tokens xs) (left_map (λ q. (shown q).tokens) more ps) in
+      ap (joined_tokens more) placed ∙ joins_and_where more texts ∙ ap (λ (xs : List (List Lexeme)). joins more texts ++ where_tokens xs) (left_map (λ q. (shown q).tokens) more ps) in
       record {
         first = first;
         more = more;
@@ -463,17 +463,17 @@ gathered_two (p ∷ q ∷ ps) h = refl
 
 placed_and : (within : Within) (refs : ℕ) (p : CondTree) (ps : List CondTree) → 1 ≤ refs → p ≡ c.And ps → IsWhole within p → Placed within refs p
 placed_and within refs p ps some is known = elim (cases_lt refs (length ps)) [
-    inl many ↦ placed_alone within refs p some
+  | inl many ↦ placed_alone within refs p some
       (ap (λ (q : CondTree). placed_parts refs (shown q)) is ∙ placed-And_many refs ps many ∙ ap whole (shown-And ps)
       ∙ ap (λ (y : Shown). y.tokens ∷ []) (sym (shown-And ps)) ∙ ap (λ (q : CondTree). (shown q).tokens ∷ []) (sym is)) known.one
   | inr few ↦ record {
-      parts = ps;
-      few = few;
-      placed = ap (λ (q : CondTree). placed_parts refs (shown q)) is ∙ placed-And_few refs ps few;
-      gathers = is ∙ sym (gathered_two ps (known.parted.two ps is));
-      ones = known.parted.parts ps is;
-    }
-  ]
+    parts = ps;
+    few = few;
+    placed = ap (λ (q : CondTree). placed_parts refs (shown q)) is ∙ placed-And_few refs ps few;
+    gathers = is ∙ sym (gathered_two ps (known.parted.two ps is));
+    ones = known.parted.parts ps is;
+  }
+]
 
 -- one part
 placed_one : (within : Within) (refs : ℕ) (p : CondTree) → 1 ≤ refs → IsWhole within p → Placed within refs p
@@ -482,6 +482,7 @@ placed_one within refs p some known = by (out-CondTree p) refl
     alone_by : (q : CondTree) (x : Shown) → p ≡ q → shown q ≡ x → placed_parts refs x ≡ x.tokens ∷ [] → Placed within refs p
     alone_by q x is shows placed =
         placed_alone within refs p some (ap (λ (t : CondTree). placed_parts refs (shown t)) is ∙ ap (placed_parts refs) shows ∙ placed ∙ ap (λ (y : Shown). y.tokens ∷ []) (sym shows) ∙ ap (λ (t : CondTree). (shown t).tokens ∷ []) (sym is)) known.one
+
     by : (layer : CondTree-F CondTree) → out-CondTree p ≡ layer → Placed within refs p
     by CondTree-F.True e =
         let is : p ≡ c.True = sym (roll-out-CondTree p) ∙ ap roll-CondTree e ∙ rolls-True in

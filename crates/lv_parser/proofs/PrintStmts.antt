@@ -93,7 +93,7 @@ update_again table sets kept name list filter =
     let all = between comma (map assign_tokens sets) in
     let printed = filter_again stands.Query kept filter in
     let order : the "update" ∷ (name_tokens table ++ the "set" ∷ (all ++ tokens)) ≡ update_tokens table sets (cond_or_true kept) =
-        ap (λ (xs : List Lexeme). the "update" ∷ xs) (sym (append_assoc (name_tokens table) (the "set" ∷ all) tokens)) in
+    ap (λ (xs : List Lexeme). the "update" ∷ xs) (sym (append_assoc (name_tokens table) (the "set" ∷ all) tokens)) in
     record {
       spelled = subst AllSpell order (the_update.spelled, all_spell_append (name_tokens table) (the "set" ∷ (all ++ tokens)) name.spelled (the_set.spelled, all_spell_append all tokens list.spelled printed.0));
       shows = as_tokens_of (the "update" ∷ (name_tokens table ++ the "set" ∷ (all ++ tokens))) (update_tokens table sets (cond_or_true kept)) order
@@ -101,7 +101,7 @@ update_again table sets kept name list filter =
           (then_shows (name_tokens table) (the "set" ∷ (all ++ tokens)) name.shows (λ n e. the_then (the "set") k.Set the_set (all ++ tokens)
           (then_shows all tokens list.shows (λ found f. made_shows (λ b. bare b ≡ bare (st.Update table sets (cond_or_true kept))) printed.1
           (λ o g. ap (λ (m : Named). st.Update m (map bare_assign found) (bare_cond (cond_or_true o))) e ∙ ap (λ (xs : List Assign). st.Update (bare_name table) xs (bare_cond (cond_or_true o))) f
-              ∙ ap (λ (x : CondTree). st.Update (bare_name table) (map bare_assign sets) x) g))))));
+          ∙ ap (λ (x : CondTree). st.Update (bare_name table) (map bare_assign sets) x) g))))));
     }
 
 pub update_prints : Prints rule.update bare stmt_tokens
@@ -153,17 +153,21 @@ record IsListed (o : Option (List ColName)) : Type 0 where
   shows : Shows listed_rule (λ b. option_map (map bare_col) b ≡ option_map (map bare_col) o) (listed_tokens o)
 
 listed_known : (ts : List Terminal) (o : Option (List ColName)) (rest : List Terminal) → AreHonest ts → listed_rule.reads ts o rest → AreHonest rest × IsListed o
-listed_known ts o rest h (inl (t, m1, (e, is), (made, end))) =
-    (same_rest m1 rest end (left_by ts t m1 e h).1, subst IsListed (sym made) (record {
-      spelled = (the_star.spelled, tt);
-      shows = left_shows (made_shows (λ b. option_map (map bare_col) b ≡ None) (the_shows (sign (codes "*")) k.Star the_star) (λ u is. refl));
-    }))
+listed_known ts o rest h (inl (t, m1, (e, is), (made, end))) = (
+  same_rest m1 rest end (left_by ts t m1 e h).1,
+  subst IsListed (sym made) (record {
+    spelled = (the_star.spelled, tt);
+    shows = left_shows (made_shows (λ b. option_map (map bare_col) b ≡ None) (the_shows (sign (codes "*")) k.Star the_star) (λ u is. refl));
+  }),
+)
 listed_known ts o rest h (inr (items, m1, r, (made, end))) =
-    let list = separated_prints rule.col bare_col col_tokens k.Comma comma the_comma_sign col_prints ts items m1 h r in
-    (same_rest m1 rest end list.0, subst IsListed (sym made) (record {
-      spelled = list.1.spelled;
-      shows = right_shows (made_shows (λ b. option_map (map bare_col) b ≡ Some (map bare_col items)) list.1.shows (λ found e. ap (λ (xs : List ColName). Some xs) e));
-    }))
+    let list = separated_prints rule.col bare_col col_tokens k.Comma comma the_comma_sign col_prints ts items m1 h r in (
+      same_rest m1 rest end list.0,
+      subst IsListed (sym made) (record {
+        spelled = list.1.spelled;
+        shows = right_shows (made_shows (λ b. option_map (map bare_col) b ≡ Some (map bare_col items)) list.1.shows (λ found e. ap (λ (xs : List ColName). Some xs) e));
+      }),
+    )
 
 order_tokens_are : (xs : List (ColName × Bool)) → tail_tokens rule.ord bare_ord ord_tokens ord_prints k.Order k.By (the "order") (the "by") the_order the_by xs ≡ order_tokens xs
 order_tokens_are [] = refl
@@ -254,10 +258,16 @@ view_again view items joined kept groups name list sources tail =
     let tail_shows = as_tokens_of _ o are tail.shows in
     let inner = f ++ (w ++ o) in
     let tokens : the "create" ∷ the "view" ∷ (name_tokens view ++ the "as" ∷ the "select" ∷ (l ++ inner)) ≡ create_view_tokens view items refs cond last =
-        view_front view l inner ∙ from_between (view_name_tokens view ++ l) (from_tokens refs cond) f w o sources.tokens in
+    view_front view l inner ∙ from_between (view_name_tokens view ++ l) (from_tokens refs cond) f w o sources.tokens in
     record {
-      spelled = subst AllSpell tokens (the_create.spelled, (the_view.spelled, all_spell_append (name_tokens view) (the "as" ∷ the "select" ∷ (l ++ inner)) name.spelled
-          (the_as.spelled, (the_select.spelled, all_spell_append l inner list.spelled (all_spell_append f (w ++ o) sources.from_spelled (all_spell_append w o sources.where_spelled tail_spelled))))));
+      spelled = subst AllSpell tokens (
+        the_create.spelled,
+        (
+          the_view.spelled,
+          all_spell_append (name_tokens view) (the "as" ∷ the "select" ∷ (l ++ inner)) name.spelled
+              (the_as.spelled, (the_select.spelled, all_spell_append l inner list.spelled (all_spell_append f (w ++ o) sources.from_spelled (all_spell_append w o sources.where_spelled tail_spelled)))),
+        ),
+      );
       shows = as_tokens_of (the "create" ∷ the "view" ∷ (name_tokens view ++ the "as" ∷ the "select" ∷ (l ++ inner))) (create_view_tokens view items refs cond last) tokens
           (the_then (the "create") k.Create the_create (the "view" ∷ (name_tokens view ++ the "as" ∷ the "select" ∷ (l ++ inner))) (the_then (the "view") k.View the_view (name_tokens view ++ the "as" ∷ the "select" ∷ (l ++ inner))
           (then_shows (name_tokens view) (the "as" ∷ the "select" ∷ (l ++ inner)) name.shows (λ n d. the_then (the "as") k.As the_as (the "select" ∷ (l ++ inner)) (the_then (the "select") k.Select the_select (l ++ inner)
@@ -292,10 +302,16 @@ table_again table columns key name list keys =
     let end = in_parens ks ++ close in
     let inner = comma ∷ the "primary" ∷ the "key" ∷ end in
     let tokens : the "create" ∷ the "table" ∷ (name_tokens table ++ sign (codes "(") ∷ (cs ++ inner)) ≡ create_table_tokens table columns key =
-        ap (λ (xs : List Lexeme). the "create" ∷ the "table" ∷ (name_tokens table ++ sign (codes "(") ∷ xs)) (sym (append_assoc cs (key_tokens key) close)) in
+    ap (λ (xs : List Lexeme). the "create" ∷ the "table" ∷ (name_tokens table ++ sign (codes "(") ∷ xs)) (sym (append_assoc cs (key_tokens key) close)) in
     record {
-      spelled = subst AllSpell tokens (the_create.spelled, (the_table.spelled, all_spell_append (name_tokens table) (sign (codes "(") ∷ (cs ++ inner)) name.spelled
-          (the_left_paren.spelled, all_spell_append cs inner list.spelled (the_comma_sign.spelled, (the_primary.spelled, (the_key.spelled, parens_spell ks close keys.spelled (the_right_paren.spelled, tt)))))));
+      spelled = subst AllSpell tokens (
+        the_create.spelled,
+        (
+          the_table.spelled,
+          all_spell_append (name_tokens table) (sign (codes "(") ∷ (cs ++ inner)) name.spelled
+              (the_left_paren.spelled, all_spell_append cs inner list.spelled (the_comma_sign.spelled, (the_primary.spelled, (the_key.spelled, parens_spell ks close keys.spelled (the_right_paren.spelled, tt))))),
+        ),
+      );
       shows = as_tokens_of (the "create" ∷ the "table" ∷ (name_tokens table ++ sign (codes "(") ∷ (cs ++ inner))) (create_table_tokens table columns key) tokens
           (the_then (the "create") k.Create the_create (the "table" ∷ (name_tokens table ++ sign (codes "(") ∷ (cs ++ inner))) (the_then (the "table") k.Table the_table (name_tokens table ++ sign (codes "(") ∷ (cs ++ inner))
           (then_shows (name_tokens table) (sign (codes "(") ∷ (cs ++ inner)) name.shows (λ n d. the_then (sign (codes "(")) k.LeftParen the_left_paren (cs ++ inner)

@@ -37,7 +37,12 @@ fn print_where(alloc: Global, out: &mut Writer, parts: &[CondTree]) -> Result<()
 }
 
 /// Writes a reference that is joined on a condition.
-fn print_joined(alloc: Global, out: &mut Writer, table: &RefTree, on: &CondTree) -> Result<(), NoMemory>
+fn print_joined(
+    alloc: Global,
+    out: &mut Writer,
+    table: &RefTree,
+    on: &CondTree,
+) -> Result<(), NoMemory>
     ensures { OnOk result (out.new ≡ with_tokens out.old (printed.join_tokens table.now (printed.shown on.now).tokens)) }
 {
     out.word("join")?;
@@ -47,7 +52,12 @@ fn print_joined(alloc: Global, out: &mut Writer, table: &RefTree, on: &CondTree)
 }
 
 /// Writes the references behind the first, and the condition by these parts.
-fn print_others(alloc: Global, out: &mut Writer, others: &[RefTree], parts: &[CondTree]) -> Result<(), NoMemory>
+fn print_others(
+    alloc: Global,
+    out: &mut Writer,
+    others: &[RefTree],
+    parts: &[CondTree],
+) -> Result<(), NoMemory>
     ensures { OnOk result (out.new ≡ with_tokens out.old (printed.joined_tokens others.now (map (λ p. (printed.shown p).tokens) parts.now))) }
 {
     let mut left = parts;
@@ -100,7 +110,12 @@ fn placed_parts(cond: &CondTree, refs: usize) -> &[CondTree]
 }
 
 /// Writes FROM, the references and the condition.
-pub(crate) fn print_from(alloc: Global, out: &mut Writer, refs: &[RefTree], cond: &CondTree) -> Result<(), NoMemory>
+pub(crate) fn print_from(
+    alloc: Global,
+    out: &mut Writer,
+    refs: &[RefTree],
+    cond: &CondTree,
+) -> Result<(), NoMemory>
     ensures { OnOk result (out.new ≡ with_tokens out.old (printed.from_tokens refs.now cond.now)) }
 {
     match refs {

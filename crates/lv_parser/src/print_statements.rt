@@ -10,9 +10,7 @@ ghost use Rattle.lv_parser.specs.Printed as printed;
 use crate::print_lists::{Print, print_all};
 use crate::print_names::print_name;
 use crate::print_sources::{print_filter, print_from};
-use crate::tree::{
-    Assign, ColName, ColumnTree, CondTree, ItemTree, Named, RefTree, Stmt, Tuple,
-};
+use crate::tree::{Assign, ColName, ColumnTree, CondTree, ItemTree, Named, RefTree, Stmt, Tuple};
 use lv_lexer::Writer;
 use lv_values::{Items, NoMemory, Text};
 use std::alloc::Global;
@@ -92,7 +90,12 @@ fn print_create_view(
 }
 
 /// Writes INSERT.
-fn print_insert(alloc: Global, out: &mut Writer, table: &Named, tuples: &[Tuple]) -> Result<(), NoMemory>
+fn print_insert(
+    alloc: Global,
+    out: &mut Writer,
+    table: &Named,
+    tuples: &[Tuple],
+) -> Result<(), NoMemory>
     ensures { OnOk result (out.new ≡ with_tokens out.old (printed.insert_tokens table.now tuples.now)) }
 {
     out.word("insert")?;
@@ -120,7 +123,12 @@ fn print_update(
 }
 
 /// Writes DELETE.
-fn print_delete(alloc: Global, out: &mut Writer, table: &Named, cond: &CondTree) -> Result<(), NoMemory>
+fn print_delete(
+    alloc: Global,
+    out: &mut Writer,
+    table: &Named,
+    cond: &CondTree,
+) -> Result<(), NoMemory>
     ensures { OnOk result (out.new ≡ with_tokens out.old (printed.delete_tokens table.now cond.now)) }
 {
     out.word("delete")?;
@@ -130,7 +138,11 @@ fn print_delete(alloc: Global, out: &mut Writer, table: &Named, cond: &CondTree)
 }
 
 /// Writes the list of a query.
-fn print_listed(alloc: Global, out: &mut Writer, listed: &Option<Items<ColName>>) -> Result<(), NoMemory>
+fn print_listed(
+    alloc: Global,
+    out: &mut Writer,
+    listed: &Option<Items<ColName>>,
+) -> Result<(), NoMemory>
     ensures { OnOk result (out.new ≡ with_tokens out.old (printed.listed_tokens listed.now)) }
 {
     match listed {
@@ -202,7 +214,13 @@ fn print_stmt(alloc: Global, out: &mut Writer, stmt: &Stmt) -> Result<(), NoMemo
             groups.as_slice(),
         ),
         Stmt::Insert { table, tuples } => print_insert(alloc, out, table, tuples.as_slice()),
-        Stmt::Update { table, sets, cond } => print_update(alloc, out, table, sets.as_slice(), cond),
+        Stmt::Update { table, sets, cond } => print_update(
+            alloc,
+            out,
+            table,
+            sets.as_slice(),
+            cond,
+        ),
         Stmt::Delete { table, cond } => print_delete(alloc, out, table, cond),
         Stmt::Select {
             list,
