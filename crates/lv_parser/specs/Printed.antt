@@ -90,26 +90,28 @@ abbrev pub operand_tokens : OperandTree → List Lexeme
 operand_tokens (o.Column c) = col_tokens c
 operand_tokens (o.Literal l) = literal_tokens l
 
--- which chain a condition is, if any
+-- no condition, one that is no chain, or which chain it is
 pub data Chain : Type 0 where
+  Nothing : Chain
   Single : Chain
   Ands : Chain
   Ors : Chain
 
--- a printed condition: which chain it is, its tokens without parentheses round it, and the tokens of the parts of its And
+-- a printed condition: what chain it is, its tokens without parentheses round it, and those of the parts of an And
 pub record Shown : Type 0 where
   pub chain : Chain
   pub tokens : List Lexeme
   pub parts : List (List Lexeme)
 
 abbrev pub single : List Lexeme → Shown
-single tokens = record { chain = Single; tokens = tokens; parts = tokens ∷ [] }
+single tokens = record { chain = Single; tokens = tokens; parts = [] }
 
 abbrev pub no_condition : Shown
-no_condition = record { chain = Single; tokens = []; parts = [] }
+no_condition = record { chain = Nothing; tokens = []; parts = [] }
 
 -- whether a condition as a part stands in parentheses: an Or does, and in an And and under NOT an And too
 abbrev pub is_wrapped : Bool → Chain → Bool
+is_wrapped in_and Nothing = false
 is_wrapped in_and Single = false
 is_wrapped in_and Ands = in_and
 is_wrapped in_and Ors = true
@@ -126,7 +128,7 @@ abbrev pub shown_step : CondTree-F Shown → Shown
 shown_step CondTree-F.True = no_condition
 shown_step (CondTree-F.Cmp op left right) = single (comparison_tokens op left right)
 shown_step (CondTree-F.And parts) = record { chain = Ands; tokens = between (the "and") (map (part_tokens true) parts); parts = map (λ p. p.tokens) parts }
-shown_step (CondTree-F.Or parts) = let tokens = between (the "or") (map (part_tokens false) parts) in record { chain = Ors; tokens = tokens; parts = tokens ∷ [] }
+shown_step (CondTree-F.Or parts) = record { chain = Ors; tokens = between (the "or") (map (part_tokens false) parts); parts = [] }
 shown_step (CondTree-F.Not part) = single (the "not" ∷ part_tokens true part)
 
 abbrev pub shown : CondTree → Shown
@@ -138,11 +140,11 @@ where_tokens (part ∷ more) = the "where" ∷ part
 
 -- the condition as one part, and no part where there is none
 abbrev pub whole : Shown → List (List Lexeme)
-whole c = one_if c.parts
+whole c = one_if c.chain
   where
-    one_if : List (List Lexeme) → List (List Lexeme)
-    one_if [] = []
-    one_if (part ∷ more) = c.tokens ∷ []
+    one_if : Chain → List (List Lexeme)
+    one_if Nothing = []
+    one_if _ = c.tokens ∷ []
 
 -- ---- sources
 
@@ -153,16 +155,23 @@ alias_tokens (Some alias) = name_tokens alias
 abbrev pub ref_tokens : RefTree → List Lexeme
 ref_tokens r = name_tokens r.name ++ alias_tokens r.alias
 
+abbrev pub join_tokens : RefTree → List Lexeme → List Lexeme
+join_tokens r on = the "join" ∷ ref_tokens r ++ the "on" ∷ on
+
 -- The references behind the first, and the condition. While two or more parts of the condition are left, a reference
 -- takes the first of them after ON; the last part stands after WHERE.
 abbrev pub joined_tokens : List RefTree → List (List Lexeme) → List Lexeme
 joined_tokens [] parts = where_tokens parts
-joined_tokens (r ∷ more) (part ∷ next ∷ parts) = the "join" ∷ ref_tokens r ++ the "on" ∷ part ++ joined_tokens more (next ∷ parts)
+joined_tokens (r ∷ more) (part ∷ next ∷ parts) = join_tokens r part ++ joined_tokens more (next ∷ parts)
 joined_tokens (r ∷ more) parts = comma ∷ ref_tokens r ++ joined_tokens more parts
 
 -- Where the condition is an And of no more parts than there are references, all its parts but the last stand after ON.
 abbrev pub placed_parts : ℕ → Shown → List (List Lexeme)
-placed_parts refs c = if nat_le (length c.parts) refs then c.parts else whole c
+placed_parts refs c = placed c.chain
+  where
+    placed : Chain → List (List Lexeme)
+    placed Ands = if nat_le (length c.parts) refs then c.parts else whole c
+    placed _ = whole c
 
 abbrev pub from_tokens : List RefTree → CondTree → List Lexeme
 from_tokens [] cond = []
@@ -184,10 +193,19 @@ abbrev pub output_if : Option Named → List Lexeme
 output_if None = []
 output_if (Some output) = output_tokens output
 
+abbrev pub plain_tokens : ColName → Option Named → List Lexeme
+plain_tokens col output = col_tokens col ++ output_if output
+
+abbrev pub sum_tokens : ColName → Named → List Lexeme
+sum_tokens col output = the "sum" ∷ in_parens (col_tokens col) ++ output_tokens output
+
+abbrev pub count_tokens : Named → List Lexeme
+count_tokens output = the "count" ∷ in_parens (sign (codes "*") ∷ []) ++ output_tokens output
+
 abbrev pub item_tokens : ItemTree → List Lexeme
-item_tokens (i.Plain col output) = col_tokens col ++ output_if output
-item_tokens (i.Sum col output) = the "sum" ∷ in_parens (col_tokens col) ++ output_tokens output
-item_tokens (i.Count output) = the "count" ∷ in_parens (sign (codes "*") ∷ []) ++ output_tokens output
+item_tokens (i.Plain col output) = plain_tokens col output
+item_tokens (i.Sum col output) = sum_tokens col output
+item_tokens (i.Count output) = count_tokens output
 
 -- what is added to a column
 abbrev pub amount_tokens : ℤ → List Lexeme
@@ -225,18 +243,43 @@ abbrev pub listed_tokens : Option (List ColName) → List Lexeme
 listed_tokens None = sign (codes "*") ∷ []
 listed_tokens (Some cols) = between comma (map col_tokens cols)
 
+abbrev pub key_tokens : List Named → List Lexeme
+key_tokens key = comma ∷ the "primary" ∷ the "key" ∷ in_parens (between comma (map name_tokens key))
+
+abbrev pub create_table_tokens : Named → List ColumnTree → List Named → List Lexeme
+create_table_tokens table columns key =
+    the "create" ∷ the "table" ∷ name_tokens table ++ in_parens (between comma (map column_tokens columns) ++ key_tokens key)
+
+abbrev pub view_name_tokens : Named → List Lexeme
+view_name_tokens view = the "create" ∷ the "view" ∷ name_tokens view ++ the "as" ∷ the "select" ∷ []
+
+abbrev pub create_view_tokens : Named → List ItemTree → List RefTree → CondTree → List ColName → List Lexeme
+create_view_tokens view items refs cond groups =
+    view_name_tokens view ++ between comma (map item_tokens items) ++ from_tokens refs cond ++ groups_tokens groups
+
+abbrev pub insert_tokens : Named → List Tuple → List Lexeme
+insert_tokens table tuples = the "insert" ∷ the "into" ∷ name_tokens table ++ the "values" ∷ between comma (map tuple_tokens tuples)
+
+abbrev pub update_tokens : Named → List Assign → CondTree → List Lexeme
+update_tokens table sets cond = the "update" ∷ name_tokens table ++ the "set" ∷ between comma (map assign_tokens sets) ++ filter_tokens cond
+
+abbrev pub delete_tokens : Named → CondTree → List Lexeme
+delete_tokens table cond = the "delete" ∷ the "from" ∷ name_tokens table ++ filter_tokens cond
+
+abbrev pub select_tokens : Option (List ColName) → List RefTree → CondTree → List (ColName × Bool) → List Lexeme
+select_tokens listed refs cond order = the "select" ∷ listed_tokens listed ++ from_tokens refs cond ++ order_tokens order
+
+abbrev pub show_tasks_tokens : List Lexeme
+show_tasks_tokens = the "show" ∷ the "tasks" ∷ []
+
 abbrev pub stmt_tokens : Stmt → List Lexeme
-stmt_tokens (st.CreateTable table columns key) =
-    the "create" ∷ the "table" ∷ name_tokens table
-    ++ in_parens (between comma (map column_tokens columns) ++ comma ∷ the "primary" ∷ the "key" ∷ in_parens (between comma (map name_tokens key)))
-stmt_tokens (st.CreateView view items refs cond groups) =
-    the "create" ∷ the "view" ∷ name_tokens view ++ the "as" ∷ the "select" ∷ between comma (map item_tokens items)
-    ++ from_tokens refs cond ++ groups_tokens groups
-stmt_tokens (st.Insert table tuples) = the "insert" ∷ the "into" ∷ name_tokens table ++ the "values" ∷ between comma (map tuple_tokens tuples)
-stmt_tokens (st.Update table sets cond) = the "update" ∷ name_tokens table ++ the "set" ∷ between comma (map assign_tokens sets) ++ filter_tokens cond
-stmt_tokens (st.Delete table cond) = the "delete" ∷ the "from" ∷ name_tokens table ++ filter_tokens cond
-stmt_tokens (st.Select listed refs cond order) = the "select" ∷ listed_tokens listed ++ from_tokens refs cond ++ order_tokens order
+stmt_tokens (st.CreateTable table columns key) = create_table_tokens table columns key
+stmt_tokens (st.CreateView view items refs cond groups) = create_view_tokens view items refs cond groups
+stmt_tokens (st.Insert table tuples) = insert_tokens table tuples
+stmt_tokens (st.Update table sets cond) = update_tokens table sets cond
+stmt_tokens (st.Delete table cond) = delete_tokens table cond
+stmt_tokens (st.Select listed refs cond order) = select_tokens listed refs cond order
 stmt_tokens st.Begin = the "begin" ∷ []
 stmt_tokens st.Commit = the "commit" ∷ []
 stmt_tokens st.Rollback = the "rollback" ∷ []
-stmt_tokens st.ShowTasks = the "show" ∷ the "tasks" ∷ []
+stmt_tokens st.ShowTasks = show_tasks_tokens

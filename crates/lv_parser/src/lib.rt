@@ -14,6 +14,9 @@ mod parsing;
 mod print_conditions;
 mod print_lists;
 mod print_names;
+mod print_parts;
+mod print_sources;
+mod print_statements;
 mod queries;
 mod sources;
 mod statements;
@@ -22,6 +25,7 @@ mod tree;
 
 pub use laws::{reads_one_way, stops_at_one_place};
 pub use parsing::parse;
+pub use print_statements::print;
 pub use stop::ParseFault;
 pub use tree::{
     Assign, AssignValue, Assigns, ColName, ColNames, ColumnKind, ColumnTree, ColumnTrees, CondTree,

@@ -4,6 +4,7 @@ ghost use Rattle.std.specs.Prelude.{◌≡◌, OnOk};
 ghost use Rattle.lv_lexer.specs.Written.{with_tokens};
 ghost use Rattle.lv_parser.specs.Printed as printed;
 
+use crate::print_lists::{Print, print_all};
 use crate::tree::{ColName, Literal, Named, Tuple};
 use lv_lexer::Writer;
 use lv_values::{NoMemory, Value};
@@ -48,5 +49,47 @@ pub(crate) fn print_literal(
     match &literal.value {
         Value::Num(n) => print_number(out, *n),
         Value::Text(text) => out.text(alloc, text),
+    }
+}
+
+impl Print for Named {
+    ghost use Rattle.lv_parser.specs.Printed.{name_tokens};
+
+    ghost tokens = { name_tokens };
+
+    fn print(&self, _alloc: Global, out: &mut Writer) -> Result<(), NoMemory> {
+        print_name(out, self)
+    }
+}
+
+impl Print for ColName {
+    ghost use Rattle.lv_parser.specs.Printed.{col_tokens};
+
+    ghost tokens = { col_tokens };
+
+    fn print(&self, _alloc: Global, out: &mut Writer) -> Result<(), NoMemory> {
+        print_col(out, self)
+    }
+}
+
+impl Print for Literal {
+    ghost use Rattle.lv_parser.specs.Printed.{literal_tokens};
+
+    ghost tokens = { literal_tokens };
+
+    fn print(&self, alloc: Global, out: &mut Writer) -> Result<(), NoMemory> {
+        print_literal(alloc, out, self)
+    }
+}
+
+impl Print for Tuple {
+    ghost use Rattle.lv_parser.specs.Printed.{tuple_tokens};
+
+    ghost tokens = { tuple_tokens };
+
+    fn print(&self, alloc: Global, out: &mut Writer) -> Result<(), NoMemory> {
+        out.sign("(")?;
+        print_all(alloc, out, self.values.as_slice())?;
+        out.sign(")")
     }
 }
