@@ -13,3 +13,5 @@ pub mod NetsLead
 pub mod KeptCounts
 mod ShopExamples
 mod WorldExamples
+pub mod KeyedRows
+pub mod Replay

@@ -21,3 +21,4 @@ pub mod Names
 pub mod Bound
 pub mod Greatest
 pub mod Versions
+pub mod Sound
