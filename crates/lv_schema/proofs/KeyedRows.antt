@@ -62,6 +62,7 @@ module _ (key : List ℕ) where
     where
       keys_alike : row_eq q r ≡ true → row_eq (values_at key q) (values_at key r) ≡ true
       keys_alike e = subst (λ z. row_eq (values_at key q) (values_at key z) ≡ true) (same_row q r e) (row_itself (values_at key q))
+
       by : (s : Bool) → row_eq (values_at key q) (values_at key r) ≡ s → (t : Bool) → row_eq q r ≡ t → has_row q rows ≡ is_at q (row_at (values_at key q) rows) → (t || has_row q rows) ≡ is_at q (cond s (Some r) (row_at (values_at key q) rows))
       by true e true f ih = sym f
       by true e false f ih = ih ∙ ap (is_at q) (none_at (values_at key q) r rows e a.0) ∙ sym f
@@ -102,6 +103,7 @@ module _ (key : List ℕ) where
     where
       both : row_eq k (values_at key x) ≡ true → row_eq k (values_at key r) ≡ true → ⊥
       both e f = u.0 (tied x r (subst (λ v. row_eq v (values_at key r) ≡ true) (same_row k (values_at key x) e) f))
+
       by : (g s : Bool) → row_eq k (values_at key x) ≡ s → (t : Bool) → row_eq k (values_at key r) ≡ t → row_at k (placed (key_cmp key) x rows) ≡ cond s (Some x) (row_at k rows)
           → row_at k (cond g (r ∷ placed (key_cmp key) x rows) (x ∷ r ∷ rows)) ≡ cond s (Some x) (cond t (Some r) (row_at k rows))
       by true true e true f ih = absurd (both e f)

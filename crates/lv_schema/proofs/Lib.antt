@@ -15,3 +15,4 @@ mod ShopExamples
 mod WorldExamples
 pub mod KeyedRows
 pub mod Replay
+pub mod FirstCommitter

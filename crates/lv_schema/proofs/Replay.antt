@@ -28,10 +28,10 @@ use Rattle.lv_schema.proofs.Apart.{Apart, Untied, all_weaker, all_filter}
 use Rattle.lv_schema.proofs.KeyedRows.{row_at, has_key_at, has_row_at, placed_at, placed_ascends, filter_at, is_at, free_untied, row_flip}
 use Rattle.lv_schema.proofs.NetsLead.{same_row, row_itself, key_total}
 
-abbrev ARow : Type 0
+abbrev pub ARow : Type 0
 ARow = List Value
 
-abbrev key_of : List TableDef → ℕ → List ℕ
+abbrev pub key_of : List TableDef → ℕ → List ℕ
 key_of tables t = (table_at tables t).key
 
 -- what a database has at a place
@@ -99,6 +99,7 @@ module _ (tables : List TableDef) where
       new_rows : (k : ActionKind) → is_possible (rows_of db a.table) (table_at tables a.table) k a.row ≡ true → Ascends (key_cmp (table_at tables a.table).key) (acted_rows (table_at tables a.table).key k a.row (rows_of db a.table))
       new_rows Insert e = placed_ascends (table_at tables a.table).key a.row (rows_of db a.table) (not_true _ e) (keyed.up a.table may.in_use)
       new_rows Delete e = ascends_filter (key_cmp (table_at tables a.table).key) (λ r. not (same_key (table_at tables a.table).key a.row r)) (rows_of db a.table) (keyed.up a.table may.in_use)
+
       each : (t : ℕ) → t < length tables → (t ≡ a.table) ⊎ (t ≡ a.table → ⊥) → Ascends (key_cmp (table_at tables t).key) (rows_of (acted tables db a) t)
       each t lt (inl e) = subst (λ u. Ascends (key_cmp (table_at tables u).key) (rows_of (acted tables db a) u)) (sym e)
           (subst (λ rows. Ascends (key_cmp (table_at tables a.table).key) rows) (sym (get_or-set_same db a.table _ [] (omega (arith, keyed.long, may.in_use)))) (new_rows a.kind may.there))
@@ -116,6 +117,7 @@ module _ (tables : List TableDef) where
           filter_at key p.1 (λ r. not (same_key key a.row r)) (not (row_eq p.1 (values_at key a.row))) (rows_of db a.table)
           (λ r at. ap not (ap (row_eq (values_at key a.row)) (sym (same_row p.1 (values_at key r) at)) ∙ row_flip (values_at key a.row) p.1))
           ∙ flip_not (row_eq p.1 (values_at key a.row)) (row_at key p.1 (rows_of db a.table))
+
       by : (p.0 ≡ a.table) ⊎ (p.0 ≡ a.table → ⊥) → row_at (table_at tables p.0).key p.1 (rows_of (acted tables db a) p.0) ≡ cond ((p.0 == a.table) && row_eq p.1 (values_at (table_at tables a.table).key a.row)) (result_by a.row a.kind) (row_at (table_at tables p.0).key p.1 (rows_of db p.0))
       by (inl e) =
           let set = get_or-set_same db a.table (acted_rows (table_at tables a.table).key a.kind a.row (rows_of db a.table)) [] (omega (arith, keyed.long, may.in_use)) in
@@ -167,11 +169,14 @@ module _ (tables : List TableDef) where
     where
       here : at_place tables db (written_place tables a) ≡ at_place tables other (written_place tables a)
       here = alike (written_place tables a) (ap (λ b. b || writes tables actions (written_place tables a)) (place_itself (written_place tables a)))
+
       there : (k : ActionKind) → is_possible (rows_of db a.table) (table_at tables a.table) k a.row ≡ is_possible (rows_of other a.table) (table_at tables a.table) k a.row
       there Insert = ap not (has_key_at (table_at tables a.table).key a.row (rows_of db a.table) ∙ ap is_some here ∙ sym (has_key_at (table_at tables a.table).key a.row (rows_of other a.table)))
       there Delete = has_row_at (table_at tables a.table).key a.row (rows_of db a.table) (keyed.up a.table may.0.in_use) ∙ ap (is_at (table_at tables a.table).key a.row) here ∙ sym (has_row_at (table_at tables a.table).key a.row (rows_of other a.table) (up.up a.table may.0.in_use))
+
       head : IsPossible tables other a
       head = record { in_use = may.0.in_use; fits = may.0.fits; there = sym (there a.kind) ∙ may.0.there }
+
       tail : (p : Place) → writes tables actions p ≡ true → at_place tables (acted tables db a) p ≡ at_place tables (acted tables other a) p
       tail p w =
           acted_at db a keyed may.0 p

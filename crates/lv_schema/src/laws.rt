@@ -1,5 +1,5 @@
 //! Laws about the definitions: each is the contract of a function that does nothing.
-ghost use Rattle.std.specs.Prelude.{◌≡◌, ℕ, ◌<◌, ◌≤◌, ◌-◌, nat_lt, true, List, [], ◌++◌, map, length};
+ghost use Rattle.std.specs.Prelude.{◌≡◌, ℕ, ◌<◌, ◌≤◌, ◌-◌, nat_lt, true, None, List, [], ◌++◌, map, length};
 ghost use Rattle.std.specs.List.{list_all};
 ghost use Rattle.lv_values.specs.Order.{row_cmp};
 ghost use Rattle.lv_values.specs.Rows.{key_cmp};
@@ -12,11 +12,14 @@ ghost use Rattle.lv_schema.specs.declared.logic.Truth.TheVariants.{Yes};
 ghost use Rattle.lv_schema.specs.declared.table.TableDef.{TableDef};
 ghost use Rattle.lv_schema.specs.declared.view.ViewDef.{ViewDef};
 ghost use Rattle.lv_schema.specs.Bound.{IsProfile};
+ghost use Rattle.lv_schema.specs.Commits.{conflict_of, merged};
 ghost use Rattle.lv_schema.specs.Databases.{Db, rows_of, IsDatabase};
 ghost use Rattle.lv_schema.specs.Differences.{summed_columns, view_difference, groups_of};
+ghost use Rattle.lv_schema.specs.Effects.{acted_all};
 ghost use Rattle.lv_schema.specs.Groups.{view_rows};
 ghost use Rattle.lv_schema.specs.Nets.{nets_of, with_nets};
 ghost use Rattle.lv_schema.specs.Once.{Ascends};
+ghost use Rattle.lv_schema.specs.Sound.{ArePossible, IsOpen, IsVisible};
 ghost use Rattle.lv_schema.specs.SignedRows.{netted};
 ghost use Rattle.lv_schema.specs.Greatest.{Among, IsPlannedStep, IsChain, end_of};
 ghost use Rattle.lv_schema.specs.Truth.{truth, operand_value, compared, opposite, all_of, any_of};
@@ -24,7 +27,7 @@ ghost use Rattle.lv_schema.specs.Tuples.{Tuple};
 ghost use Rattle.lv_schema.specs.Upkeep.{pending, planned_from, forced_from, forced, table_versions, deltas_kept};
 ghost use Rattle.lv_schema.specs.UpkeepCases.{with_steps};
 ghost use Rattle.lv_schema.specs.Versions.{kept_versions, kept_entries};
-ghost use Rattle.lv_schema.specs.World.{Visible, World, last, snap, table_at, view_at, point};
+ghost use Rattle.lv_schema.specs.World.{Open, Visible, World, last, snap, table_at, view_at, point};
 
 /// The truth of a condition, by its kind.
 pub fn truth_goes_by_kind()
@@ -81,4 +84,11 @@ pub fn clean_up_counts_what_it_keeps()
     ensures versions { (s : Visible) (floor table : ℕ) → floor ≤ last s → ((k : ℕ) → k ≤ floor → Ascends (key_cmp (table_at s.tables table).key) (rows_of (snap s k) table))
         → length (kept_versions s floor table) ≡ table_versions s floor table }
     ensures deltas { (s : Visible) (floor : ℕ) → length (kept_entries s floor) ≡ deltas_kept s floor }
+{}
+
+/// The first committer of a key wins: where a transaction has no conflict, its actions may be taken over the last state,
+/// and they lead from there to the merged database.
+pub fn commit_takes_its_actions()
+    ensures { (s : Visible) (o : Open) → IsVisible s → IsOpen s o → conflict_of s o ≡ None
+        → ArePossible s.tables (snap s (last s)) o.actions × (merged s o ≡ acted_all s.tables (snap s (last s)) o.actions) }
 {}
