@@ -1,3 +1,4 @@
 pub mod LegalLaws
 mod Shop
 mod Examples
+pub mod Apart

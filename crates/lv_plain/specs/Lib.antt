@@ -4,3 +4,6 @@ pub mod Events
 pub mod LegalTurns
 pub mod Machine
 pub mod Legal
+pub mod Difference
+pub mod Names
+pub mod Program

@@ -1,11 +1,11 @@
 -- Rows in the order of their keys: what a search finds, and what an insert leaves.
-use Rattle.std.proofs.Common.{◌≡◌, ℕ, zero, suc, ◌+◌, ◌-◌, ◌<◌, ◌≤◌, Bool, true, false, cond, List, [], ◌∷◌, ◌++◌, length, take, drop, get_or, Result, Ok, Err, refl, sym, ap, ◌∙◌, subst, inl, inr, arith, add-one}
+use Rattle.std.proofs.Common.{◌≡◌, ℕ, zero, suc, ◌+◌, ◌-◌, ◌<◌, ◌≤◌, true, false, List, [], ◌∷◌, length, get_or, Result, Ok, Err, refl, sym, subst, inl, inr, arith}
 use Rattle.std.specs.Prelude.{OnOk, OnErr, MatchResult}
-use Rattle.std.specs.List.{insert, list_any, All, HoldsAt, AllWithin}
-use Rattle.std.specs.List.Sorted.{IsStrictlySortedBy, IsBinarySearchResult, IsNonDecreasingBy, IsPartitionPoint, IsSearchInRange}
+use Rattle.std.specs.List.{insert}
+use Rattle.std.specs.List.Sorted.{IsStrictlySortedBy, IsBinarySearchResult, IsNonDecreasingBy, IsSearchInRange}
 use Rattle.std.specs.declared.cmp.Ordering.{Ordering}
-use Rattle.std.specs.declared.cmp.Ordering.TheVariants.{Less, Equal, Greater}
-use Rattle.std.specs.Ordering.{is_eq, is_gt, is_lt, ordering_index, ordering_reverse}
+use Rattle.std.specs.declared.cmp.Ordering.TheVariants.{Less, Greater}
+use Rattle.std.specs.Ordering.{is_eq, is_gt, ordering_index}
 use Rattle.std.specs.Cmp.{IsTotalOrder}
 use Rattle.std.proofs.lemmas.Cmp.{on_total}
 use Rattle.std.proofs.lemmas.Bool.{cases_lt}
@@ -15,7 +15,6 @@ use Rattle.std.proofs.lemmas.List.Edits.{length-insert, get_or-insert_below, get
 use Rattle.std.proofs.lemmas.Map.Keys.{Less-from_sorted, sorted_from_all_adjacent}
 use Rattle.lv_values.specs.declared.value.Value.{Value}
 use Rattle.lv_values.specs.Ascending.{placed}
-use Rattle.lv_values.specs.Order.{row_cmp}
 use Rattle.lv_values.specs.OrderLaws.{row_total}
 use Rattle.lv_values.specs.Rows.{values_at, key_cmp}
 use Rattle.lv_runner.specs.Machine.{has_key}
@@ -51,16 +50,16 @@ module _ {A : Type 0} (R : A → A → Ordering) (o : IsTotalOrder R) (x : A) wh
       elim (cases_lt (k + 1) at) [
         | inl before ↦ rw (get_or-insert_below xs at x d k (omega arith) le, get_or-insert_below xs at x d (k + 1) before le) (Less-from_sorted R xs k (k + 1) d sorted (omega arith) (omega arith))
         | inr after ↦ elim (cases_lt k at) [
-            | inl last ↦ (let e : k + 1 ≡ at = omega arith in
-                rw (get_or-insert_below xs at x d k last le, e, get_or-insert_at xs at x d le) (less k d last))
-            | inr past ↦ elim (cases_lt at k) [
-                | inl further ↦ (let e : k ≡ (k - 1) + 1 = omega arith in
-                    subst (λ (j : ℕ). R (get_or (insert xs at x) j d) (get_or (insert xs at x) (k + 1) d) ≡ Less) (sym e)
-                      (rw (get_or-insert_above xs at x d (k - 1) (omega arith) le, get_or-insert_above xs at x d k past le) (Less-from_sorted R xs (k - 1) k d sorted (omega arith) (omega arith))))
-                | inr here ↦ (let e : k ≡ at = omega arith in
-                    rw (get_or-insert_above xs at x d k past le, e, get_or-insert_at xs at x d le) (below _ (more at d (omega arith) (omega arith))))
-              ]
+          | inl last ↦ (let e : k + 1 ≡ at = omega arith in
+              rw (get_or-insert_below xs at x d k last le, e, get_or-insert_at xs at x d le) (less k d last))
+          | inr past ↦ elim (cases_lt at k) [
+            | inl further ↦ (let e : k ≡ (k - 1) + 1 = omega arith in
+                subst (λ (j : ℕ). R (get_or (insert xs at x) j d) (get_or (insert xs at x) (k + 1) d) ≡ Less) (sym e)
+                (rw (get_or-insert_above xs at x d (k - 1) (omega arith) le, get_or-insert_above xs at x d k past le) (Less-from_sorted R xs (k - 1) k d sorted (omega arith) (omega arith))))
+            | inr here ↦ (let e : k ≡ at = omega arith in
+                rw (get_or-insert_above xs at x d k past le, e, get_or-insert_at xs at x d le) (below _ (more at d (omega arith) (omega arith))))
           ]
+        ]
       ])
 
 module _ (key : List ℕ) (row : Row) (rows : List Row) (sorted : IsStrictlySortedBy (key_cmp key) rows) where
@@ -92,9 +91,9 @@ module _ (key : List ℕ) (row : Row) (rows : List Row) (sorted : IsStrictlySort
       record {
         there = tt;
         apart = list_any_none (λ r. is_eq (key_cmp key r row)) rows (λ k d lt. elim (cases_lt k at) [
-            | inl before ↦ rw (less k d (omega arith) before) refl
-            | inr after ↦ rw (more k d after lt) refl
-          ]);
+          | inl before ↦ rw (less k d (omega arith) before) refl
+          | inr after ↦ rw (more k d after lt) refl
+        ]);
         place = placed_at (key_cmp key) total row rows at le (λ k d lt. less k d (omega arith) lt) (λ d lt. more at d (omega arith) lt);
         order = sorted_insert (key_cmp key) total row rows at row sorted le (λ k d lt. less k d (omega arith) lt) more;
       }

@@ -1,5 +1,5 @@
 -- A loop that reads one after the other: what is still to read gives the same from each turn on.
-use Rattle.std.proofs.Common.{◌≡◌, ℕ, ◌+◌, ◌-◌, ◌≤◌, ◌<◌, suc, true, false, Bool, List, [], ◌∷◌, ◌++◌, length, Option, Some, None, Result, Ok, Err, refl, sym, ap, ◌∙◌, arith}
+use Rattle.std.proofs.Common.{◌≡◌, ℕ, ◌+◌, ◌-◌, ◌≤◌, ◌<◌, suc, true, false, Bool, List, [], ◌∷◌, ◌++◌, length, Some, None, Err, refl, sym, ap, ◌∙◌, arith}
 use Rattle.lv_runner.specs.Reading.{Outcome, Reader, many, many_from, Gives}
 use Rattle.lv_runner.specs.declared.cursor.Stop.{Stop}
 use Rattle.lv_runner.specs.declared.cursor.Stop.TheVariants.{Bad, NoMemory}

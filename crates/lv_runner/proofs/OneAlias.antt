@@ -5,7 +5,7 @@ use Rattle.lv_values.specs.declared.value.Value.{Value}
 use Rattle.lv_schema.specs.declared.cond.Col.{Col}
 use Rattle.lv_schema.specs.declared.cond.Cond.{Cond}
 use Rattle.lv_schema.specs.Truth.{holds}
-use Rattle.lv_schema.specs.Tuples.{Tuple, listed, tuples}
+use Rattle.lv_schema.specs.Tuples.{Tuple, listed}
 use Rattle.lv_schema.specs.JoinViews.{selected}
 
 abbrev kept : Bool → Tuple → List Tuple → List Tuple

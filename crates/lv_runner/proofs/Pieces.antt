@@ -1,5 +1,5 @@
 -- A script by its pieces between line feeds.
-use Rattle.std.proofs.Common.{◌≡◌, ℕ, suc, ◌+◌, ◌-◌, ◌<◌, eqb, Bool, cond, true, false, not, List, [], ◌∷◌, length, take, drop, Option, Some, None, Result, Ok, Err, refl, sym, ap, ◌∙◌, arith}
+use Rattle.std.proofs.Common.{◌≡◌, ℕ, suc, ◌+◌, ◌-◌, ◌<◌, eqb, Bool, cond, true, false, not, List, [], ◌∷◌, length, take, drop, Option, Some, None, Result, Err, refl, sym, ap, ◌∙◌, arith}
 use Rattle.std.specs.List.{slice_split, onto_first, position_or_len}
 use Rattle.std.proofs.lemmas.List.{take_rest}
 use Rattle.std.proofs.lemmas.List.Splits.{slice_split_first}
@@ -32,9 +32,9 @@ pub goes_on : (before next : Part) (at : ℕ) (line bytes rest : List ℕ) (tota
 goes_on before next at line bytes rest total split makes so_far =
     let p = has_piece rest in
     let one : script_from before at (pieces bytes) ≡ unless_broken (with_line before line) at (λ part. script_from part (at + 1) (pieces rest)) =
-        ap (script_from before at) split ∙ on_line before at line p.0 p.1 (pieces rest) p.2 in
+    ap (script_from before at) split ∙ on_line before at line p.0 p.1 (pieces rest) p.2 in
     let two : unless_broken (with_line before line) at (λ part. script_from part (at + 1) (pieces rest)) ≡ script_from next (at + 1) (pieces rest) =
-        ap (λ (o : Option Part). unless_broken o at (λ part. script_from part (at + 1) (pieces rest))) makes in
+    ap (λ (o : Option Part). unless_broken o at (λ part. script_from part (at + 1) (pieces rest))) makes in
     sym two ∙ sym one ∙ so_far
 
 -- a line is refused
@@ -43,9 +43,9 @@ pub breaks : (before : Part) (at : ℕ) (line bytes rest : List ℕ) (total : Re
 breaks before at line bytes rest total split refuses so_far =
     let p = has_piece rest in
     let one : script_from before at (pieces bytes) ≡ unless_broken (with_line before line) at (λ part. script_from part (at + 1) (pieces rest)) =
-        ap (script_from before at) split ∙ on_line before at line p.0 p.1 (pieces rest) p.2 in
+    ap (script_from before at) split ∙ on_line before at line p.0 p.1 (pieces rest) p.2 in
     let two : unless_broken (with_line before line) at (λ part. script_from part (at + 1) (pieces rest)) ≡ Err at =
-        ap (λ (o : Option Part). unless_broken o at (λ part. script_from part (at + 1) (pieces rest))) refuses in
+    ap (λ (o : Option Part). unless_broken o at (λ part. script_from part (at + 1) (pieces rest))) refuses in
     sym so_far ∙ one ∙ two
 
 -- without a line feed there is one piece
@@ -60,5 +60,5 @@ one_piece (x ∷ xs) e = at (eqb x 10) refl e (one_piece xs) where
 pub first_piece : (bytes : List ℕ) (n : ℕ) → n ≡ position_or_len (λ b. eqb b 10) bytes → n < length bytes → pieces bytes ≡ take n bytes ∷ pieces (take (length bytes - (n + 1)) (drop (n + 1) bytes))
 first_piece bytes n e lt =
     let split : pieces bytes ≡ take n bytes ∷ pieces (drop (n + 1) bytes) =
-        rw e (slice_split_first (λ b. eqb b 10) bytes 0 (rw e at lt)) in
+    rw e (slice_split_first (λ b. eqb b 10) bytes 0 (rw e at lt)) in
     split ∙ ap (λ (r : List ℕ). take n bytes ∷ pieces r) (sym (take_rest bytes (n + 1)))

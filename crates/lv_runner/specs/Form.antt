@@ -3,7 +3,6 @@ use Rattle.std.specs.Prelude.{◌≡◌, ℕ, ◌+◌, Bool, true, false, ◌&&�
 use Rattle.std.specs.List.{list_any, slice_split}
 use Rattle.std.specs.Str.{bytes_eq}
 use Rattle.lv_values.specs.declared.value.Value.{Value}
-use Rattle.lv_schema.specs.declared.cond.Col.{Col}
 use Rattle.lv_schema.specs.declared.cond.Cond.TheVariants.{True}
 use Rattle.lv_schema.specs.declared.table.Column.{Column}
 use Rattle.lv_schema.specs.declared.table.Kind.TheVariants.{Int}
@@ -102,7 +101,14 @@ item_at cs p = Plain (record { alias = 0; column = p }) (slice_index_or (map (λ
 -- the view of these columns over the table
 abbrev pub view_of : TableDef → List ℕ → List ℕ → ViewDef
 view_of table view ps = record {
-  no = 0; name = view; created = 0; tables = 0 ∷ []; cond = True; items = map (item_at table.columns) ps; grouped = false; groups = [];
+  no = 0;
+  name = view;
+  created = 0;
+  tables = 0 ∷ [];
+  cond = True;
+  items = map (item_at table.columns) ps;
+  grouped = false;
+  groups = [];
 }
 
 -- create view V as select C2, C1 from T

@@ -8,7 +8,9 @@ ghost use Rattle.lv_runner.specs.Form as forms;
 use crate::cursor::{Cursor, Stop};
 use crate::form::{Form, Statement};
 use crate::words::{name, number, session_name};
-use lv_schema::{Col, Cols, Column, Columns, Cond, Item, Kind, TableDef, TableNumbers, ViewDef, ViewItems};
+use lv_schema::{
+    Col, Cols, Column, Columns, Cond, Item, Kind, TableDef, TableNumbers, ViewDef, ViewItems,
+};
 use lv_values::{Copying, Items, NoMemory, Row, Text, Value};
 use std::alloc::Global;
 
@@ -88,7 +90,9 @@ fn is_first(key: &Text, columns: &[Column]) -> bool
 fn is_table(key: &Text, columns: &Columns) -> bool
     ensures { result ≡ forms.is_table key.now columns.now }
 {
-    is_first(key, columns.as_slice()) && columns.len() <= MOST_COLUMNS && are_distinct(columns.as_slice())
+    is_first(key, columns.as_slice())
+        && columns.len() <= MOST_COLUMNS
+        && are_distinct(columns.as_slice())
 }
 
 /// The table of these columns.
@@ -371,7 +375,11 @@ fn select_line(view: &ViewDef, cursor: &mut Cursor<'_>) -> Result<Statement, Sto
 
 /// Reads a statement of the session.
 #[tactic(auto, unfolding(crate::specs::Form::statement_line))]
-pub(crate) fn statement_line(alloc: Global, form: &Form, cursor: &mut Cursor<'_>) -> Result<Statement, Stop>
+pub(crate) fn statement_line(
+    alloc: Global,
+    form: &Form,
+    cursor: &mut Cursor<'_>,
+) -> Result<Statement, Stop>
     ensures { Gives (forms.statement_line form.now cursor.old) result cursor.new }
 {
     if cursor.sees(b"insert ") {

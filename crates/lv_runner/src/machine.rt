@@ -121,7 +121,12 @@ fn insert_row(alloc: Global, form: &Form, row: &Row, state: &mut State) -> Resul
 
 impl State {
     /// Answers one statement.
-    pub(crate) fn step(&mut self, alloc: Global, form: &Form, statement: &Statement) -> Result<Answer, NoMemory>
+    pub(crate) fn step(
+        &mut self,
+        alloc: Global,
+        form: &Form,
+        statement: &Statement,
+    ) -> Result<Answer, NoMemory>
         requires sorted { IsStrictlySortedBy (key_cmp form.now.table.key) self.old.rows }
         requires room { self.old.commits < 2 ^ 64 - 1 }
         ensures answer { IfOk result (λ a. a ≡ answer_of form.now self.old statement.now) }

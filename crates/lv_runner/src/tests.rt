@@ -88,8 +88,16 @@ const OUTSIDE: [(usize, &str, u64); 22] = [
     (1, "@setup\r\n", 1),
     (2, "", 2),
     (2, "create table key (id int, primary key (id))\n", 2),
-    (2, "create table item (id int, price int, primary key (price))\n", 2),
-    (2, "create table item (id int, id int, primary key (id))\n", 2),
+    (
+        2,
+        "create table item (id int, price int, primary key (price))\n",
+        2,
+    ),
+    (
+        2,
+        "create table item (id int, id int, primary key (id))\n",
+        2,
+    ),
     (2, "create table item (primary key (id))\n", 2),
     (3, "create view cheap as select price from item\n", 3),
     (3, "create view item as select price, id from item\n", 3),
@@ -172,7 +180,13 @@ fn a_thousand_statements(rt: HostRuntime) -> Result<(), Fail> {
     assert!(rt; sink.written().ends_with(b"a 999 rows 0\na 1000 rows 0\n"));
     script.extend_from_slice(b"select * from cheap\n")?;
     let (status, _) = run_on(&rt, script.as_slice(), &[], &[])?;
-    assert_eq!(rt; status, Status::Script { line: 1005, kind: 0 });
+    assert_eq!(rt;
+        status,
+        Status::Script {
+            line: 1005,
+            kind: 0
+        }
+    );
     Ok(())
 }
 

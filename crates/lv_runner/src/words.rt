@@ -11,16 +11,52 @@ use std::alloc::Global;
 
 /// The words of SQL that are no names.
 const KEYWORDS: [&[u8]; 40] = [
-    b"and", b"as", b"asc", b"begin", b"by", b"commit", b"count", b"create", b"delete", b"desc", b"drop", b"from",
-    b"group", b"inner", b"insert", b"int", b"into", b"is", b"join", b"key", b"max", b"min", b"not", b"null", b"on",
-    b"or", b"order", b"primary", b"rollback", b"select", b"set", b"show", b"sum", b"table", b"tasks", b"text",
-    b"update", b"values", b"view", b"where",
+    b"and",
+    b"as",
+    b"asc",
+    b"begin",
+    b"by",
+    b"commit",
+    b"count",
+    b"create",
+    b"delete",
+    b"desc",
+    b"drop",
+    b"from",
+    b"group",
+    b"inner",
+    b"insert",
+    b"int",
+    b"into",
+    b"is",
+    b"join",
+    b"key",
+    b"max",
+    b"min",
+    b"not",
+    b"null",
+    b"on",
+    b"or",
+    b"order",
+    b"primary",
+    b"rollback",
+    b"select",
+    b"set",
+    b"show",
+    b"sum",
+    b"table",
+    b"tasks",
+    b"text",
+    b"update",
+    b"values",
+    b"view",
+    b"where",
 ];
 
 /// The words that are no names of sessions.
 const RESERVED: [&[u8]; 15] = [
-    b"setup", b"fetch", b"install", b"work", b"mark", b"clean", b"force", b"w1", b"w2", b"w3", b"w4", b"w5", b"w6",
-    b"w7", b"w8",
+    b"setup", b"fetch", b"install", b"work", b"mark", b"clean", b"force", b"w1", b"w2", b"w3",
+    b"w4", b"w5", b"w6", b"w7", b"w8",
 ];
 
 fn is_same(a: &[u8], b: &[u8]) -> bool

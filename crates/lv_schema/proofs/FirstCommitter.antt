@@ -2,7 +2,8 @@
 use Rattle.std.proofs.Common.{◌≡◌, ℕ, zero, suc, ◌+◌, ◌-◌, ◌<◌, ◌≤◌, Bool, true, false, cond, not, ◌&&◌, ◌||◌, List, [], ◌∷◌, ◌++◌, map, length, get_or, Option, Some, None, refl, sym, ap, ap₂, ◌∙◌, subst, arith}
 use Rattle.std.specs.Prelude.{◌==◌, nat_lt, is_some, slice_get, option_map, ◌⊎◌}
 use Rattle.std.specs.List.{filter, filter_map, cons_option, list_any, range_with_len, last_or, AllByRecursion}
-use Rattle.std.specs.Ordering.{is_eq, is_gt}
+use Rattle.std.specs.Ordering.{is_gt, ordering_reverse}
+use Rattle.std.proofs.lemmas.Cmp.{tied_itself}
 use Rattle.std.specs.declared.cmp.Ordering.{Ordering}
 use Rattle.std.specs.declared.cmp.Ordering.TheVariants.{Less, Equal, Greater}
 use Rattle.std.proofs.lemmas.Bool.Decides.{nat_tests}
@@ -11,24 +12,24 @@ use mathlib.Core.Logic.{inl, inr}
 use Rattle.lv_values.specs.declared.value.Value.{Value}
 use Rattle.lv_values.specs.Ascending.{placed, ascending}
 use Rattle.lv_values.specs.Order.{row_cmp, row_eq}
-use Rattle.lv_values.specs.OrderLaws.{row_exact}
+use Rattle.lv_values.specs.OrderLaws.{row_total, row_exact}
 use Rattle.lv_values.specs.Rows.{values_at, key_cmp}
 use Rattle.lv_schema.specs.declared.action.Action.{Action}
 use Rattle.lv_schema.specs.declared.fault.Fault.{Fault}
 use Rattle.lv_schema.specs.declared.fault.Fault.TheVariants.{Conflict}
 use Rattle.lv_schema.specs.declared.table.TableDef.{TableDef}
-use Rattle.lv_schema.specs.Commits.{Place, place_cmp, same_place, written_place, writes, last_writer, place_conflict, conflict_of, merged_rows, merged_table, merged}
+use Rattle.lv_schema.specs.Commits.{Place, place_cmp, same_place, written_place, writes, last_writer, place_conflict, conflict_of, with_rows, merged_table, merged}
 use Rattle.lv_schema.specs.Databases.{Db, rows_of}
 use Rattle.lv_schema.specs.Effects.{acted_all}
 use Rattle.lv_schema.specs.Greatest.{Among}
 use Rattle.lv_schema.specs.Once.{Ascends}
 use Rattle.lv_schema.specs.Sound.{ArePossible, IsOpen, IsVisible}
 use Rattle.lv_schema.specs.World.{Open, Visible, last, snap, commit_at, numbers, table_at}
-use Rattle.lv_schema.proofs.Apart.{Apart, Untied, all_weaker, all_filter, all_true, apart_filter, apart_append, ascends_ascending, ascends_apart}
-use Rattle.lv_schema.proofs.KeyedRows.{row_at, only_table, filter_at, append_at, ascending_at}
+use Rattle.lv_schema.proofs.Apart.{Apart, Untied, all_weaker, ascends_placed, ascends_apart}
+use Rattle.lv_schema.proofs.KeyedRows.{row_at, only_table, filter_at, placed_at}
 use Rattle.lv_schema.proofs.NetsLead.{same_row, key_total}
 use Rattle.lv_schema.proofs.Numbers.{Each, among_numbers, among_each, filter_each}
-use Rattle.lv_schema.proofs.Replay.{ARow, key_of, at_place, carried, IsKeyed, keyed_database, all_up, all_at, carried_unwritten, possible_alike}
+use Rattle.lv_schema.proofs.Replay.{ARow, ascends_filter, key_of, at_place, carried, IsKeyed, keyed_database, all_up, all_at, carried_unwritten, possible_alike}
 
 -- ---- no commit above the snapshot writes a key that the transaction writes
 none_last : {X : Type 0} (o : Option X) (xs : List X) → last_or o xs ≡ None → xs ≡ []
@@ -154,17 +155,17 @@ module _ (s : Visible) (sound : IsVisible s) where
   cond_same None = refl
   cond_same (Some r) = refl
 
-  choose : (w : Bool) (own others : Option ARow) → cond (is_some (cond (not w) others None)) (cond (not w) others None) (cond w own None) ≡ cond w own others
-  choose true own others = refl
-  choose false own others = cond_same others
+  choose : (w : Bool) (own others : Option ARow) → cond (is_some (cond w own None)) (cond w own None) (cond (not w) others None) ≡ cond w own others
+  choose true own others = cond_same own
+  choose false own others = refl
 
-  merged_apart : (key : List ℕ) (is_written : ARow → Bool) → ((a b : ARow) → values_at key a ≡ values_at key b → is_written a ≡ is_written b) → (own others : List ARow) → Ascends (key_cmp key) own → Ascends (key_cmp key) others
-      → Apart (Untied (key_total key)) (filter (λ row. not (is_written row)) others ++ filter is_written own)
-  merged_apart key is_written by_key own others a b =
-      apart_append (Untied (key_total key)) (filter (λ row. not (is_written row)) others) (filter is_written own)
-      (apart_filter (Untied (key_total key)) (λ row. not (is_written row)) others (ascends_apart (key_total key) others b))
-      (apart_filter (Untied (key_total key)) is_written own (ascends_apart (key_total key) own a))
-      (all_weaker (λ r. not (is_written r) ≡ true) (λ r. AllByRecursion (Untied (key_total key) r) (filter is_written own)) (λ r n. all_weaker (λ q. is_written q ≡ true) (Untied (key_total key) r) (λ q w. untied r n q w) (filter is_written own) (passes is_written own)) (filter (λ row. not (is_written row)) others) (passes (λ row. not (is_written row)) others))
+  -- the rows of keys that are written are untied with the rows of the others
+  across : (key : List ℕ) (is_written : ARow → Bool) → ((a b : ARow) → values_at key a ≡ values_at key b → is_written a ≡ is_written b) → (own others : List ARow)
+      → AllByRecursion (λ q. AllByRecursion (Untied (key_total key) q) (filter (λ row. not (is_written row)) others)) (filter is_written own)
+  across key is_written by_key own others =
+      all_weaker (λ q. is_written q ≡ true) (λ q. AllByRecursion (Untied (key_total key) q) (filter (λ row. not (is_written row)) others))
+      (λ q w. all_weaker (λ r. not (is_written r) ≡ true) (Untied (key_total key) q) (λ r n. untied q w r n) (filter (λ row. not (is_written row)) others) (passes (λ row. not (is_written row)) others))
+      (filter is_written own) (passes is_written own)
     where
       passes : (p : ARow → Bool) (xs : List ARow) → AllByRecursion (λ x. p x ≡ true) (filter p xs)
       passes p [] = tt
@@ -184,8 +185,55 @@ module _ (s : Visible) (sound : IsVisible s) where
           false_true : false ≡ true → ⊥
           false_true h = cc
 
-      untied : (r : ARow) → not (is_written r) ≡ true → (q : ARow) → is_written q ≡ true → Untied (key_total key) r q
-      untied r n q w tie = both (is_written r) n (by_key r q (row_exact (values_at key r) (values_at key q) tie) ∙ w)
+      untied : (q : ARow) → is_written q ≡ true → (r : ARow) → not (is_written r) ≡ true → Untied (key_total key) q r
+      untied q w r n tie = both (is_written r) n (sym (by_key q r (row_exact (values_at key q) (values_at key r) tie)) ∙ w)
+
+  -- a filter of rows whose keys rise
+  up_filter : (key : List ℕ) (p : ARow → Bool) (rows : List ARow) → Ascends (key_cmp key) rows → Ascends (key_cmp key) (filter p rows)
+  up_filter key p rows a = ascends_filter (key_cmp key) p rows a
+
+  -- a row is untied with those that were placed
+  placed_all : (key : List ℕ) (P : ARow → Type 0) (x : ARow) (ys : List ARow) → P x → AllByRecursion P ys → AllByRecursion P (placed (key_cmp key) x ys)
+  placed_all key P x [] a b = (a, tt)
+  placed_all key P x (y ∷ ys) a b = by (is_gt (key_cmp key x y)) (placed_all key P x ys a b.1)
+    where
+      by : (t : Bool) → AllByRecursion P (placed (key_cmp key) x ys) → AllByRecursion P (cond t (y ∷ placed (key_cmp key) x ys) (x ∷ y ∷ ys))
+      by true r = (b.0, r)
+      by false r = (a, b)
+
+  untied_back : (key : List ℕ) (a b : ARow) → Untied (key_total key) a b → Untied (key_total key) b a
+  untied_back key a b u e = u ((key_total key).antisymm a b ∙ ap ordering_reverse e)
+
+  among : (key : List ℕ) (r : ARow) (own others : List ARow) → AllByRecursion (Untied (key_total key) r) own → AllByRecursion (λ q. AllByRecursion (Untied (key_total key) q) others) own
+      → AllByRecursion (λ q. AllByRecursion (Untied (key_total key) q) (placed (key_cmp key) r others)) own
+  among key r [] others a b = tt
+  among key r (q ∷ own) others a b = (placed_all key (Untied (key_total key) q) r others (untied_back key r q a.0) b.0, among key r own others a.1 b.1)
+
+  -- rows put among others one by one
+  with_rows_up : (key : List ℕ) (own others : List ARow) → Apart (Untied (key_total key)) own → AllByRecursion (λ r. AllByRecursion (Untied (key_total key) r) others) own → Ascends (key_cmp key) others → Ascends (key_cmp key) (with_rows key own others)
+  with_rows_up key [] others a b up = up
+  with_rows_up key (r ∷ own) others a b up =
+      with_rows_up key own (placed (key_cmp key) r others) a.1 (among key r own others a.0 b.1) (ascends_placed (key_total key) r others b.0 up)
+
+  with_rows_at : (key : List ℕ) (k : ARow) (own others : List ARow) → Apart (Untied (key_total key)) own → AllByRecursion (λ r. AllByRecursion (Untied (key_total key) r) others) own
+      → row_at key k (with_rows key own others) ≡ cond (is_some (row_at key k own)) (row_at key k own) (row_at key k others)
+  with_rows_at key k [] others a b = refl
+  with_rows_at key k (r ∷ own) others a b =
+      with_rows_at key k own (placed (key_cmp key) r others) a.1 (among key r own others a.0 b.1)
+      ∙ ap (cond (is_some (row_at key k own)) (row_at key k own)) (placed_at key k r others b.0)
+      ∙ by (row_eq k (values_at key r)) refl
+    where
+      alone : (own : List ARow) → AllByRecursion (Untied (key_total key) r) own → row_eq k (values_at key r) ≡ true → row_at key k own ≡ None
+      alone [] u e = refl
+      alone (q ∷ own) u e = at (row_eq k (values_at key q)) refl (alone own u.1 e)
+        where
+          at : (t : Bool) → row_eq k (values_at key q) ≡ t → row_at key k own ≡ None → cond t (Some q) (row_at key k own) ≡ None
+          at true f ih = absurd (u.0 (let same : values_at key r ≡ values_at key q = sym (same_row k (values_at key r) e) ∙ same_row k (values_at key q) f in subst (λ v. row_cmp (values_at key r) v ≡ Equal) same (tied_itself row_total (values_at key r))))
+          at false f ih = ih
+
+      by : (t : Bool) → row_eq k (values_at key r) ≡ t → cond (is_some (row_at key k own)) (row_at key k own) (cond t (Some r) (row_at key k others)) ≡ cond (is_some (cond t (Some r) (row_at key k own))) (cond t (Some r) (row_at key k own)) (row_at key k others)
+      by true e = (λ i. cond (is_some (alone own a.0 e i)) (alone own a.0 e i) (Some r))
+      by false e = refl
 
   table_at_key : (o : Open) (t : ℕ) (k : ARow) → Ascends (key_cmp (key_of s.tables t)) (rows_of o.own t) → Ascends (key_cmp (key_of s.tables t)) (rows_of (snap s (last s)) t)
       → row_at (key_of s.tables t) k (merged_table s o t) ≡ cond (writes s.tables o.actions (t, k)) (row_at (key_of s.tables t) k (rows_of o.own t)) (row_at (key_of s.tables t) k (rows_of (snap s (last s)) t))
@@ -194,11 +242,12 @@ module _ (s : Visible) (sound : IsVisible s) where
       let is_written : ARow → Bool = λ row. writes s.tables o.actions (t, values_at key row) in
       let w = writes s.tables o.actions (t, k) in
       let same : (r : ARow) → row_eq k (values_at key r) ≡ true → is_written r ≡ w = λ r e. ap (λ v. writes s.tables o.actions (t, v)) (sym (same_row k (values_at key r) e)) in
-      ascending_at key k (filter (λ row. not (is_written row)) (rows_of (snap s (last s)) t) ++ filter is_written (rows_of o.own t)) (merged_apart key is_written (λ a b e. ap (λ v. writes s.tables o.actions (t, v)) e) (rows_of o.own t) (rows_of (snap s (last s)) t) own others)
-      ∙ append_at key k (filter (λ row. not (is_written row)) (rows_of (snap s (last s)) t)) (filter is_written (rows_of o.own t))
+      with_rows_at key k (filter is_written (rows_of o.own t)) (filter (λ row. not (is_written row)) (rows_of (snap s (last s)) t))
+      (ascends_apart (key_total key) (filter is_written (rows_of o.own t)) (up_filter key is_written (rows_of o.own t) own))
+      (across key is_written (λ a b e. ap (λ v. writes s.tables o.actions (t, v)) e) (rows_of o.own t) (rows_of (snap s (last s)) t))
       ∙ ap₂ (λ x y. cond (is_some x) x y)
-      (filter_at key k (λ row. not (is_written row)) (not w) (rows_of (snap s (last s)) t) (λ r e. ap not (same r e)))
       (filter_at key k is_written w (rows_of o.own t) same)
+      (filter_at key k (λ row. not (is_written row)) (not w) (rows_of (snap s (last s)) t) (λ r e. ap not (same r e)))
       ∙ choose w (row_at key k (rows_of o.own t)) (row_at key k (rows_of (snap s (last s)) t))
 
   -- ---- both databases have the same rows at each key
@@ -252,9 +301,13 @@ module _ (s : Visible) (sound : IsVisible s) where
       replay_keyed = all_up s.tables (snap s (last s)) o.actions (snap_keyed (last s) (omega arith)) (possible_now o live e)
 
       merged_up : (t : ℕ) → t < length s.tables → Ascends (key_cmp (key_of s.tables t)) (merged_table s o t)
-      merged_up t lt = ascends_ascending (key_total (key_of s.tables t)) _
-          (merged_apart (key_of s.tables t) (λ row. writes s.tables o.actions (t, values_at (key_of s.tables t) row)) (λ a b h. ap (λ v. writes s.tables o.actions (t, v)) h) (rows_of o.own t) (rows_of (snap s (last s)) t)
-          ((own_keyed o live).up t lt) ((snap_keyed (last s) (omega arith)).up t lt))
+      merged_up t lt =
+          let key = key_of s.tables t in
+          let is_written : ARow → Bool = λ row. writes s.tables o.actions (t, values_at key row) in
+          with_rows_up key (filter is_written (rows_of o.own t)) (filter (λ row. not (is_written row)) (rows_of (snap s (last s)) t))
+          (ascends_apart (key_total key) (filter is_written (rows_of o.own t)) (up_filter key is_written (rows_of o.own t) ((own_keyed o live).up t lt)))
+          (across key is_written (λ a b e. ap (λ v. writes s.tables o.actions (t, v)) e) (rows_of o.own t) (rows_of (snap s (last s)) t))
+          (up_filter key (λ row. not (is_written row)) (rows_of (snap s (last s)) t) ((snap_keyed (last s) (omega arith)).up t lt))
 
       table : (t : ℕ) → t < length s.tables → rows_of (merged s o) t ≡ rows_of (acted_all s.tables (snap s (last s)) o.actions) t
       table t lt =

@@ -75,7 +75,7 @@ keyed_database (def ∷ defs) (rows ∷ db) d = let rest = keyed_database defs d
     each rest zero lt = d.0.keyed
     each rest (suc t) lt = rest.up t (omega arith)
 
-ascends_filter : {K : Type 0} (R : K → K → Ordering) (p : K → Bool) (xs : List K) → Ascends R xs → Ascends R (filter p xs)
+pub ascends_filter : {K : Type 0} (R : K → K → Ordering) (p : K → Bool) (xs : List K) → Ascends R xs → Ascends R (filter p xs)
 ascends_filter R p [] a = tt
 ascends_filter R p (x ∷ xs) a = by (p x) (ascends_filter R p xs a.1)
   where

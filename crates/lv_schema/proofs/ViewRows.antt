@@ -19,7 +19,8 @@ use Rattle.lv_schema.specs.declared.table.TableDef.{TableDef}
 use Rattle.lv_schema.specs.declared.view.Item.{Item}
 use Rattle.lv_schema.specs.declared.view.Item.TheVariants.{Plain, Sum, Count}
 use Rattle.lv_schema.specs.declared.view.ViewDef.{ViewDef}
-use Rattle.lv_schema.specs.Bound.{same_col, has_col, key_cols, all_key_cols, IsGroupList, IsPlainList, IsProfile}
+use Rattle.lv_schema.specs.Bound.{same_col}
+use Rattle.lv_schema.proofs.ViewLists.{has_col, key_cols, all_key_cols, IsGroupList, IsPlainList, IsProfile}
 use Rattle.lv_schema.specs.Databases.{Db, rows_of, IsTable, IsDatabase}
 use Rattle.lv_schema.specs.Groups.{members, item_value, group_row, grouped_rows, view_rows_over, view_rows}
 use Rattle.lv_schema.specs.JoinViews.{parts_of, selected, plain_column, plain_columns, join_rows}

@@ -4,7 +4,7 @@ use Rattle.std.specs.List.{list_any, filter_map, range_with_len, last_or}
 use Rattle.std.specs.Ordering.{nat_cmp, ordering_then}
 use Rattle.std.specs.declared.cmp.Ordering.{Ordering}
 use Rattle.lv_values.specs.declared.value.Value.{Value}
-use Rattle.lv_values.specs.Ascending.{ascending}
+use Rattle.lv_values.specs.Ascending.{ascending, placed}
 use Rattle.lv_values.specs.Order.{row_cmp, row_eq}
 use Rattle.lv_values.specs.Rows.{values_at, key_cmp}
 use Rattle.lv_schema.specs.declared.action.Action.{Action}
@@ -43,9 +43,14 @@ place_conflict s o at = option_map (Conflict at.0 at.1) (last_writer s o.snapsho
 abbrev pub conflict_of : Visible → Open → Option Fault
 conflict_of s o = slice_get (filter_map (place_conflict s o) (ascending place_cmp (map (written_place s.tables) o.actions))) 0
 
--- a table's rows where the keys written are as the transaction has them, in the order of the keys
+-- rows, and these put among them in the order of the keys
+abbrev pub with_rows : List ℕ → List (List Value) → List (List Value) → List (List Value)
+with_rows key [] rows = rows
+with_rows key (row ∷ more) rows = with_rows key more (placed (key_cmp key) row rows)
+
+-- a table's rows, where the keys written are as the transaction has them
 abbrev pub merged_rows : List ℕ → (List Value → Bool) → List (List Value) → List (List Value) → List (List Value)
-merged_rows key is_written own others = ascending (key_cmp key) (filter (λ row. not (is_written row)) others ++ filter is_written own)
+merged_rows key is_written own others = with_rows key (filter is_written own) (filter (λ row. not (is_written row)) others)
 
 abbrev pub merged_table : Visible → Open → ℕ → List (List Value)
 merged_table s o table =

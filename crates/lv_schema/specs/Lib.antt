@@ -1,3 +1,6 @@
+pub mod Bound
+pub mod Catalog
+pub mod Names
 pub mod Tuples
 pub mod Truth
 pub mod Seen
@@ -17,8 +20,6 @@ pub mod Commits
 pub mod Cases
 pub mod Upkeep
 pub mod UpkeepCases
-pub mod Names
-pub mod Bound
 pub mod Greatest
 pub mod Versions
 pub mod Sound

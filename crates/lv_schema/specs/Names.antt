@@ -1,40 +1,38 @@
--- Names of tables, views, columns and list items, in lower case.
-use Rattle.std.specs.Prelude.{ℕ, Bool, false, not, ◌&&◌, ◌||◌, ◌==◌, nat_le, List, [], ◌∷◌, length, map, codes}
-use Rattle.std.specs.Char.{is_ascii_lowercase, is_ascii_digit}
+-- Names: of tables, views, columns and sessions.
+use Rattle.std.specs.Prelude.{ℕ, Bool, false, not, ◌&&◌, ◌||◌, ◌==◌, nat_le, List, [], ◌∷◌, length, codes}
 use Rattle.std.specs.List.{list_all, list_any}
+use Rattle.std.specs.Char.{is_ascii_lowercase, is_ascii_digit}
 use Rattle.std.specs.Str.{bytes_eq}
-use Rattle.lv_schema.specs.declared.table.TableDef.{TableDef}
-use Rattle.lv_schema.specs.declared.view.ViewDef.{ViewDef}
 
-abbrev pub begins_name : ℕ → Bool
-begins_name b = is_ascii_lowercase b || (b == 95)
-
-abbrev pub continues_name : ℕ → Bool
-continues_name b = begins_name b || is_ascii_digit b
-
--- a letter or _ and then letters, digits and _, in lower case, of at most 32 bytes
-abbrev pub is_lower_name : List ℕ → Bool
-is_lower_name [] = false
-is_lower_name (b ∷ bytes) = begins_name b && list_all continues_name bytes && nat_le (length bytes) 31
-
--- the words of the language, which are no names
+-- the words that the grammar keeps for itself
 abbrev pub keywords : List (List ℕ)
 keywords =
     codes "and" ∷ codes "as" ∷ codes "asc" ∷ codes "begin" ∷ codes "by" ∷ codes "commit" ∷ codes "count" ∷ codes "create"
-    ∷ codes "delete" ∷ codes "desc" ∷ codes "drop" ∷ codes "from" ∷ codes "group" ∷ codes "inner" ∷ codes "insert"
-    ∷ codes "int" ∷ codes "into" ∷ codes "is" ∷ codes "join" ∷ codes "key" ∷ codes "max" ∷ codes "min" ∷ codes "not"
-    ∷ codes "null" ∷ codes "on" ∷ codes "or" ∷ codes "order" ∷ codes "primary" ∷ codes "rollback" ∷ codes "select"
-    ∷ codes "set" ∷ codes "show" ∷ codes "sum" ∷ codes "table" ∷ codes "tasks" ∷ codes "text" ∷ codes "update"
-    ∷ codes "values" ∷ codes "view" ∷ codes "where" ∷ []
+    ∷ codes "delete" ∷ codes "desc" ∷ codes "drop" ∷ codes "from" ∷ codes "group" ∷ codes "inner" ∷ codes "insert" ∷ codes "int"
+    ∷ codes "into" ∷ codes "is" ∷ codes "join" ∷ codes "key" ∷ codes "max" ∷ codes "min" ∷ codes "not" ∷ codes "null"
+    ∷ codes "on" ∷ codes "or" ∷ codes "order" ∷ codes "primary" ∷ codes "rollback" ∷ codes "select" ∷ codes "set" ∷ codes "show"
+    ∷ codes "sum" ∷ codes "table" ∷ codes "tasks" ∷ codes "text" ∷ codes "update" ∷ codes "values" ∷ codes "view" ∷ codes "where" ∷ []
 
--- whether a name is among names
-abbrev pub has_name : List ℕ → List (List ℕ) → Bool
-has_name name names = list_any (bytes_eq name) names
+-- a lower-case letter or _
+abbrev pub begins_word : ℕ → Bool
+begins_word b = is_ascii_lowercase b || (b == 95)
 
--- what a table, a view, a column or a list item may be called
+-- a lower-case letter, a digit or _
+abbrev pub continues_word : ℕ → Bool
+continues_word b = begins_word b || is_ascii_digit b
+
+-- a letter or _ and then letters, digits and _, in lower case
+abbrev pub is_word : List ℕ → Bool
+is_word [] = false
+is_word (b ∷ bytes) = begins_word b && list_all continues_word bytes
+
+unfoldable pub is_keyword : List ℕ → Bool
+is_keyword word = list_any (bytes_eq word) keywords
+
+-- a word that is no keyword, of at most 32 bytes
 abbrev pub is_name : List ℕ → Bool
-is_name name = is_lower_name name && not (has_name name keywords)
+is_name word = is_word word && (not (is_keyword word) && nat_le (length word) 32)
 
--- whether no table or view has the name
-abbrev pub is_free : List TableDef → List ViewDef → List ℕ → Bool
-is_free tables views name = not (has_name name (map (λ t. t.name) tables)) && not (has_name name (map (λ v. v.name) views))
+-- a word of at most 32 bytes, as sessions have; it may be a keyword
+abbrev pub is_lower_name : List ℕ → Bool
+is_lower_name word = is_word word && nat_le (length word) 32

@@ -8,7 +8,7 @@ use Rattle.lv_schema.specs.declared.action.ActionKind.TheVariants.{Insert, Delet
 use Rattle.lv_schema.specs.declared.forced.Forced.{Forced}
 use Rattle.lv_schema.specs.declared.table.TableDef.{TableDef}
 use Rattle.lv_schema.specs.declared.view.ViewDef.{ViewDef}
-use Rattle.lv_schema.specs.Bound.{IsProfile}
+use Rattle.lv_schema.specs.Bound.{sources_of, IsViewDef}
 use Rattle.lv_schema.specs.Databases.{Db, rows_of, row_fits, IsDatabase}
 use Rattle.lv_schema.specs.Effects.{has_key, acted, acted_all}
 use Rattle.lv_schema.specs.Greatest.{IsLive}
@@ -42,11 +42,11 @@ abbrev pub IsOpenOrNone : Visible → Option Open → Type 0
 IsOpenOrNone s None = Unit {0}
 IsOpenOrNone s (Some o) = IsOpen s o
 
--- a view was created at a commit, over tables in use, within the profile of views
+-- a view was created at a commit, over tables in use
 pub record IsView (s : Visible) (view : ViewDef) : Type 0 where
   pub created : view.created ≤ last s
   pub in_use : list_all (λ t. nat_lt t (length s.tables)) view.tables ≡ true
-  pub profile : IsProfile s.tables view view.grouped
+  pub formed : IsViewDef (sources_of s.tables view) view
 
 -- what statements see: each state fits the tables, and each commit's actions lead from the state before to the one after
 pub record IsVisible (s : Visible) : Type 0 where

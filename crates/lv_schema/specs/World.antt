@@ -1,20 +1,13 @@
 -- The plain world: what statements see, and beside it what maintenance sees. It keeps every snapshot whole. A
 -- statement's case is a function of what statements see alone, so no answer can depend on maintenance.
-use Rattle.std.specs.Prelude.{ℕ, zero, suc, false, Option, Some, None, List, [], ◌∷◌, ◌++◌, length, slice_index, slice_index_or, replicate, unwrap_or}
+use Rattle.std.specs.Prelude.{ℕ, zero, suc, Option, Some, None, List, [], ◌∷◌, ◌++◌, length, slice_index, slice_index_or, replicate, unwrap_or}
 use Rattle.lv_schema.specs.declared.action.Action.{Action}
-use Rattle.lv_schema.specs.declared.cond.Cond.TheVariants.{True}
 use Rattle.lv_schema.specs.declared.forced.Forced.{Forced}
+pub use Rattle.lv_schema.specs.declared.open.Open.{Open}
 use Rattle.lv_schema.specs.declared.table.TableDef.{TableDef}
 use Rattle.lv_schema.specs.declared.view.ViewDef.{ViewDef}
+pub use Rattle.lv_schema.specs.Catalog.{table_at, view_at}
 use Rattle.lv_schema.specs.Databases.{Db}
-
--- a live transaction: the commit whose state it reads, its own database, its actions in order, and how many of its
--- changes were accepted
-pub record Open : Type 0 where
-  pub snapshot : ℕ
-  pub own : Db
-  pub actions : List Action
-  pub changes : ℕ
 
 -- what statements see: the schema; the whole database after each commit, the empty one first; the actions of each
 -- commit; and for each session its transaction, if it has one
@@ -66,19 +59,6 @@ snap s k = slice_index_or s.snaps k []
 abbrev pub commit_at : List (List Action) → ℕ → List Action
 commit_at commits zero = []
 commit_at commits (suc k) = slice_index_or commits k []
-
-abbrev pub no_table : TableDef
-no_table = record { no = 0; name = []; columns = []; key = [] }
-
-abbrev pub no_view : ViewDef
-no_view = record { no = 0; name = []; created = 0; tables = []; cond = True; items = []; grouped = false; groups = [] }
-
--- the table and the view with this number
-abbrev pub table_at : List TableDef → ℕ → TableDef
-table_at tables t = slice_index_or tables t no_table
-
-abbrev pub view_at : List ViewDef → ℕ → ViewDef
-view_at views v = slice_index_or views v no_view
 
 -- the snapshots of the live transactions
 abbrev pub live : List (Option Open) → List ℕ

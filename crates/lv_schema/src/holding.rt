@@ -5,15 +5,16 @@ ghost use Rattle.lv_schema.specs.Tuples.{value_at, listed};
 
 use crate::cond::{Col, Cond, Op, Operand};
 use crate::logic::Truth;
+use crate::tuple::HasRows;
 use lv_values::{Copying, NoMemory, Row, Value};
 use std::alloc::Global;
 use std::cmp::Ordering;
 
 /// A copy of the value in a column of an alias, the number 0 where there is none.
-pub fn value_at(alloc: Global, rows: &[Row], col: Col) -> Result<Value, NoMemory>
-    ensures { IfOk result (λ v. v ≡ value_at rows.now col) }
+pub fn value_at<T: HasRows + Copy>(alloc: Global, rows: T, col: Col) -> Result<Value, NoMemory>
+    ensures { IfOk result (λ v. v ≡ value_at (T.rows rows) col) }
 {
-    match rows.get(col.alias as usize) {
+    match rows.row(col.alias as usize) {
         None => Ok(Value::Num(0)),
         Some(row) => match row.as_slice().get(col.column as usize) {
             None => Ok(Value::Num(0)),
@@ -23,8 +24,8 @@ pub fn value_at(alloc: Global, rows: &[Row], col: Col) -> Result<Value, NoMemory
 }
 
 /// Copies of the values of these columns, as a row. Cost: linear in the copied values.
-pub fn listed(alloc: Global, rows: &[Row], cols: &[Col]) -> Result<Row, NoMemory>
-    ensures { IfOk result (λ row. row ≡ listed cols.now rows.now) }
+pub fn listed<T: HasRows + Copy>(alloc: Global, rows: T, cols: &[Col]) -> Result<Row, NoMemory>
+    ensures { IfOk result (λ row. row ≡ listed cols.now (T.rows rows)) }
 {
     let mut row = Row::new(alloc);
     for col in cols {
@@ -68,10 +69,10 @@ impl<'a> Seen<'a> {
         }
     }
 
-    fn at(rows: &'a [Row], col: Col) -> Seen<'a>
-        ensures { value_seen result ≡ value_at rows.now col }
+    fn at<T: HasRows>(rows: &'a T, col: Col) -> Seen<'a>
+        ensures { value_seen result ≡ value_at (T.rows rows.now) col }
     {
-        match rows.get(col.alias as usize) {
+        match rows.row(col.alias as usize) {
             None => Seen::Number(0),
             Some(row) => match row.as_slice().get(col.column as usize) {
                 None => Seen::Number(0),
@@ -80,8 +81,8 @@ impl<'a> Seen<'a> {
         }
     }
 
-    fn of(operand: &'a Operand, rows: &'a [Row]) -> Seen<'a>
-        ensures { value_seen result ≡ operand_value rows.now operand.now }
+    fn of<T: HasRows>(operand: &'a Operand, rows: &'a T) -> Seen<'a>
+        ensures { value_seen result ≡ operand_value (T.rows rows.now) operand.now }
     {
         match operand {
             Operand::Column(col) => Seen::at(rows, *col),
@@ -113,12 +114,12 @@ impl<'a> Seen<'a> {
 }
 
 #[cycle(truth)]
-fn truth_of_all(parts: &[Cond], rows: &[Row]) -> Truth
-    ensures { result ≡ all_of (map (λ part. truth part rows.now) parts.now) }
+fn truth_of_all<T: HasRows>(parts: &[Cond], rows: &T) -> Truth
+    ensures { result ≡ all_of (map (λ part. truth part (T.rows rows.now)) parts.now) }
 {
     let mut all = Truth::Yes;
     for part in parts {
-        match truth(part, rows) {
+        match truth_of(part, rows) {
             Truth::No => return Truth::No,
             other => all = all.both(other),
         }
@@ -127,12 +128,12 @@ fn truth_of_all(parts: &[Cond], rows: &[Row]) -> Truth
 }
 
 #[cycle(truth)]
-fn truth_of_any(parts: &[Cond], rows: &[Row]) -> Truth
-    ensures { result ≡ any_of (map (λ part. truth part rows.now) parts.now) }
+fn truth_of_any<T: HasRows>(parts: &[Cond], rows: &T) -> Truth
+    ensures { result ≡ any_of (map (λ part. truth part (T.rows rows.now)) parts.now) }
 {
     let mut any = Truth::No;
     for part in parts {
-        match truth(part, rows) {
+        match truth_of(part, rows) {
             Truth::Yes => return Truth::Yes,
             other => any = any.either(other),
         }
@@ -140,10 +141,9 @@ fn truth_of_any(parts: &[Cond], rows: &[Row]) -> Truth
     any
 }
 
-/// What a condition says of a tuple, one row for each alias. Cost: one comparison for each of the condition's.
 #[cycle(truth)]
-pub fn truth(cond: &Cond, rows: &[Row]) -> Truth
-    ensures { result ≡ truth cond.now rows.now }
+fn truth_of<T: HasRows>(cond: &Cond, rows: &T) -> Truth
+    ensures { result ≡ truth cond.now (T.rows rows.now) }
 {
     match cond {
         Cond::True => Truth::Yes,
@@ -152,13 +152,20 @@ pub fn truth(cond: &Cond, rows: &[Row]) -> Truth
         }
         Cond::And(parts) => truth_of_all(parts.as_slice(), rows),
         Cond::Or(parts) => truth_of_any(parts.as_slice(), rows),
-        Cond::Not(part) => truth(part.get(), rows).opposite(),
+        Cond::Not(part) => truth_of(part.get(), rows).opposite(),
     }
 }
 
-/// Whether a condition keeps a tuple, one row for each alias.
-pub fn holds(cond: &Cond, rows: &[Row]) -> bool
-    ensures { result ≡ holds cond.now rows.now }
+/// What a condition says of a tuple, one row for each alias. Cost: one comparison for each of the condition's.
+pub fn truth<T: HasRows + Copy>(cond: &Cond, rows: T) -> Truth
+    ensures { result ≡ truth cond.now (T.rows rows) }
+{
+    truth_of(cond, &rows)
+}
+
+/// Whether a condition keeps a tuple, one row for each alias. Cost: as for `truth`.
+pub fn holds<T: HasRows + Copy>(cond: &Cond, rows: T) -> bool
+    ensures { result ≡ holds cond.now (T.rows rows) }
 {
     truth(cond, rows).is_yes()
 }

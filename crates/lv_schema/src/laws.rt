@@ -11,8 +11,8 @@ ghost use Rattle.lv_schema.specs.declared.forced.Forced.{Forced};
 ghost use Rattle.lv_schema.specs.declared.logic.Truth.TheVariants.{Yes};
 ghost use Rattle.lv_schema.specs.declared.table.TableDef.{TableDef};
 ghost use Rattle.lv_schema.specs.declared.view.ViewDef.{ViewDef};
-ghost use Rattle.lv_schema.specs.Bound.{IsProfile};
 ghost use Rattle.lv_schema.specs.Commits.{conflict_of, merged};
+ghost use Rattle.lv_schema.specs.Bound.{sources_of, IsViewDef};
 ghost use Rattle.lv_schema.specs.Databases.{Db, rows_of, IsDatabase};
 ghost use Rattle.lv_schema.specs.Differences.{summed_columns, view_difference, groups_of};
 ghost use Rattle.lv_schema.specs.Effects.{acted_all};
@@ -59,7 +59,7 @@ pub fn forced_steps_leave_nothing_pending()
 /// The rows of a view ascend, and none is there twice.
 pub fn view_rows_are_distinct()
     ensures { (tables : List TableDef) (view : ViewDef) (db : Db) → IsDatabase tables db → list_all (λ t. nat_lt t (length tables)) view.tables ≡ true
-        → IsProfile tables view view.grouped → Ascends row_cmp (view_rows view db) }
+        → IsViewDef (sources_of tables view) view → Ascends row_cmp (view_rows view db) }
 {}
 
 /// The net change from one database to another leads from the one to the other.

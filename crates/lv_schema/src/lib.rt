@@ -12,13 +12,16 @@ mod holding;
 mod laws;
 mod logic;
 mod net;
+mod open;
 mod pending;
 mod query;
 mod rec;
+mod schema;
 mod signed;
 mod table;
 #[cfg(test)]
 mod tests;
+mod tuple;
 mod view;
 
 pub use action::{Action, ActionKind, Actions, DeltaEntries, DeltaEntry};
@@ -36,9 +39,12 @@ pub use laws::{
 };
 pub use logic::Truth;
 pub use net::{Net, Nets};
+pub use open::{Database, Open};
 pub use pending::{Pending, Pendings};
 pub use query::{OrderCols, Query, Rel, Rels};
 pub use rec::Rec;
+pub use schema::Schema;
 pub use signed::{Joined, Signed, SignedRow, Sums};
 pub use table::{Column, Columns, Kind, Positions, TableDef, TableDefs};
+pub use tuple::HasRows;
 pub use view::{Item, TableNumbers, ViewDef, ViewDefs, ViewItems};

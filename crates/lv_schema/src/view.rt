@@ -15,6 +15,20 @@ pub enum Item {
     Count { name: Text },
 }
 
+impl Item {
+    ghost use Rattle.std.specs.Prelude.{◌≡◌};
+    ghost use Rattle.lv_schema.specs.Bound.{item_name};
+
+    /// The name of the column that the item gives.
+    pub fn name(&self) -> &Text
+        ensures { result.now ≡ item_name self.now }
+    {
+        match self {
+            Item::Plain { name, .. } | Item::Sum { name, .. } | Item::Count { name } => name,
+        }
+    }
+}
+
 /// A view's list.
 pub type ViewItems = Items<Item>;
 

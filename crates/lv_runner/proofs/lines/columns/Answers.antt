@@ -1,4 +1,4 @@
-use Rattle.std.proofs.Common.{ℕ, ◌<◌, ◌≤◌, Bool, List, [], length, sym, ap, ◌∙◌, arith, codes, true, false, not}
+use Rattle.std.proofs.Common.{ℕ, ◌<◌, ◌≤◌, Bool, List, [], length, sym, ap, ◌∙◌, arith, codes, not}
 use Rattle.std.proofs.lemmas.Result.{err_from_is_err_and}
 use Rattle.lv_runner.specs.Reading.{begins}
 use Rattle.lv_runner.specs.Form.{column, columns}
@@ -18,19 +18,19 @@ returns-in_err-item c =
     let p = err_from_is_err_and c.from_residual.result c.from_residual.ensures.1 in
     let lt : c.each.counter < length c.args.cursor.now = omega (arith, c.len-end.ensures) in
     rw (p.1, p.2) (gives_err (column c.each.cursor) c.in_err-item.field-0.0 c.column.new.cursor (columns c.args.cursor.now) c.in_err-item.ensures
-        (λ e. many_stop goes_on column (length c.args.cursor.now) c.each.counter c.each.found c.each.cursor _ lt (ap not (sym c.sees.ensures ∙ c.if-sees.false)) e c.each.invariant))
+    (λ e. many_stop goes_on column (length c.args.cursor.now) c.each.counter c.each.found c.each.cursor _ lt (ap not (sym c.sees.ensures ∙ c.if-sees.false)) e c.each.invariant))
 
 pub each-preserved : goal.each-preserved
 each-preserved c =
     let lt : c.each.counter < length c.args.cursor.now = omega (arith, c.len-end.ensures) in
     rw c.in_ok-push.ensures.added
-        (many_more goes_on column (length c.args.cursor.now) c.each.counter c.each.found c.each.cursor _ _ _ lt (ap not (sym c.sees.ensures ∙ c.if-sees.false)) c.in_ok-item.ensures c.each.invariant)
+    (many_more goes_on column (length c.args.cursor.now) c.each.counter c.each.found c.each.cursor _ _ _ lt (ap not (sym c.sees.ensures ∙ c.if-sees.false)) c.in_ok-item.ensures c.each.invariant)
 
 pub returns : goal.returns
 returns c =
     elim c.each-test.branch [
       | else-each-test w ↦ (let le : length c.args.cursor.now ≤ c.each.counter = omega (arith, c.len-end.ensures) in
-            many_full goes_on column (length c.args.cursor.now) c.each.counter c.each.found c.each.cursor _ le c.each.invariant)
+          many_full goes_on column (length c.args.cursor.now) c.each.counter c.each.found c.each.cursor _ le c.each.invariant)
       | then-each-test+then-sees w ↦ (let lt : c.each.counter < length c.args.cursor.now = omega (arith, c.len-end.ensures) in
-            many_done goes_on column (length c.args.cursor.now) c.each.counter c.each.found c.each.cursor _ lt (ap not (sym w.sees.ensures ∙ w.if-sees.true)) c.each.invariant)
+          many_done goes_on column (length c.args.cursor.now) c.each.counter c.each.found c.each.cursor _ lt (ap not (sym w.sees.ensures ∙ w.if-sees.true)) c.each.invariant)
     ]

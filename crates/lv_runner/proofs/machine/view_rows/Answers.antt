@@ -1,5 +1,4 @@
-use Rattle.std.proofs.Common.{◌≡◌, ◌∷◌, ◌++◌, [], true, false, sym, ap, ◌∙◌, List}
-use Rattle.lv_values.specs.declared.value.Value.{Value}
+use Rattle.std.proofs.Common.{sym, ◌∙◌}
 use Rattle.lv_runner.proofs.OneAlias.{takes_row, skips_row}
 use Rattle.lv_runner.proofs.machine.view_rows.Goals as goal
 use Rattle.lv_runner.proofs.machine.view_rows.Goals.{then-holds+in_ok-listed+in_ok-push, else-holds}

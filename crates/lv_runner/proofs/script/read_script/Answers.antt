@@ -1,6 +1,4 @@
-use Rattle.std.proofs.Common.{◌≡◌, Option, None, ap, ◌∙◌, arith}
-use Rattle.lv_runner.specs.declared.cursor.Stop.TheVariants.{Bad}
-use Rattle.lv_runner.specs.Form.{with_line}
+use Rattle.std.proofs.Common.{arith}
 use Rattle.lv_runner.proofs.Pieces.{goes_on, breaks}
 use Rattle.lv_runner.proofs.script.read_script.Goals as goal
 

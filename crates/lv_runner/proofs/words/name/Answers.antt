@@ -1,4 +1,3 @@
-use Rattle.lv_values.specs.declared.text.TextFault.TheVariants.{NotUtf8}
 use Rattle.std.proofs.Common.{◌∙◌, ap, Err}
 use Rattle.lv_runner.proofs.Ascii.{word_is_text}
 use Rattle.lv_runner.proofs.words.name.Goals as goal

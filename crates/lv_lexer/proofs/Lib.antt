@@ -1,0 +1,11 @@
+pub mod Again
+pub mod Doubled
+pub mod Fronts
+pub mod Lines
+pub mod Quotes
+pub mod Said
+pub mod Sorts
+pub mod Spans
+pub mod Spelling
+pub mod Undoubled
+pub mod Words

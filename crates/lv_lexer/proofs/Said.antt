@@ -1,0 +1,144 @@
+-- What is known of the bytes of a token of each kind.
+use Rattle.std.proofs.Common.{◌≡◌, ℕ, zero, suc, ◌+◌, ◌-◌, ◌*◌, ◌^◌, ◌≤◌, ◌<◌, Bool, true, false, cond, List, [], ◌∷◌, length, get_or, take, drop, slice_range, refl, sym, ap, ◌∙◌, subst, arith, inl, inr, eqb-true, length-drop}
+use Rattle.std.proofs.lemmas.Bool.{cases_lt, leb-true}
+use Rattle.std.proofs.lemmas.Bool.Decides.{nat_tests}
+use Rattle.std.proofs.lemmas.List.{get_or_past, take_all, length-take-le}
+use Rattle.std.proofs.lemmas.Grind.{common_steps}
+use Rattle.std.specs.Char.{digit_value, to_ascii_lowercase}
+use Rattle.std.specs.Str.{IsCharBoundary, IsUtf8, IsAscii, str_to_ascii_lowercase}
+use Rattle.std.specs.Str.Parse.{digits_value, AllDigits}
+use Rattle.std.proofs.lemmas.Str.{IsUtf8-between, IsCharBoundary-after_ascii, IsCharBoundary-before_ascii, IsUtf8-from_ascii}
+use Rattle.std.proofs.lemmas.Str.Ascii.{IsAscii-map, lowercase_ascii}
+use Rattle.std.proofs.lemmas.Int.Digits.{digits_value_more}
+use Rattle.std.proofs.lemmas.Str.Parse.{digits_value-take-le, digits_value_short, numerals_by_value, tells_digits}
+use Rattle.lv_lexer.specs.declared.token.Token.{Token}
+use Rattle.lv_lexer.specs.declared.token.TokenKind.{TokenKind}
+use Rattle.lv_lexer.specs.declared.token.TokenKind.TheVariants.{Word, Number, Text}
+use Rattle.lv_lexer.specs.Bytes.{is_letter, is_digit, is_word_byte, run}
+use Rattle.lv_lexer.specs.Piece.{piece}
+use Rattle.lv_lexer.specs.Scan.{Spells, IsTokenOf, text_in}
+use Rattle.lv_lexer.proofs.Sorts.{IsPiece, piece_is}
+use Rattle.lv_lexer.proofs.Fronts.{closes}
+
+-- where a run is all of the bytes, each of them passes
+run_all : (p : ℕ → Bool) (bytes : List ℕ) → run p bytes ≡ length bytes → (i : ℕ) → i < length bytes → p (get_or bytes i 0) ≡ true
+run_all p [] e i h = absurd (omega arith)
+run_all p (b ∷ bytes) e i h = by (p b) i refl e h (run_all p bytes)
+  where
+    by : (t : Bool) (i : ℕ) → p b ≡ t → cond t (1 + run p bytes) 0 ≡ suc (length bytes) → i < suc (length bytes)
+        → (run p bytes ≡ length bytes → (i : ℕ) → i < length bytes → p (get_or bytes i 0) ≡ true) → p (get_or (b ∷ bytes) i 0) ≡ true
+    by true zero q e h more = q
+    by true (suc i) q e h more = more (omega arith) i (omega arith)
+    by false i q e h more = absurd (omega arith)
+
+-- the first byte passes, and so do the others
+each_from : (p : ℕ → Bool) (b : ℕ) (bytes : List ℕ) → p b ≡ true → run p bytes ≡ length bytes → (i : ℕ) → i < suc (length bytes) → p (get_or (b ∷ bytes) i 0) ≡ true
+each_from p b bytes q e zero h = q
+each_from p b bytes q e (suc i) h = run_all p bytes e i (omega arith)
+
+-- ---- numbers
+
+pub digit_known : (c : ℕ) → is_digit c ≡ true → (48 ≤ c) × (c ≤ 57) × (digit_value c ≡ c - 48)
+digit_known c e = grind (arith, nat_tests)
+
+all_digits : (bytes : List ℕ) → ((i : ℕ) → i < length bytes → is_digit (get_or bytes i 0) ≡ true) → AllDigits 10 bytes
+all_digits [] each = tt
+all_digits (b ∷ bytes) each =
+    let here = digit_known b (each 0 (omega arith)) in
+    (omega (arith, here), all_digits bytes (λ i h. each (suc i) (omega arith)))
+
+-- the digits of a number
+pub record IsNumber (digits : List ℕ) : Type 0 where
+  pub each : (i : ℕ) → i < length digits → is_digit (get_or digits i 0) ≡ true
+  pub few : length digits ≤ 38
+
+pub is_number : (digits : List ℕ) → Spells digits Number → IsNumber digits
+unfolding piece
+is_number [] e = absurd cc
+is_number (b ∷ bytes) e =
+    let known : IsPiece b bytes Number (suc (length bytes)) = piece_is b bytes Number (suc (length bytes)) e in
+    record { each = each_from is_digit b bytes known.1 (omega (arith, known.2)); few = omega (arith, known.2, leb-true (1 + run is_digit bytes) 38 known.3) }
+
+-- the number fits, and each step on the way to it
+pub number_small : (digits : List ℕ) → IsNumber digits → digits_value 10 digits < 10 ^ 38
+number_small digits known = digits_value_short (numerals_by_value (AllDigits 10) tells_digits) digits 38 (all_digits digits known.each) known.few
+
+pub number_whole : (digits : List ℕ) (i : ℕ) → length digits ≤ i → digits_value 10 (take i digits) ≡ digits_value 10 digits
+number_whole digits i h = ap (digits_value 10) (take_all i digits h)
+
+pub step_small : (digits : List ℕ) (i : ℕ) → IsNumber digits → i < length digits → digits_value 10 (take i digits) * 10 + digit_value (get_or digits i 0) < 10 ^ 38
+step_small digits i known h =
+    omega (arith, number_small digits known, digits_value_more 10 digits i h, digits_value-take-le 10 digits (i + 1) (omega arith))
+
+-- ---- words
+
+word_byte_small : (c : ℕ) → is_word_byte c ≡ true → c < 128
+word_byte_small c e = grind (arith, nat_tests)
+
+letter_in_word : (b : ℕ) → is_letter b ≡ true → is_word_byte b ≡ true
+letter_in_word b l = rw l refl
+
+is_ascii_word : (word : List ℕ) → Spells word Word → IsAscii word
+unfolding piece
+is_ascii_word [] e i = absurd cc
+is_ascii_word (b ∷ bytes) e i =
+    let known : IsPiece b bytes Word (suc (length bytes)) = piece_is b bytes Word (suc (length bytes)) e in
+    elim (cases_lt i (suc (length bytes))) [
+      | inl h ↦ word_byte_small (get_or (b ∷ bytes) i 0) (each_from is_word_byte b bytes (letter_in_word b known.0) (omega (arith, known.1)) i h)
+      | inr h ↦ omega (arith, get_or_past (b ∷ bytes) i 0 h)
+    ]
+
+-- in lower case it is a text
+pub lower_is_utf8 : (word : List ℕ) → Spells word Word → IsUtf8 (str_to_ascii_lowercase word)
+lower_is_utf8 word e = IsUtf8-from_ascii (str_to_ascii_lowercase word) (IsAscii-map to_ascii_lowercase word lowercase_ascii (is_ascii_word word e))
+
+-- ---- texts
+
+pub record IsQuoted (bytes : List ℕ) : Type 0 where
+  pub long : 2 ≤ length bytes
+  pub first : get_or bytes 0 0 ≡ 39
+  pub last : get_or bytes (length bytes - 1) 0 ≡ 39
+
+pub is_quoted : (bytes : List ℕ) → Spells bytes Text → IsQuoted bytes
+unfolding piece
+is_quoted [] e = absurd cc
+is_quoted (b ∷ bytes) e =
+    let known : IsPiece b bytes Text (suc (length bytes)) = piece_is b bytes Text (suc (length bytes)) e in
+    let m = known.3.0 in
+    let close = closes bytes m known.3.1 in
+    let long : m ≡ length bytes = omega (arith, known.3.2) in
+    let j = length bytes - 1 in
+    let some : length bytes ≡ suc j = omega (arith, close.some, long) in
+    let last : get_or (b ∷ bytes) (suc j) 0 ≡ 39 = close.quote j (long ∙ some) in
+    record {
+      long = omega arith;
+      first = eqb-true b 39 known.2;
+      last = let at : suc j ≡ suc (length bytes) - 1 = omega arith in subst (λ (i : ℕ). get_or (b ∷ bytes) i 0 ≡ 39) at last;
+    }
+
+-- between the quotes stands a text
+pub inside_is_utf8 : (bytes : List ℕ) → IsQuoted bytes → IsUtf8 bytes → IsUtf8 (slice_range bytes 1 (length bytes - 1))
+inside_is_utf8 bytes q u =
+    let begin = IsCharBoundary-after_ascii bytes 0 u (omega (arith, q.long)) (omega (arith, q.first)) in
+    let end = IsCharBoundary-before_ascii bytes (length bytes - 1) (omega (arith, q.long)) (omega (arith, q.last)) in
+    IsUtf8-between bytes 1 (length bytes - 1) u (omega (arith, q.long)) begin end
+
+at_slice : (line : List ℕ) (start end i : ℕ) → start + i < end → get_or (slice_range line start end) i 0 ≡ get_or line (start + i) 0
+at_slice line start end i h = grind (arith, common_steps)
+
+-- the bytes of a text token are a text
+pub token_is_utf8 : (line : List ℕ) (t : Token) → IsTokenOf line t → t.kind ≡ Text → IsUtf8 line → IsUtf8 (text_in line t)
+token_is_utf8 line t known kind u =
+    let P : TokenKind → Type 0 = λ k. Spells (text_in line t) k in
+    let q = is_quoted (text_in line t) (subst P kind known.spelled) in
+    let order = known.order in
+    let within = known.within in
+    let whole : length (text_in line t) ≡ t.end - t.start = length-take-le (t.end - t.start) (drop t.start line) (omega (arith, length-drop t.start line)) in
+    let first : get_or line (t.start + 0) 0 ≡ 39 = sym (at_slice line t.start t.end 0 (omega arith)) ∙ q.first in
+    let last_at : t.start + (length (text_in line t) - 1) ≡ t.end - 1 = omega arith in
+    let last : get_or line (t.end - 1) 0 ≡ 39 =
+    ap (λ (i : ℕ). get_or line i 0) (sym last_at) ∙ sym (at_slice line t.start t.end (length (text_in line t) - 1) (omega arith)) ∙ q.last in
+    let begin = IsCharBoundary-before_ascii line (t.start + 0) (omega arith) (omega arith) in
+    let end = IsCharBoundary-after_ascii line (t.end - 1) u (omega arith) (omega arith) in
+    let B : ℕ → Type 0 = λ i. IsCharBoundary line i in
+    IsUtf8-between line t.start t.end u (omega arith) (subst B (omega arith) begin) (subst B (omega arith) end)

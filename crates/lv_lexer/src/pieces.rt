@@ -1,0 +1,120 @@
+//! The token that begins some bytes.
+
+ghost use Rattle.std.specs.Prelude.{◌≡◌, ◌+◌, ◌<◌, ◌≤◌, ◌^◌, length, IfSome};
+ghost use Rattle.lv_lexer.specs.Bytes as spec;
+ghost use Rattle.lv_lexer.specs.Piece.{closing, number_of, piece};
+
+use crate::signs::sign_at;
+use crate::token::TokenKind;
+
+/// The most digits that a number has.
+const MOST_DIGITS: usize = 38;
+
+const QUOTE: u8 = b'\'';
+
+fn is_digit(byte: u8) -> bool
+    ensures { result ≡ spec.is_digit byte }
+{
+    byte.is_ascii_digit()
+}
+
+fn is_letter(byte: u8) -> bool
+    ensures { result ≡ spec.is_letter byte }
+{
+    (b'A' <= byte && byte <= b'Z') || (b'a' <= byte && byte <= b'z') || byte == b'_'
+}
+
+fn is_word_byte(byte: u8) -> bool
+    ensures { result ≡ spec.is_word_byte byte }
+{
+    is_letter(byte) || is_digit(byte)
+}
+
+fn is_blank(byte: u8) -> bool
+    ensures { result ≡ spec.is_blank byte }
+{
+    byte == b' ' || byte == b'\t'
+}
+
+/// How many word bytes stand in front.
+fn word_len(bytes: &[u8]) -> usize
+    ensures value { result ≡ spec.run spec.is_word_byte bytes.now }
+    ensures within { result ≤ length bytes.now }
+{
+    bytes.iter().take_while(|b| is_word_byte(**b)).count()
+}
+
+/// How many digits stand in front.
+fn digits_len(bytes: &[u8]) -> usize
+    ensures value { result ≡ spec.run spec.is_digit bytes.now }
+    ensures within { result ≤ length bytes.now }
+{
+    bytes.iter().take_while(|b| is_digit(**b)).count()
+}
+
+/// How many blanks stand in front.
+pub(crate) fn blanks_len(bytes: &[u8]) -> usize
+    ensures value { result ≡ spec.run spec.is_blank bytes.now }
+    ensures within { result ≤ length bytes.now }
+{
+    bytes.iter().take_while(|b| is_blank(**b)).count()
+}
+
+/// How many bytes there are up to the closing quote, with it, where there is one.
+fn closing_len(bytes: &[u8]) -> Option<usize>
+    ensures value { result ≡ closing bytes.now }
+    ensures within { IfSome result (λ n. n ≤ length bytes.now) }
+{
+    let mut at = 0;
+    'quote: while at < bytes.len() {
+        if bytes[at] != QUOTE {
+            at += 1;
+        } else if at + 1 < bytes.len() && bytes[at + 1] == QUOTE {
+            at += 2;
+        } else {
+            return Some(at + 1);
+        }
+    }
+    None
+}
+
+/// The number in front, whose first digit stands before these bytes.
+fn number(rest: &[u8]) -> Option<(TokenKind, usize)>
+    requires { length rest.now < 2 ^ 32 }
+    ensures value { result ≡ number_of (1 + spec.run spec.is_digit rest.now) }
+    ensures within { IfSome result (λ found. (0 < found.1) × (found.1 ≤ 1 + length rest.now)) }
+{
+    let len = 1 + digits_len(rest);
+    if len <= MOST_DIGITS {
+        Some((TokenKind::Number, len))
+    } else {
+        None
+    }
+}
+
+/// The kind and the length of the token in front, where one is there. Cost: linear in the token.
+#[tactic(auto, unfolding(crate::specs::Piece::piece))]
+pub(crate) fn piece(bytes: &[u8]) -> Option<(TokenKind, usize)>
+    requires { length bytes.now < 2 ^ 32 }
+    ensures value { result ≡ piece bytes.now }
+    ensures within { IfSome result (λ found. (0 < found.1) × (found.1 ≤ length bytes.now)) }
+{
+    let [first, rest @ ..] = bytes else {
+        return None;
+    };
+    if is_letter(*first) {
+        Some((TokenKind::Word, 1 + word_len(rest)))
+    } else if is_digit(*first) {
+        number(rest)
+    } else if *first == QUOTE {
+        match closing_len(rest) {
+            None => None,
+            Some(len) => Some((TokenKind::Text, 1 + len)),
+        }
+    } else {
+        match sign_at(bytes) {
+            None => None,
+            Some((_, len)) => Some((TokenKind::Sign, len)),
+        }
+    }
+}

@@ -1,0 +1,174 @@
+//! What a token says.
+
+ghost use Rattle.std.specs.Prelude.{◌≡◌, ◌+◌, ◌-◌, ◌<◌, ◌≤◌, ◌^◌, ◌==◌, ◌&&◌, length, slice_index, map, All, IfOk, IsUtf8};
+ghost use Rattle.std.specs.Str.{str_to_ascii_lowercase};
+ghost use Rattle.std.specs.Str.Parse.{digits_value};
+ghost use Rattle.lv_lexer.specs.declared.token.TokenKind.TheVariants as sort;
+ghost use Rattle.lv_lexer.specs.Scan.{IsTokenOf, Spells};
+ghost use Rattle.lv_lexer.specs.Meaning.{undoubled, unquoted, plain_at, said, sign_of, terminal_of};
+ghost use Rattle.lv_lexer.specs.Signs as spec;
+
+use crate::keywords::keyword_of;
+use crate::signs::sign_at;
+use crate::terminals::{Class, Terminal, Terminals};
+use crate::token::{Token, TokenKind};
+use lv_values::{Bytes, NoMemory, Text, TextFault};
+use std::alloc::Global;
+
+const QUOTE: u8 = b'\'';
+
+/// The text with these bytes, which are UTF-8.
+fn as_text(alloc: Global, bytes: &[u8]) -> Result<Text, NoMemory>
+    requires { IsUtf8 bytes.now }
+    ensures { IfOk result (λ text. text ≡ bytes.now) }
+{
+    match Text::from_bytes(alloc, bytes) {
+        Ok(text) => Ok(text),
+        Err(TextFault::NoMemory) => Err(NoMemory),
+        Err(TextFault::NotUtf8) => unreachable!(),
+    }
+}
+
+/// Whether two quotes stand there, one after the other.
+fn is_pair(bytes: &[u8], at: usize) -> bool
+    requires { at < length bytes.now }
+    ensures { result ≡ (slice_index bytes.now at == 39 && slice_index bytes.now (at + 1) == 39) }
+{
+    bytes[at] == QUOTE && at + 1 < bytes.len() && bytes[at + 1] == QUOTE
+}
+
+/// The bytes, each pair of quotes as one quote.
+fn undouble(alloc: Global, bytes: &[u8]) -> Result<Bytes, NoMemory>
+    ensures { IfOk result (λ out. out ≡ undoubled bytes.now) }
+{
+    let mut out = Bytes::new(alloc);
+    let mut at = 0;
+    'byte: while at < bytes.len() {
+        out.push(bytes[at])?;
+        if is_pair(bytes, at) {
+            at += 2;
+        } else {
+            at += 1;
+        }
+    }
+    Ok(out)
+}
+
+/// What a text between quotes says.
+fn unquote(alloc: Global, bytes: &[u8]) -> Result<Text, NoMemory>
+    requires text { Spells bytes.now sort.Text }
+    requires utf8 { IsUtf8 bytes.now }
+    ensures { IfOk result (λ text. text ≡ unquoted bytes.now) }
+{
+    let inside = undouble(alloc, &bytes[1..bytes.len() - 1])?;
+    as_text(alloc, inside.as_slice())
+}
+
+/// The word in lower case.
+fn lower(alloc: Global, word: &[u8]) -> Result<Text, NoMemory>
+    requires { Spells word.now sort.Word }
+    ensures { IfOk result (λ text. text ≡ str_to_ascii_lowercase word.now) }
+{
+    let lowered = word.to_ascii_lowercase(alloc)?;
+    as_text(alloc, lowered.as_slice())
+}
+
+/// The number that the digits represent.
+fn number_of(digits: &[u8]) -> u128
+    requires { Spells digits.now sort.Number }
+    ensures value { result ≡ digits_value 10 digits.now }
+    ensures small { result < 10 ^ 38 }
+{
+    let mut number = 0;
+    for digit in digits {
+        number = number * 10 + u128::from(*digit - b'0');
+    }
+    number
+}
+
+/// The sign that the bytes spell.
+fn sign_of(sign: &[u8]) -> Class
+    requires { Spells sign.now sort.Sign }
+    ensures { result ≡ sign_of (spec.sign_at sign.now) }
+{
+    match sign_at(sign) {
+        Some((class, _)) => class,
+        None => Class::Dot,
+    }
+}
+
+/// What a token says that is a word: a keyword, or a name in lower case.
+fn word(alloc: Global, bytes: &[u8], byte: u32) -> Result<Terminal, NoMemory>
+    requires { Spells bytes.now sort.Word }
+    ensures { IfOk result (λ t. t ≡ said sort.Word bytes.now byte) }
+{
+    match keyword_of(bytes) {
+        Some(class) => plain(alloc, class, byte),
+        None => Ok(Terminal {
+            class: Class::Name,
+            text: lower(alloc, bytes)?,
+            number: 0,
+            byte,
+        }),
+    }
+}
+
+/// A token with nothing more to say than its class.
+fn plain(alloc: Global, class: Class, byte: u32) -> Result<Terminal, NoMemory>
+    ensures { IfOk result (λ t. t ≡ plain_at byte class) }
+{
+    Ok(Terminal {
+        class,
+        text: Text::from_str(alloc, "")?,
+        number: 0,
+        byte,
+    })
+}
+
+/// What the bytes say, which spell a token of this kind and stand at this byte of the line.
+fn read_bytes(alloc: Global, bytes: &[u8], kind: TokenKind, byte: u32) -> Result<Terminal, NoMemory>
+    requires spelled { Spells bytes.now kind }
+    requires utf8 { kind ≡ sort.Text → IsUtf8 bytes.now }
+    ensures said { IfOk result (λ t. t ≡ said kind bytes.now byte) }
+    ensures small { IfOk result (λ t. t.number < 10 ^ 38) }
+{
+    match kind {
+        TokenKind::Word => word(alloc, bytes, byte),
+        TokenKind::Number => Ok(Terminal {
+            class: Class::Number,
+            text: Text::from_str(alloc, "")?,
+            number: number_of(bytes),
+            byte,
+        }),
+        TokenKind::Text => Ok(Terminal {
+            class: Class::Quoted,
+            text: unquote(alloc, bytes)?,
+            number: 0,
+            byte,
+        }),
+        TokenKind::Sign => plain(alloc, sign_of(bytes), byte),
+    }
+}
+
+/// What a token of the line says, as a grammar sees it. Cost: linear in the token.
+pub fn read_token(alloc: Global, line: &Text, token: &Token) -> Result<Terminal, NoMemory>
+    requires { IsTokenOf line.now token.now }
+    ensures said { IfOk result (λ t. t ≡ terminal_of line.now token.now) }
+    ensures small { IfOk result (λ t. t.number < 10 ^ 38) }
+{
+    let bytes = &line.as_bytes()[token.start as usize..token.end as usize];
+    read_bytes(alloc, bytes, token.kind, token.start + 1)
+}
+
+/// What the tokens of the line say, in their order. Cost: linear in the line.
+pub fn read_tokens(alloc: Global, line: &Text, tokens: &[Token]) -> Result<Terminals, NoMemory>
+    requires { All (IsTokenOf line.now) tokens.now }
+    ensures said { IfOk result (λ ts. ts ≡ map (terminal_of line.now) tokens.now) }
+    ensures small { IfOk result (All (λ t. t.number < 10 ^ 38)) }
+{
+    let mut terminals = Terminals::new(alloc);
+    for token in tokens {
+        terminals.push(read_token(alloc, line, token)?)?;
+    }
+    Ok(terminals)
+}

@@ -1,0 +1,70 @@
+//! The tokens of a line.
+
+ghost use Rattle.std.specs.Prelude.{◌≡◌, ℕ, ◌-◌, ◌<◌, ◌^◌, List, length, Option, IfOk, All};
+ghost use Rattle.lv_lexer.specs.declared.token.Token.{Token};
+ghost use Rattle.lv_lexer.specs.Scan.{Scans, IsTokenOf, AreInOrder, is_over};
+
+use crate::pieces::{blanks_len, piece};
+use crate::token::{Scan, Token, Tokens};
+use lv_values::{NoMemory, Text};
+use std::alloc::Global;
+
+/// Whether the line is over: nothing comes any more, or a comment.
+fn is_over(bytes: &[u8]) -> bool
+    ensures { result ≡ is_over bytes.now }
+{
+    match bytes {
+        [] => true,
+        [b'-', b'-', ..] => true,
+        _ => false,
+    }
+}
+
+/// The tokens of the bytes, and the place of the first piece that is none.
+fn scan(alloc: Global, line: &[u8]) -> Result<Scan, NoMemory>
+    requires { length line.now < 2 ^ 32 - 1 }
+    ensures { IfOk result (λ scan. Scans 0 line.now scan.list scan.stopped) }
+{
+    let mut list = Tokens::new(alloc);
+    let mut at = 0;
+    'each: loop {
+        at += blanks_len(&line[at..]);
+        let rest = &line[at..];
+        if is_over(rest) {
+            return Ok(Scan {
+                list,
+                stopped: None,
+            });
+        }
+        let Some((kind, len)) = piece(rest) else {
+            return Ok(Scan {
+                list,
+                stopped: Some(at as u32),
+            });
+        };
+        list.push(Token {
+            kind,
+            start: at as u32,
+            end: (at + len) as u32,
+        })?;
+        at += len;
+    }
+}
+
+/// The tokens of the line, up to its end, or up to the first piece that is no token: an unknown character, a text without
+/// its closing quote, or more than 38 digits in a row. Spaces and tabs stand between tokens, and `--` outside a text begins
+/// a comment, which ends with the line. Cost: linear in the line.
+pub fn tokens(alloc: Global, line: &Text) -> Result<Scan, NoMemory>
+    requires { length line.now < 2 ^ 32 - 1 }
+    ensures scan { IfOk result (λ scan. Scans 0 line.now scan.list scan.stopped) }
+
+    // A line has one list of tokens.
+    ensures only { (list : List Token) (stopped : Option ℕ) → Scans 0 line.now list stopped
+        → IfOk result (λ scan. (scan.list ≡ list) × (scan.stopped ≡ stopped)) }
+
+    // Each is a slice of the line that spells its kind, and they are in order.
+    ensures each { IfOk result (λ scan. All (IsTokenOf line.now) scan.list) }
+    ensures order { IfOk result (λ scan. AreInOrder (length line.now) 0 scan.list scan.stopped) }
+{
+    scan(alloc, line.as_bytes())
+}

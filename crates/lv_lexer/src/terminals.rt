@@ -1,0 +1,98 @@
+//! Tokens as a grammar sees them: keywords apart from names, each sign by itself.
+
+use lv_values::{Items, Text};
+
+/// The classes of tokens: a name, a number, a text, each keyword, each sign.
+#[derive(Clone, Copy, Debug, PartialEq, Eq)]
+pub enum Class {
+    /// A word that is no keyword.
+    Name,
+    /// A number.
+    Number,
+    /// A text between quotes.
+    Quoted,
+    And,
+    As,
+    Asc,
+    Begin,
+    By,
+    Commit,
+    Count,
+    Create,
+    Delete,
+    Desc,
+    Drop,
+    From,
+    Group,
+    Inner,
+    Insert,
+    Int,
+    Into,
+    Is,
+    Join,
+    Key,
+    Max,
+    Min,
+    Not,
+    Null,
+    On,
+    Or,
+    Order,
+    Primary,
+    Rollback,
+    Select,
+    Set,
+    Show,
+    Sum,
+    Table,
+    Tasks,
+    Text,
+    Update,
+    Values,
+    View,
+    Where,
+    /// `(`
+    LeftParen,
+    /// `)`
+    RightParen,
+    /// `,`
+    Comma,
+    /// `;`
+    Semicolon,
+    /// `.`
+    Dot,
+    /// `*`
+    Star,
+    /// `+`
+    Plus,
+    /// `-`
+    Minus,
+    /// `=`
+    Equal,
+    /// `<>`, also spelled `!=`
+    NotEqual,
+    /// `<`
+    Less,
+    /// `<=`
+    LessEqual,
+    /// `>`
+    Greater,
+    /// `>=`
+    GreaterEqual,
+}
+
+/// A token with its class, what it says, and the place of its first byte in the line, from 1.
+#[derive(Drop)]
+pub struct Terminal {
+    /// The class.
+    pub class: Class,
+    /// A name in lower case, or what stands between the quotes of a text, two quotes being one; else empty.
+    pub text: Text,
+    /// The value of a number; else 0.
+    pub number: u128,
+    /// The place.
+    pub byte: u32,
+}
+
+/// Tokens as a grammar sees them, in their order.
+pub type Terminals = Items<Terminal>;

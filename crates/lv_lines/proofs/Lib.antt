@@ -1,0 +1,13 @@
+pub mod Clear
+pub mod FirstFaults
+pub mod LastSession
+pub mod LowerNames
+pub mod NamesAreText
+pub mod Pieces
+pub mod Sound
+pub mod SoundItems
+pub mod SoundLimits
+pub mod SoundNames
+pub mod SoundOrder
+pub mod Steps
+pub mod Utf8

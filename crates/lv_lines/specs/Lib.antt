@@ -1,0 +1,11 @@
+pub mod Entries
+pub mod Readers
+pub mod Transcript
+pub mod Words
+pub mod FirstFault
+pub mod Judged
+pub mod OrderLine
+pub mod Script
+pub mod ScriptFault
+pub mod ScriptLine
+pub mod SessionName

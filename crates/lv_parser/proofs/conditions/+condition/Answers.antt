@@ -1,0 +1,75 @@
+use Rattle.std.proofs.Common.{◌≡◌, ℕ, suc, ◌-◌, ◌∙◌, sym, arith}
+use Rattle.std.proofs.lemmas.Result.{err_from_is_err_and}
+use Rattle.lv_lexer.specs.declared.terminals.Class.TheVariants as k
+use Rattle.lv_parser.specs.Reading.{sees, expect, behind}
+use Rattle.lv_parser.specs.Read as read
+use Rattle.lv_parser.proofs.Loops.{loop_begins, loop_goes_on, loop_stops, loop_done, loop_full, gives_err}
+use Rattle.lv_parser.proofs.Units.{unit_other, unit_unclosed}
+use Rattle.lv_parser.proofs.conditions.+condition.Goals as goal
+use Rattle.lv_parser.proofs.conditions.+condition.Goals.{more_conjs-else-each-test, more_conjs-then-each-test+then-not-sees, more_units-else-each-test, more_units-then-each-test+then-not-sees}
+
+pub more_units-each-init : goal.more_units-each-init
+more_units-each-init t c = loop_begins (sees k.And) (behind k.And (read.unit c.args.within c.args.depth)) c.len-end.result c.args.found c.args.cursor.now c.len-end.ensures
+
+pub more_units-returns-in_err-item : goal.more_units-returns-in_err-item
+more_units-returns-in_err-item t c =
+    let p = err_from_is_err_and c.from_residual.result c.from_residual.ensures.1 in
+    rw (p.1, p.2)
+    (gives_err (behind k.And (read.unit c.args.within c.args.depth) c.each.cursor) c.in_err-item.field-0.0 c.next_unit.new.cursor _ c.in_err-item.ensures
+    (λ e. loop_stops (sees k.And) (behind k.And (read.unit c.args.within c.args.depth)) c.len-end.result c.each.counter c.each.found c.each.cursor _ _ c.each-test.true
+    (sym c.sees.ensures ∙ c.if-not-sees.false) e c.each.invariant))
+
+pub more_units-each-preserved : goal.more_units-each-preserved
+more_units-each-preserved t c =
+    rw c.in_ok-push.ensures.added
+    (loop_goes_on (sees k.And) (behind k.And (read.unit c.args.within c.args.depth)) c.len-end.result c.each.counter c.each.found c.each.cursor _ _ _ c.each-test.true
+    (sym c.sees.ensures ∙ c.if-not-sees.false) c.in_ok-item.ensures c.each.invariant)
+
+pub more_units-returns : goal.more_units-returns
+more_units-returns t c =
+    elim c.each-test.branch [
+      | more_units-else-each-test w ↦ loop_full (sees k.And) (behind k.And (read.unit c.args.within c.args.depth)) c.len-end.result c.each.counter c.each.found c.each.cursor _ w.each-test.false c.each.invariant
+      | more_units-then-each-test+then-not-sees w ↦ loop_done (sees k.And) (behind k.And (read.unit c.args.within c.args.depth)) c.len-end.result c.each.counter c.each.found c.each.cursor _ w.each-test.true
+          (sym w.sees.ensures ∙ w.if-not-sees.true) c.each.invariant
+    ]
+
+pub more_conjs-each-init : goal.more_conjs-each-init
+more_conjs-each-init t c =
+    loop_begins (sees k.Or) (behind k.Or (read.conj_of (read.unit c.args.within c.args.depth))) c.len-end.result c.args.found c.args.cursor.now c.len-end.ensures
+
+pub more_conjs-returns-in_err-item : goal.more_conjs-returns-in_err-item
+more_conjs-returns-in_err-item t c =
+    let p = err_from_is_err_and c.from_residual.result c.from_residual.ensures.1 in
+    rw (p.1, p.2)
+    (gives_err (behind k.Or (read.conj_of (read.unit c.args.within c.args.depth)) c.each.cursor) c.in_err-item.field-0.0 c.next_conj.new.cursor _ c.in_err-item.ensures
+    (λ e. loop_stops (sees k.Or) (behind k.Or (read.conj_of (read.unit c.args.within c.args.depth))) c.len-end.result c.each.counter c.each.found c.each.cursor _ _ c.each-test.true
+    (sym c.sees.ensures ∙ c.if-not-sees.false) e c.each.invariant))
+
+pub more_conjs-each-preserved : goal.more_conjs-each-preserved
+more_conjs-each-preserved t c =
+    rw c.in_ok-push.ensures.added
+    (loop_goes_on (sees k.Or) (behind k.Or (read.conj_of (read.unit c.args.within c.args.depth))) c.len-end.result c.each.counter c.each.found c.each.cursor _ _ _ c.each-test.true
+    (sym c.sees.ensures ∙ c.if-not-sees.false) c.in_ok-item.ensures c.each.invariant)
+
+pub more_conjs-returns : goal.more_conjs-returns
+more_conjs-returns t c =
+    elim c.each-test.branch [
+      | more_conjs-else-each-test w ↦ loop_full (sees k.Or) (behind k.Or (read.conj_of (read.unit c.args.within c.args.depth))) c.len-end.result c.each.counter c.each.found c.each.cursor _ w.each-test.false c.each.invariant
+      | more_conjs-then-each-test+then-not-sees w ↦ loop_done (sees k.Or) (behind k.Or (read.conj_of (read.unit c.args.within c.args.depth))) c.len-end.result c.each.counter c.each.found c.each.cursor _ w.each-test.true
+          (sym w.sees.ensures ∙ w.if-not-sees.true) c.each.invariant
+    ]
+
+pub unit-returns-in_err-expect-3 : goal.unit-returns-in_err-expect-3
+unit-returns-in_err-expect-3 t c =
+    let p = err_from_is_err_and c.from_residual-in_err-expect-3.result c.from_residual-in_err-expect-3.ensures.1 in
+    let e : c.args.depth ≡ suc (c.args.depth - 1) = omega arith in
+    rw (p.1, p.2)
+    (gives_err (expect k.RightParen c.cond_within.new.cursor) c.in_err-expect-3.field-0.0 c.expect-then-sees-2-2.new.self _ c.in_err-expect-3.ensures.given
+    (λ h. unit_unclosed c.args.within (c.args.depth - 1) c.args.depth c.args.cursor.now _ _ _ _ _ e (sym c.sees.ensures ∙ c.if-sees.false)
+    (sym c.sees-else-sees.ensures ∙ c.if-sees-2.true) c.in_ok-expect-2.ensures.given c.in_ok-inner-2.ensures h))
+
+pub unit-returns-else-sees-2 : goal.unit-returns-else-sees-2
+unit-returns-else-sees-2 t c =
+    let e : c.args.depth ≡ suc (c.args.depth - 1) = omega arith in
+    rw (unit_other c.args.within (c.args.depth - 1) c.args.depth c.args.cursor.now e (sym c.sees.ensures ∙ c.if-sees.false) (sym c.sees-else-sees.ensures ∙ c.if-sees-2.false))
+    c.comparison-else-sees-2.ensures

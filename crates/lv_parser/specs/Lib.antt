@@ -1,0 +1,11 @@
+pub mod Class
+pub mod Rule
+pub mod Trees
+pub mod Grammar
+pub mod Fault
+pub mod Reading
+pub mod Numbers
+pub mod Read
+pub mod Lines
+pub mod Printed
+pub mod Bare

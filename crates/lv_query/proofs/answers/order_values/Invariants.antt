@@ -1,0 +1,6 @@
+use Rattle.std.proofs.Common.{◌≡◌, map, take}
+use Rattle.lv_schema.specs.Answers.{order_value}
+use Rattle.lv_query.proofs.answers.order_values.Given as goal
+
+abbrev pub invariant-loop-by : goal.invariant-loop-by
+invariant-loop-by l = l.values ≡ map (order_value l.tuple) (take l.by-index l.order)

@@ -1,0 +1,5 @@
+pub mod Again
+pub mod Decimals
+pub mod Digits
+pub mod Loops
+pub mod Takes
