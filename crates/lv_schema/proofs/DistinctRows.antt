@@ -1,5 +1,5 @@
 -- A view that may be added has no row twice.
-use Rattle.std.proofs.Common.{◌≡◌, ℕ, zero, suc, ◌+◌, ◌<◌, ◌≤◌, Bool, true, false, cond, ◌&&◌, ◌||◌, List, [], ◌∷◌, map, length, refl, sym, ap, ap₂, ◌∙◌, subst, arith}
+use Rattle.std.proofs.Common.{◌≡◌, ℕ, suc, ◌+◌, ◌<◌, Bool, true, false, ◌&&◌, ◌||◌, List, [], ◌∷◌, map, length, refl, sym, ap, ap₂, ◌∙◌, subst, arith}
 use Rattle.std.specs.Prelude.{◌==◌, nat_lt, nat_le, count_by}
 use Rattle.std.specs.List.{list_all, list_any, flat_map, enumerate_from}
 use Rattle.std.proofs.lemmas.Bool.Decides.{nat_tests}
@@ -9,14 +9,14 @@ use Rattle.lv_schema.specs.declared.table.TableDef.{TableDef}
 use Rattle.lv_schema.specs.declared.view.Item.{Item}
 use Rattle.lv_schema.specs.declared.view.Item.TheVariants.{Plain, Sum, Count}
 use Rattle.lv_schema.specs.declared.view.ViewDef.{ViewDef}
-use Rattle.lv_schema.specs.Bound.{lists, item_grouped, is_plain, is_count, key_listed, keys_listed, keeps_group, keeps_count, keeps_key, sources_of, IsViewDef}
+use Rattle.lv_schema.specs.Bound.{lists, item_grouped, is_plain, is_count, keys_listed, keeps_group, keeps_count, keeps_key, sources_of, IsViewDef}
 use Rattle.lv_schema.specs.Databases.{Db, IsDatabase}
 use Rattle.lv_schema.specs.Groups.{view_rows}
 use Rattle.lv_schema.specs.JoinViews.{plain_columns}
 use Rattle.lv_schema.specs.Once.{Ascends}
 use Rattle.lv_schema.specs.World.{table_at}
 use Rattle.lv_values.specs.Order.{row_cmp}
-use Rattle.lv_schema.proofs.ViewLists.{has_col, key_cols, all_key_cols, IsGroupList, IsPlainList, IsProfile}
+use Rattle.lv_schema.proofs.ViewLists.{has_col, key_cols, IsGroupList, IsPlainList, IsProfile}
 use Rattle.lv_schema.proofs.ViewRows.{view_rows_ascend}
 
 -- an item lists a column where it is among the plain ones

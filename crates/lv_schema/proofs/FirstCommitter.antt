@@ -1,15 +1,13 @@
 -- The first committer of a key wins: so a transaction's actions, taken over the last state, give the merged database.
-use Rattle.std.proofs.Common.{◌≡◌, ℕ, zero, suc, ◌+◌, ◌-◌, ◌<◌, ◌≤◌, Bool, true, false, cond, not, ◌&&◌, ◌||◌, List, [], ◌∷◌, ◌++◌, map, length, get_or, Option, Some, None, refl, sym, ap, ap₂, ◌∙◌, subst, arith}
-use Rattle.std.specs.Prelude.{◌==◌, nat_lt, is_some, slice_get, option_map, ◌⊎◌}
-use Rattle.std.specs.List.{filter, filter_map, cons_option, list_any, range_with_len, last_or, AllByRecursion}
+use Rattle.std.proofs.Common.{◌≡◌, ℕ, zero, suc, ◌+◌, ◌-◌, ◌<◌, ◌≤◌, Bool, true, false, cond, not, ◌&&◌, ◌||◌, List, [], ◌∷◌, map, length, get_or, Option, Some, None, refl, sym, ap, ap₂, ◌∙◌, subst, arith}
+use Rattle.std.specs.Prelude.{◌==◌, nat_lt, is_some, slice_get, option_map}
+use Rattle.std.specs.List.{filter, filter_map, cons_option, range_with_len, last_or, AllByRecursion}
 use Rattle.std.specs.Ordering.{is_gt, ordering_reverse}
 use Rattle.std.proofs.lemmas.Cmp.{tied_itself}
 use Rattle.std.specs.declared.cmp.Ordering.{Ordering}
-use Rattle.std.specs.declared.cmp.Ordering.TheVariants.{Less, Equal, Greater}
+use Rattle.std.specs.declared.cmp.Ordering.TheVariants.{Equal}
 use Rattle.std.proofs.lemmas.Bool.Decides.{nat_tests}
 use Rattle.std.proofs.lemmas.List.{get_or-map, length-map}
-use mathlib.Core.Logic.{inl, inr}
-use Rattle.lv_values.specs.declared.value.Value.{Value}
 use Rattle.lv_values.specs.Ascending.{placed, ascending}
 use Rattle.lv_values.specs.Order.{row_cmp, row_eq}
 use Rattle.lv_values.specs.OrderLaws.{row_total, row_exact}
@@ -21,14 +19,13 @@ use Rattle.lv_schema.specs.declared.table.TableDef.{TableDef}
 use Rattle.lv_schema.specs.Commits.{Place, place_cmp, same_place, written_place, writes, last_writer, place_conflict, conflict_of, with_rows, merged_table, merged}
 use Rattle.lv_schema.specs.Databases.{Db, rows_of}
 use Rattle.lv_schema.specs.Effects.{acted_all}
-use Rattle.lv_schema.specs.Greatest.{Among}
 use Rattle.lv_schema.specs.Once.{Ascends}
 use Rattle.lv_schema.specs.Sound.{ArePossible, IsOpen, IsVisible}
-use Rattle.lv_schema.specs.World.{Open, Visible, last, snap, commit_at, numbers, table_at}
+use Rattle.lv_schema.specs.World.{Open, Visible, last, snap, commit_at, numbers}
 use Rattle.lv_schema.proofs.Apart.{Apart, Untied, all_weaker, ascends_placed, ascends_apart}
 use Rattle.lv_schema.proofs.KeyedRows.{row_at, only_table, filter_at, placed_at}
 use Rattle.lv_schema.proofs.NetsLead.{same_row, key_total}
-use Rattle.lv_schema.proofs.Numbers.{Each, among_numbers, among_each, filter_each}
+use Rattle.lv_schema.proofs.Numbers.{Each, among_numbers, among_each}
 use Rattle.lv_schema.proofs.Replay.{ARow, ascends_filter, key_of, at_place, carried, IsKeyed, keyed_database, all_up, all_at, carried_unwritten, possible_alike}
 
 -- ---- no commit above the snapshot writes a key that the transaction writes

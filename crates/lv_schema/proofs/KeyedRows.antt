@@ -1,21 +1,19 @@
 -- The rows of a table by their keys: what stands at each key determines the table.
-use Rattle.std.proofs.Common.{◌≡◌, ℕ, Bool, true, false, cond, not, ◌&&◌, ◌||◌, List, [], ◌∷◌, ◌++◌, Option, Some, None, refl, sym, ap, ap₂, ◌∙◌, subst}
+use Rattle.std.proofs.Common.{◌≡◌, ℕ, Bool, true, false, cond, ◌||◌, List, [], ◌∷◌, ◌++◌, Option, Some, None, refl, sym, ap, ◌∙◌, subst}
 use Rattle.std.specs.Prelude.{is_some}
-use Rattle.std.specs.List.{filter, list_any, AllByRecursion}
-use Rattle.std.specs.Ordering.{is_eq, is_gt, ordering_reverse}
-use Rattle.std.specs.declared.cmp.Ordering.{Ordering}
-use Rattle.std.specs.declared.cmp.Ordering.TheVariants.{Less, Equal, Greater}
-use Rattle.std.specs.Cmp.{IsTotalOrder}
+use Rattle.std.specs.List.{filter, AllByRecursion}
+use Rattle.std.specs.Ordering.{is_eq, is_gt}
+use Rattle.std.specs.declared.cmp.Ordering.TheVariants.{Less, Equal}
 use Rattle.std.proofs.lemmas.Cmp.{tied_itself}
 use Rattle.lv_values.specs.declared.value.Value.{Value}
 use Rattle.lv_values.specs.Ascending.{placed, ascending}
 use Rattle.lv_values.specs.Order.{row_cmp, row_eq}
-use Rattle.lv_values.specs.OrderLaws.{row_total, row_exact}
+use Rattle.lv_values.specs.OrderLaws.{row_total}
 use Rattle.lv_values.specs.Rows.{values_at, key_cmp}
-use Rattle.lv_schema.specs.Effects.{same_key, has_key}
+use Rattle.lv_schema.specs.Effects.{has_key}
 use Rattle.lv_schema.specs.Nets.{has_row}
 use Rattle.lv_schema.specs.Once.{Ascends}
-use Rattle.lv_schema.proofs.Apart.{Apart, Untied, all_weaker, all_filter, all_ascending, ascends_placed}
+use Rattle.lv_schema.proofs.Apart.{Apart, Untied, all_ascending, ascends_placed}
 use Rattle.lv_schema.proofs.NetsLead.{same_row, row_itself, key_total, only_rows}
 
 abbrev ARow : Type 0

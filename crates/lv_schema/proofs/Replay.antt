@@ -1,32 +1,28 @@
 -- The first committer of a key wins: so a transaction's actions, taken over the last state, give the merged database.
-use Rattle.std.proofs.Common.{◌≡◌, ℕ, zero, suc, ◌+◌, ◌-◌, ◌<◌, ◌≤◌, Bool, true, false, cond, not, ◌&&◌, ◌||◌, List, [], ◌∷◌, ◌++◌, map, length, get_or, set, take, drop, Option, Some, None, refl, sym, ap, ap₂, ◌∙◌, subst, arith}
-use Rattle.std.specs.Prelude.{◌==◌, nat_lt, nat_le, is_some, slice_get, slice_index_or, slice_set, option_map, ◌⊎◌}
-use Rattle.std.specs.List.{filter, filter_map, list_any, list_all, range_with_len, last_or, fold, AllByRecursion, AllZip}
-use Rattle.std.specs.Ordering.{nat_cmp, is_eq, ordering_then}
+use Rattle.std.proofs.Common.{◌≡◌, ℕ, zero, suc, ◌<◌, Bool, true, false, cond, not, ◌&&◌, ◌||◌, List, [], ◌∷◌, length, Option, Some, None, refl, sym, ap, ◌∙◌, subst, arith}
+use Rattle.std.specs.Prelude.{◌==◌, is_some, ◌⊎◌}
+use Rattle.std.specs.List.{filter}
 use Rattle.std.specs.declared.cmp.Ordering.{Ordering}
-use Rattle.std.specs.declared.cmp.Ordering.TheVariants.{Less, Equal, Greater}
+use Rattle.std.specs.declared.cmp.Ordering.TheVariants.{Less}
 use Rattle.std.proofs.lemmas.Bool.Decides.{nat_tests}
 use Rattle.std.proofs.lemmas.List.{get_or-set_same, get_or-set_other, length-set}
 use mathlib.Core.Logic.{inl, inr}
 use Rattle.lv_values.specs.declared.value.Value.{Value}
-use Rattle.lv_values.specs.Ascending.{placed, ascending}
-use Rattle.lv_values.specs.Order.{row_cmp, row_eq}
+use Rattle.lv_values.specs.Order.{row_eq}
 use Rattle.lv_values.specs.Rows.{values_at, key_cmp}
 use Rattle.lv_schema.specs.declared.action.Action.{Action}
 use Rattle.lv_schema.specs.declared.action.ActionKind.{ActionKind}
 use Rattle.lv_schema.specs.declared.action.ActionKind.TheVariants.{Insert, Delete}
-use Rattle.lv_schema.specs.declared.fault.Fault.{Fault}
 use Rattle.lv_schema.specs.declared.table.TableDef.{TableDef}
-use Rattle.lv_schema.specs.Commits.{Place, place_cmp, same_place, written_place, writes, last_writer, place_conflict, conflict_of, merged_rows, merged_table, merged}
-use Rattle.lv_schema.specs.Databases.{Db, rows_of, row_fits, IsTable, IsDatabase}
-use Rattle.lv_schema.specs.Effects.{same_key, has_key, acted_rows, acted, acted_all}
-use Rattle.lv_schema.specs.Nets.{has_row}
+use Rattle.lv_schema.specs.Commits.{Place, same_place, written_place, writes}
+use Rattle.lv_schema.specs.Databases.{Db, rows_of, IsDatabase}
+use Rattle.lv_schema.specs.Effects.{same_key, acted_rows, acted, acted_all}
 use Rattle.lv_schema.specs.Once.{Ascends}
-use Rattle.lv_schema.specs.Sound.{is_possible, IsPossible, ArePossible, IsOpen, IsVisible}
-use Rattle.lv_schema.specs.World.{Open, Visible, last, snap, commit_at, numbers, table_at}
-use Rattle.lv_schema.proofs.Apart.{Apart, Untied, all_weaker, all_filter}
+use Rattle.lv_schema.specs.Sound.{is_possible, IsPossible, ArePossible}
+use Rattle.lv_schema.specs.World.{table_at}
+use Rattle.lv_schema.proofs.Apart.{all_filter}
 use Rattle.lv_schema.proofs.KeyedRows.{row_at, has_key_at, has_row_at, placed_at, placed_ascends, filter_at, is_at, free_untied, row_flip}
-use Rattle.lv_schema.proofs.NetsLead.{same_row, row_itself, key_total}
+use Rattle.lv_schema.proofs.NetsLead.{same_row, row_itself}
 
 abbrev pub ARow : Type 0
 ARow = List Value

@@ -1,20 +1,19 @@
 -- A schema stays sound when a bound table or view is added to it.
-use Rattle.std.proofs.Common.{◌≡◌, ◌<◌, ◌≤◌, ◌+◌, ℕ, suc, Bool, true, false, cond, List, [], ◌∷◌, ◌++◌, map, length, get_or, Option, Some, None, refl, sym, ap, ◌∙◌, subst, arith, ◌&&◌, nat_lt, inl, inr, ⊎_elim, ◌⊎◌}
+use Rattle.std.proofs.Common.{◌≡◌, ◌<◌, ◌≤◌, ◌+◌, ℕ, suc, Bool, true, false, cond, List, [], ◌∷◌, ◌++◌, map, length, Option, Some, None, refl, sym, ap, ◌∙◌, subst, arith, nat_lt, ⊎_elim}
 use Rattle.std.specs.List.{position, position_from, list_all}
 use Rattle.std.specs.Option.{option_or, option_map}
 use Rattle.std.specs.Str.{bytes_eq}
 use Rattle.std.proofs.lemmas.Iterator.Adapters.{position_from-zero}
 use Rattle.std.proofs.lemmas.List.{map-append, length-append, length-map, get_or_append_left, get_or_at}
 use Rattle.std.proofs.lemmas.Slice.Eq.{bytes_eq-Decides}
-use Rattle.std.proofs.lemmas.Bool.{and_parts, cases_lt, cases_Bool}
+use Rattle.std.proofs.lemmas.Bool.{and_parts, cases_lt}
 use Rattle.std.proofs.lemmas.Bool.Decides.{nat_tests}
 use Rattle.indexmap.specs.IndexMap.{insert_entry}
-use Rattle.lv_schema.specs.declared.query.Rel.{Rel}
 use Rattle.lv_schema.specs.declared.query.Rel.TheVariants.{Table, View}
 use Rattle.lv_schema.specs.declared.table.TableDef.{TableDef}
 use Rattle.lv_schema.specs.declared.view.ViewDef.{ViewDef}
 use Rattle.lv_schema.specs.Catalog.{Catalog, table_at, view_at, table_named, view_named, rel_named, no_table, no_view}
-use Rattle.lv_schema.specs.Bound.{IsSchema, IsTableOf, IsViewOf, IsBoundTable, IsBoundView, IsViewDef, sources_of}
+use Rattle.lv_schema.specs.Bound.{IsSchema, IsTableOf, IsViewOf, IsBoundTable, IsBoundView, sources_of}
 
 module _ {X : Type 0} (p : X → Bool) where
   from_found : (n : ℕ) (xs ys : List X) (i : ℕ) → position_from p n xs ≡ Some i → position_from p n (xs ++ ys) ≡ Some i

@@ -1,6 +1,6 @@
 -- What "bound against a schema" means: of a table and a view all that lets them be added, and of a change and a query
 -- that they speak of tables, views and columns that are there, of values of their kinds, and keep the limits.
-use Rattle.std.specs.Prelude.{◌≡◌, ◌<◌, ◌≤◌, ◌^◌, ℕ, suc, max, Bool, true, false, not, ◌&&◌, ◌==◌, nat_eq, nat_le, nat_lt, ℤ, pos, neg_ℤ, int_lt, List, [], ◌∷◌, ◌++◌, map, length, slice_index_or, count_by, Option, Some, None}
+use Rattle.std.specs.Prelude.{◌≡◌, ◌<◌, ◌≤◌, ◌^◌, ℕ, suc, max, Bool, true, false, not, ◌&&◌, ◌==◌, nat_eq, nat_le, nat_lt, ℤ, pos, neg_ℤ, int_lt, List, [], ◌∷◌, map, length, slice_index_or, count_by, Some, None}
 use Rattle.std.specs.List.{list_all, list_any, flat_map}
 use Rattle.std.specs.Str.{bytes_eq}
 use Rattle.lv_values.specs.declared.value.Value.{Value}
@@ -27,7 +27,7 @@ use Rattle.lv_schema.specs.declared.table.TableDef.{TableDef}
 use Rattle.lv_schema.specs.declared.view.Item.{Item}
 use Rattle.lv_schema.specs.declared.view.Item.TheVariants.{Plain, Sum, Count}
 use Rattle.lv_schema.specs.declared.view.ViewDef.{ViewDef}
-use Rattle.lv_schema.specs.Catalog.{table_at, view_at, rel_named, columns_of_tables, column_at, rel_columns}
+use Rattle.lv_schema.specs.Catalog.{table_at, view_at, rel_named, column_at, rel_columns}
 use Rattle.lv_schema.specs.Databases.{is_line, value_fits, row_fits}
 use Rattle.lv_schema.specs.Names.{is_name}
 

@@ -1,6 +1,6 @@
 -- A schema: its tables and views, each at the place of its number, what a name stands for, and the columns of what
 -- it stands for.
-use Rattle.std.specs.Prelude.{ℕ, Bool, false, List, [], map, length, position, slice_index_or, Option, Some, None}
+use Rattle.std.specs.Prelude.{ℕ, false, List, [], map, position, slice_index_or, Option}
 use Rattle.std.specs.Option.{option_map, option_or}
 use Rattle.std.specs.Str.{bytes_eq}
 use Rattle.lv_schema.specs.declared.cond.Col.{Col}
@@ -8,7 +8,6 @@ use Rattle.lv_schema.specs.declared.cond.Cond.TheVariants.{True}
 use Rattle.lv_schema.specs.declared.query.Rel.{Rel}
 use Rattle.lv_schema.specs.declared.query.Rel.TheVariants.{Table, View}
 use Rattle.lv_schema.specs.declared.table.Column.{Column}
-use Rattle.lv_schema.specs.declared.table.Kind.{Kind}
 use Rattle.lv_schema.specs.declared.table.Kind.TheVariants.{Int, Big}
 use Rattle.lv_schema.specs.declared.table.TableDef.{TableDef}
 use Rattle.lv_schema.specs.declared.view.Item.{Item}

@@ -1,20 +1,17 @@
 -- What is true of every world that can come.
-use Rattle.std.specs.Prelude.{◌≡◌, ℕ, suc, ◌≤◌, ◌<◌, Bool, true, false, not, List, [], ◌∷◌, length, nat_lt, slice_get, slice_index_or, Option, Some, None}
+use Rattle.std.specs.Prelude.{◌≡◌, ℕ, suc, ◌≤◌, ◌<◌, Bool, true, not, List, [], ◌∷◌, length, nat_lt, Option, Some, None}
 use Rattle.std.specs.List.{list_all, AllByRecursion}
 use Rattle.lv_values.specs.declared.value.Value.{Value}
 use Rattle.lv_schema.specs.declared.action.Action.{Action}
 use Rattle.lv_schema.specs.declared.action.ActionKind.{ActionKind}
 use Rattle.lv_schema.specs.declared.action.ActionKind.TheVariants.{Insert, Delete}
-use Rattle.lv_schema.specs.declared.forced.Forced.{Forced}
 use Rattle.lv_schema.specs.declared.table.TableDef.{TableDef}
 use Rattle.lv_schema.specs.declared.view.ViewDef.{ViewDef}
 use Rattle.lv_schema.specs.Bound.{sources_of, IsViewDef}
 use Rattle.lv_schema.specs.Databases.{Db, rows_of, row_fits, IsDatabase}
 use Rattle.lv_schema.specs.Effects.{has_key, acted, acted_all}
-use Rattle.lv_schema.specs.Greatest.{IsLive}
-use Rattle.lv_schema.specs.Groups.{view_rows}
 use Rattle.lv_schema.specs.Nets.{has_row}
-use Rattle.lv_schema.specs.World.{Open, Visible, Upkeep, World, last, snap, commit_at, table_at, view_at, point}
+use Rattle.lv_schema.specs.World.{Open, Visible, last, snap, commit_at, table_at}
 
 -- an action may come after others: its table is in use and its row fits, an inserted key is free, a deleted row is there
 abbrev pub is_possible : List (List Value) → TableDef → ActionKind → List Value → Bool
