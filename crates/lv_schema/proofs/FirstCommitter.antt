@@ -40,7 +40,7 @@ none_last o (x ∷ xs) e = absurd (never x xs e)
         some_none x f = cc
     never x (y ∷ ys) e = never y ys e
 
-all_false : (p : ℕ → Bool) (xs : List ℕ) → filter p xs ≡ [] → Each (λ k. p k ≡ false) xs
+pub all_false : (p : ℕ → Bool) (xs : List ℕ) → filter p xs ≡ [] → Each (λ k. p k ≡ false) xs
 all_false p [] e = tt
 all_false p (x ∷ xs) e = by (p x) refl e (λ f. all_false p xs f)
   where
@@ -58,7 +58,7 @@ no_writer s snapshot p e k above le =
     let here = among_each (λ k. (nat_lt snapshot k && writes s.tables (commit_at s.commits k) p) ≡ false) (numbers (last s)) k each (among_numbers (last s) k (omega arith) le) in
     and_right_false (nat_lt snapshot k) (writes s.tables (commit_at s.commits k) p) (let t : nat_lt snapshot k ≡ true = grind (arith, nat_tests) in t) here
 
-none_first : {X : Type 0} (xs : List X) → slice_get xs 0 ≡ None → xs ≡ []
+pub none_first : {X : Type 0} (xs : List X) → slice_get xs 0 ≡ None → xs ≡ []
 none_first [] e = refl
 none_first (x ∷ xs) e = let f : Some x ≡ None = e in absurd (some_none x f)
   where
@@ -121,6 +121,16 @@ no_last_writer s o e p w = of_none (last_writer s o.snapshot p) (no_conflict_at 
     of_none : (x : Option ℕ) → option_map (Conflict p.0 p.1) x ≡ None → x ≡ None
     of_none None h = refl
     of_none (Some k) h = cc
+
+-- ---- the numbers of tables
+pub range_at : (n a t : ℕ) → t < n → get_or (range_with_len a n) t 0 ≡ a + t
+range_at zero a t lt = absurd (omega arith)
+range_at (suc n) a zero lt = omega arith
+range_at (suc n) a (suc t) lt = range_at n (a + 1) t (omega arith) ∙ (let e : (a + 1) + t ≡ a + suc t = omega arith in e)
+
+pub range_long : (n a : ℕ) → length (range_with_len a n) ≡ n
+range_long zero a = refl
+range_long (suc n) a = ap suc (range_long n (a + 1))
 
 -- ---- what nobody wrote since the snapshot is as it was
 module _ (s : Visible) (sound : IsVisible s) where
@@ -248,19 +258,10 @@ module _ (s : Visible) (sound : IsVisible s) where
       ∙ choose w (row_at key k (rows_of o.own t)) (row_at key k (rows_of (snap s (last s)) t))
 
   -- ---- both databases have the same rows at each key
-  range_at : (n a t : ℕ) → t < n → get_or (range_with_len a n) t 0 ≡ a + t
-  range_at zero a t lt = absurd (omega arith)
-  range_at (suc n) a zero lt = omega arith
-  range_at (suc n) a (suc t) lt = range_at n (a + 1) t (omega arith) ∙ (let e : (a + 1) + t ≡ a + suc t = omega arith in e)
-
-  range_long : (n a : ℕ) → length (range_with_len a n) ≡ n
-  range_long zero a = refl
-  range_long (suc n) a = ap suc (range_long n (a + 1))
-
-  merged_long : (o : Open) → length (merged s o) ≡ length s.tables
+  pub merged_long : (o : Open) → length (merged s o) ≡ length s.tables
   merged_long o = length-map (range_with_len 0 (length s.tables)) (merged_table s o) ∙ range_long (length s.tables) 0
 
-  merged_of : (o : Open) (t : ℕ) → t < length s.tables → rows_of (merged s o) t ≡ merged_table s o t
+  pub merged_of : (o : Open) (t : ℕ) → t < length s.tables → rows_of (merged s o) t ≡ merged_table s o t
   merged_of o t lt =
       get_or-map (merged_table s o) (range_with_len 0 (length s.tables)) t 0 [] (omega (arith, range_long (length s.tables) 0))
       ∙ ap (merged_table s o) (range_at (length s.tables) 0 t lt ∙ (let e : 0 + t ≡ t = omega arith in e))
@@ -291,23 +292,23 @@ module _ (s : Visible) (sound : IsVisible s) where
       by true w = ap (λ r. carried s.tables p r o.actions) (unchanged o live e p w) ∙ sym own_at
       by false w = carried_unwritten s.tables p (at_place s.tables (snap s (last s)) p) o.actions w
 
+  pub merged_up : (o : Open) → IsOpen s o → (t : ℕ) → t < length s.tables → Ascends (key_cmp (key_of s.tables t)) (merged_table s o t)
+  merged_up o live t lt =
+      let key = key_of s.tables t in
+      let is_written : ARow → Bool = λ row. writes s.tables o.actions (t, values_at key row) in
+      with_rows_up key (filter is_written (rows_of o.own t)) (filter (λ row. not (is_written row)) (rows_of (snap s (last s)) t))
+      (ascends_apart (key_total key) (filter is_written (rows_of o.own t)) (up_filter key is_written (rows_of o.own t) ((own_keyed o live).up t lt)))
+      (across key is_written (λ a b e. ap (λ v. writes s.tables o.actions (t, v)) e) (rows_of o.own t) (rows_of (snap s (last s)) t))
+      (up_filter key (λ row. not (is_written row)) (rows_of (snap s (last s)) t) ((snap_keyed (last s) (omega arith)).up t lt))
+
   pub merged_is_replay : (o : Open) → IsOpen s o → conflict_of s o ≡ None → merged s o ≡ acted_all s.tables (snap s (last s)) o.actions
   merged_is_replay o live e = only_database (merged s o) (acted_all s.tables (snap s (last s)) o.actions) (merged_long o ∙ sym replay_keyed.long) (λ t lt. table t (omega (arith, merged_long o)))
     where
       replay_keyed : IsKeyed s.tables (acted_all s.tables (snap s (last s)) o.actions)
       replay_keyed = all_up s.tables (snap s (last s)) o.actions (snap_keyed (last s) (omega arith)) (possible_now o live e)
 
-      merged_up : (t : ℕ) → t < length s.tables → Ascends (key_cmp (key_of s.tables t)) (merged_table s o t)
-      merged_up t lt =
-          let key = key_of s.tables t in
-          let is_written : ARow → Bool = λ row. writes s.tables o.actions (t, values_at key row) in
-          with_rows_up key (filter is_written (rows_of o.own t)) (filter (λ row. not (is_written row)) (rows_of (snap s (last s)) t))
-          (ascends_apart (key_total key) (filter is_written (rows_of o.own t)) (up_filter key is_written (rows_of o.own t) ((own_keyed o live).up t lt)))
-          (across key is_written (λ a b e. ap (λ v. writes s.tables o.actions (t, v)) e) (rows_of o.own t) (rows_of (snap s (last s)) t))
-          (up_filter key (λ row. not (is_written row)) (rows_of (snap s (last s)) t) ((snap_keyed (last s) (omega arith)).up t lt))
-
       table : (t : ℕ) → t < length s.tables → rows_of (merged s o) t ≡ rows_of (acted_all s.tables (snap s (last s)) o.actions) t
       table t lt =
           merged_of o t lt
-          ∙ only_table (key_of s.tables t) (merged_table s o t) (rows_of (acted_all s.tables (snap s (last s)) o.actions) t) (merged_up t lt) (replay_keyed.up t lt)
+          ∙ only_table (key_of s.tables t) (merged_table s o t) (rows_of (acted_all s.tables (snap s (last s)) o.actions) t) (merged_up o live t lt) (replay_keyed.up t lt)
           (λ k. table_at_key o t k ((own_keyed o live).up t lt) ((snap_keyed (last s) (omega arith)).up t lt) ∙ sym (replay_at o live e (t, k)))

@@ -19,3 +19,4 @@ mod WorldExamples
 pub mod KeyedRows
 pub mod Replay
 pub mod FirstCommitter
+pub mod SoundSteps

@@ -159,7 +159,7 @@ agree : (tables : List TableDef) (ts : List ℕ) (t u : Tuple) → length t ≡ 
 agree tables ts t u lt lu a = agree_from tables ts 0 t u t u (λ i. ap (λ m. get_or t m []) (let e : 0 + i ≡ i = omega arith in e)) (λ i. ap (λ m. get_or u m []) (let e : 0 + i ≡ i = omega arith in e)) lt lu a
 
 -- the tables of a database that a view is of
-zip_at : (defs : List TableDef) (db : Db) (t : ℕ) → AllZip IsTable defs db → t < length defs → IsTable (table_at defs t) (rows_of db t)
+pub zip_at : (defs : List TableDef) (db : Db) (t : ℕ) → AllZip IsTable defs db → t < length defs → IsTable (table_at defs t) (rows_of db t)
 zip_at [] db t a h = absurd (omega arith)
 zip_at (def ∷ defs) [] t a h = absurd a
 zip_at (def ∷ defs) (rows ∷ db) zero a h = a.0

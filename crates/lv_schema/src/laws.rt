@@ -9,8 +9,10 @@ ghost use Rattle.lv_schema.specs.declared.cond.Op.{Op};
 ghost use Rattle.lv_schema.specs.declared.cond.Operand.{Operand};
 ghost use Rattle.lv_schema.specs.declared.forced.Forced.{Forced};
 ghost use Rattle.lv_schema.specs.declared.logic.Truth.TheVariants.{Yes};
+ghost use Rattle.lv_schema.specs.declared.rec.Rec.{Rec};
 ghost use Rattle.lv_schema.specs.declared.table.TableDef.{TableDef};
 ghost use Rattle.lv_schema.specs.declared.view.ViewDef.{ViewDef};
+ghost use Rattle.lv_schema.specs.Cases.{Outcome, began, rolled_back, committed};
 ghost use Rattle.lv_schema.specs.Commits.{conflict_of, merged};
 ghost use Rattle.lv_schema.specs.Bound.{sources_of, IsViewDef};
 ghost use Rattle.lv_schema.specs.Databases.{Db, rows_of, IsDatabase};
@@ -91,4 +93,11 @@ pub fn clean_up_counts_what_it_keeps()
 pub fn commit_takes_its_actions()
     ensures { (s : Visible) (o : Open) → IsVisible s → IsOpen s o → conflict_of s o ≡ None
         → ArePossible s.tables (snap s (last s)) o.actions × (merged s o ≡ acted_all s.tables (snap s (last s)) o.actions) }
+{}
+
+/// BEGIN, ROLLBACK and COMMIT, whatever becomes of its record, keep what is true of every world.
+pub fn transactions_keep_worlds_sound()
+    ensures begin { (session : ℕ) (s : Visible) → IsVisible s → IsVisible (began session s).next }
+    ensures rollback { (session : ℕ) (s : Visible) → IsVisible s → IsVisible (rolled_back session s).next }
+    ensures commit { (outcome : Rec → Outcome) (session : ℕ) (s : Visible) → IsVisible s → IsVisible (committed outcome session s).next }
 {}

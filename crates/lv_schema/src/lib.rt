@@ -35,7 +35,8 @@ pub use holding::{holds, listed, truth, value_at};
 pub use laws::{
     clean_up_counts_what_it_keeps, commit_takes_its_actions, differences_add_up,
     forced_steps_are_a_chain, forced_steps_leave_nothing_pending, groups_follow_the_difference,
-    net_changes_lead_on, planned_step_is_greatest, truth_goes_by_kind, view_rows_are_distinct,
+    net_changes_lead_on, planned_step_is_greatest, transactions_keep_worlds_sound,
+    truth_goes_by_kind, view_rows_are_distinct,
 };
 pub use logic::Truth;
 pub use net::{Net, Nets};
