@@ -17,6 +17,8 @@ mod print_names;
 mod print_parts;
 mod print_sources;
 mod print_statements;
+#[cfg(test)]
+mod print_tests;
 mod queries;
 mod sources;
 mod statements;
