@@ -1,0 +1,7 @@
+pub mod TakenKeys
+pub mod Matching
+pub mod Ranges
+pub mod PlaceLemmas
+pub mod OneTable
+pub mod Meeting
+pub mod Commits

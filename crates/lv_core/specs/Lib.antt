@@ -1,0 +1,10 @@
+pub mod Sums
+pub mod TableActions
+pub mod Stops
+pub mod Databases
+pub mod Merging
+pub mod PlaceOrder
+pub mod Conflicts
+pub mod Seen
+pub mod Preparing
+pub mod Committing

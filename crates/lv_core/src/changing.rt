@@ -1,0 +1,126 @@
+//! INSERT, UPDATE and DELETE in a transaction.
+ghost use Rattle.std.specs.Prelude.{◌≡◌, ◌<◌, ◌-◌, ◌^◌, OnOk, OnErr, length, IsSome, None, slice_index_or};
+ghost use Rattle.lv_schema.specs.Cases.{changed};
+ghost use Rattle.lv_core.specs.Seen.{visible, IsWhole, MayChange};
+ghost use Rattle.lv_core.specs.Stops.{Meets};
+ghost use Rattle.lv_schema.specs.Databases.{rows_of};
+ghost use Rattle.lv_schema.specs.Effects.{changed_table};
+ghost use Rattle.lv_core.specs.Preparing.{GivesPrepared, with_prepared};
+ghost use Rattle.lv_core.specs.Sums.{ChangeSumsFit};
+
+use crate::applying::after_actions;
+use crate::effects::effect;
+use crate::merging::rows_of;
+use crate::stop::Stop;
+use crate::whole::{SESSIONS, Whole};
+use lv_schema::{Action, Actions, Change, Open, Schema};
+use lv_values::{Edit, NoMemory, Rows};
+use std::alloc::Global;
+
+/// Gives an action the number of its statement.
+#[derive(Drop)]
+struct Numbering {
+    statement: u32,
+}
+
+impl Edit<Action> for Numbering {
+    ghost use Rattle.lv_schema.specs.Cases.{with_number};
+
+    ghost edited = { λ n a. with_number n.statement a };
+
+    fn edit(&self, action: &mut Action) {
+        action.statement = self.statement;
+    }
+}
+
+/// The table that a change is of.
+pub fn table_of(change: &Change) -> u32
+    ensures { result ≡ changed_table change.now }
+{
+    match change {
+        Change::Insert { table, .. }
+        | Change::Update { table, .. }
+        | Change::Delete { table, .. } => { *table }
+    }
+}
+
+/// A change that a transaction may keep: the number of rows, the table's rows after it, and its actions.
+#[derive(Drop)]
+struct Prepared {
+    count: u64,
+    table: u32,
+    rows: Rows,
+    actions: Actions,
+}
+
+/// What a change makes of a transaction, or why it is refused. Nothing is changed yet. Cost: as the change's effect, and
+/// a copy of the table.
+fn prepare(
+    alloc: Global,
+    schema: &Schema,
+    transaction: &Open,
+    change: &Change,
+) -> Result<Prepared, Stop>
+    requires table { changed_table change.now < length schema.now.tables }
+    requires few { length (rows_of transaction.now.own (changed_table change.now)) < 2 ^ 62 }
+    requires sums { ChangeSumsFit change.now (rows_of transaction.now.own (changed_table change.now)) }
+    requires changes { transaction.now.changes < 2 ^ 32 - 1 }
+    ensures { GivesPrepared schema.now.tables change.now transaction.now result }
+{
+    let table = table_of(change);
+    let def = schema.table(table);
+    let rows = rows_of(&transaction.own, table);
+    let (count, mut actions) = effect(alloc, def, change, rows)?;
+    let rows = after_actions(alloc, def.key.as_slice(), actions.as_slice(), rows)?;
+    actions.edit_each(&Numbering {
+        statement: transaction.changes + 1,
+    });
+    Ok(Prepared {
+        count,
+        table,
+        rows,
+        actions,
+    })
+}
+
+/// Keeps a change in a transaction. Want of memory changes nothing.
+fn keep(transaction: &mut Open, prepared: Prepared) -> Result<(), NoMemory>
+    requires { transaction.old.changes < 2 ^ 32 - 1 }
+    ensures ok { OnOk result (transaction.new ≡ with_prepared prepared transaction.old) }
+    ensures err { OnErr result (transaction.new ≡ transaction.old) }
+{
+    let Prepared {
+        count: _,
+        table,
+        rows,
+        actions,
+    } = prepared;
+    transaction.actions.append(actions)?;
+    let table = table as usize;
+    if table < transaction.own.len() {
+        transaction.own.set(table, rows);
+    }
+    transaction.changes += 1;
+    Ok(())
+}
+
+impl Whole {
+    /// INSERT, UPDATE or DELETE in a live transaction. Answers the number of rows. Cost: as `prepare`.
+    pub fn change(&mut self, alloc: Global, session: usize, change: &Change) -> Result<u64, Stop>
+        requires whole { IsWhole self.old }
+        requires session { session < SESSIONS }
+        requires live { IsSome (slice_index_or self.old.sessions.items session None) }
+        requires may { MayChange (visible self.old) session change.now }
+        ensures case { Meets (visible self.old) (visible self.new) result (changed session change.now (visible self.old)) }
+        ensures whole { IsWhole self.new }
+        ensures live { IsSome (slice_index_or self.new.sessions.items session None) }
+    {
+        let Some(transaction) = &mut self.sessions[session] else {
+            unreachable!()
+        };
+        let prepared = prepare(alloc, &self.schema, transaction, change)?;
+        let count = prepared.count;
+        keep(transaction, prepared)?;
+        Ok(count)
+    }
+}

@@ -1,0 +1,12 @@
+//! The core: it answers statements over whole snapshots, and its type keeps the run.
+#![tactic(auto)]
+
+mod applying;
+mod changing;
+mod committing;
+mod conflicts;
+mod effects;
+mod merging;
+mod places;
+mod stop;
+mod whole;
