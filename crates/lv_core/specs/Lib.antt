@@ -8,3 +8,4 @@ pub mod Conflicts
 pub mod Seen
 pub mod Preparing
 pub mod Committing
+pub mod Small
