@@ -9,3 +9,4 @@ pub mod Seen
 pub mod Preparing
 pub mod Committing
 pub mod Small
+pub mod Answering

@@ -64,7 +64,7 @@ fn act(alloc: Global, key: &[u8], action: &Action, rows: &mut Rows) -> Result<()
 }
 
 /// Copies of the rows.
-fn copy_rows(alloc: Global, rows: &[Row]) -> Result<Rows, NoMemory>
+pub fn copy_rows(alloc: Global, rows: &[Row]) -> Result<Rows, NoMemory>
     ensures { IfOk result (λ copied. copied ≡ rows.now) }
 {
     let mut copied = Rows::new(alloc);

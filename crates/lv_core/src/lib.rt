@@ -8,5 +8,6 @@ mod conflicts;
 mod effects;
 mod merging;
 mod places;
+mod query;
 mod stop;
 mod whole;
