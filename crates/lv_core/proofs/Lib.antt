@@ -5,3 +5,8 @@ pub mod PlaceLemmas
 pub mod OneTable
 pub mod Meeting
 pub mod Commits
+pub mod SmallLists
+pub mod SmallChanges
+pub mod SmallTuples
+pub mod SmallRows
+pub mod SmallSteps
