@@ -6,3 +6,8 @@ pub mod OneTable
 pub mod Meeting
 pub mod Commits
 pub mod Runs
+pub mod SmallLists
+pub mod SmallChanges
+pub mod SmallTuples
+pub mod SmallRows
+pub mod SmallSteps

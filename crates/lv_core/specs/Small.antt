@@ -6,7 +6,6 @@ use Rattle.lv_values.specs.declared.value.Value.{Value}
 use Rattle.lv_values.specs.declared.value.Value.TheVariants.{Num, Text}
 use Rattle.lv_schema.specs.declared.change.Change.{Change}
 use Rattle.lv_schema.specs.declared.change.Change.TheVariants.{Insert, Update, Delete}
-use Rattle.lv_schema.specs.declared.change.Set.{Set}
 use Rattle.lv_schema.specs.declared.change.SetValue.{SetValue}
 use Rattle.lv_schema.specs.declared.change.SetValue.TheVariants.{Literal, Column, Plus}
 use Rattle.lv_schema.specs.declared.open.Open.{Open}
