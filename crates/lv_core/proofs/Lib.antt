@@ -5,3 +5,4 @@ pub mod PlaceLemmas
 pub mod OneTable
 pub mod Meeting
 pub mod Commits
+pub mod Committed
