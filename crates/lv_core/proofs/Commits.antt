@@ -1,6 +1,6 @@
 -- What a commit makes, as the definitions say it.
-use Rattle.std.proofs.Common.{◌≡◌, ℕ, ◌==◌, Bool, true, false, List, length, map, refl, sym, ◌∙◌, ap}
-use Rattle.std.specs.Prelude.{◌&&◌, Option, Some, None}
+use Rattle.std.proofs.Common.{◌≡◌, ℕ, ◌==◌, Bool, true, false, List, length, map, refl, sym, ◌∙◌, ap, arith}
+use Rattle.std.specs.Prelude.{◌&&◌, Option, Some, None, Result, Ok, Err, IfOk}
 use Rattle.std.specs.List.{list_any, range_with_len}
 use Rattle.std.specs.Ordering.{is_eq}
 use Rattle.std.proofs.lemmas.Bool.Decides.{nat_tests}
@@ -19,7 +19,7 @@ use Rattle.lv_core.specs.Conflicts.{conflict_in}
 use Rattle.lv_core.specs.Merging.{is_written, merged_with, first_full}
 
 same_table : (m n : ℕ) → (m == n) ≡ true → m ≡ n
-same_table m n h = grind (nat_tests, h)
+same_table m n h = grind (arith, nat_tests)
 
 -- an action that writes a row's key in a table writes that place
 at_place : (tables : List TableDef) (table : ℕ) (row : List Value) (a : Action)
@@ -42,17 +42,24 @@ table_is s o table =
     ap (λ p. merged_rows (table_at s.tables table).key p (rows_of o.own table) (rows_of (snap s (last s)) table))
     (λ i row. written_is s.tables o.actions table row i)
 
-pub merged_is : (s : Visible) (o : Open) (others db : Db) → others ≡ snap s (last s)
-    → db ≡ map (merged_with s.tables o.actions o.own others) (range_with_len 0 (length s.tables)) → db ≡ merged s o
-merged_is s o others db at is =
-    is ∙ ap (λ x. map (merged_with s.tables o.actions o.own x) (range_with_len 0 (length s.tables))) at
-    ∙ ap (λ f. map f (range_with_len 0 (length s.tables))) (λ i t. table_is s o t i)
+pub merged_is : (s : Visible) (o : Open) (actions : List Action) (others db : Db) → actions ≡ o.actions → others ≡ snap s (last s)
+    → db ≡ map (merged_with s.tables actions o.own others) (range_with_len 0 (length s.tables)) → db ≡ merged s o
+merged_is s o actions others db acts at is =
+    is ∙ ap (λ (l : List Action). map (merged_with s.tables l o.own others) (range_with_len 0 (length s.tables))) acts
+    ∙ ap (λ (x : Db). map (merged_with s.tables o.actions o.own x) (range_with_len 0 (length s.tables))) at
+    ∙ ap (λ (f : ℕ → List (List Value)). map f (range_with_len 0 (length s.tables))) (λ i t. table_is s o t i)
 
 pub full_is : (s : Visible) (o : Open) (db : Db) (tables : ℕ) → db ≡ merged s o → tables ≡ length s.tables → first_full db tables ≡ merged_full s o
 full_is s o db tables d t = ap (λ x. first_full x tables) d ∙ ap (first_full (merged s o)) t
 
-pub conflict_is : (s : Visible) (o : Open) → conflict_in s.tables s.commits o.snapshot o.actions ≡ conflict_of s o
-conflict_is s o = refl
+pub conflict_is : (s : Visible) (o : Open) (commits : List (List Action)) (actions : List Action) (fault : Option Fault) → commits ≡ s.commits → actions ≡ o.actions
+    → fault ≡ conflict_in s.tables commits o.snapshot actions → fault ≡ conflict_of s o
+conflict_is s o commits actions fault all acts is =
+    is ∙ ap (λ (l : List (List Action)). conflict_in s.tables l o.snapshot actions) all ∙ ap (conflict_in s.tables s.commits o.snapshot) acts
+
+pub ok_to : {A E : Type 0} (r : Result A E) (P Q : A → Type 0) → IfOk r P → ((a : A) → P a → Q a) → IfOk r Q
+ok_to (Ok a) P Q h f = f a h
+ok_to (Err e) P Q h f = tt
 
 pub first_some : (a b : Option Fault) (f : Fault) → a ≡ Some f → first_fault a b ≡ Some f
 first_some (Some g) b f h = h

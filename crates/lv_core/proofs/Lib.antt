@@ -11,3 +11,4 @@ pub mod SmallChanges
 pub mod SmallTuples
 pub mod SmallRows
 pub mod SmallSteps
+pub mod Committed

@@ -1,8 +1,6 @@
 -- What statements see of the whole snapshots that are kept.
 use Rattle.std.specs.Prelude.{◌≡◌, ℕ, ◌+◌, ◌-◌, ◌<◌, ◌^◌, length, vec_len}
 use Rattle.lv_schema.specs.declared.change.Change.{Change}
-use Rattle.lv_schema.specs.declared.rec.Rec.{Rec}
-use Rattle.lv_schema.specs.Cases.{Outcome, good}
 use Rattle.lv_schema.specs.Databases.{rows_of}
 use Rattle.lv_schema.specs.Effects.{changed_table}
 use Rattle.lv_schema.specs.World.{Visible, transaction}
@@ -24,7 +22,3 @@ pub record MayChange (s : Visible) (session : ℕ) (change : Change) : Type 0 wh
   pub few : length (rows_of (transaction session s).own (changed_table change)) < 2 ^ 62
   pub sums : ChangeSumsFit change (rows_of (transaction session s).own (changed_table change))
   pub changes : (transaction session s).changes < 2 ^ 32 - 1
-
--- without a journal every record is written
-abbrev pub always_written : Rec → Outcome
-always_written rec = good

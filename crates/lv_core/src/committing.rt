@@ -1,8 +1,11 @@
-//! COMMIT, and changes that commit at once.
-ghost use Rattle.std.specs.Prelude.{◌≡◌, ◌<◌, ◌^◌, length, IsSome, IfOk, None, slice_index_or};
-ghost use Rattle.lv_core.specs.Committing.{IsCommitOf};
+//! COMMIT.
+ghost use Rattle.std.specs.Prelude.{◌≡◌, ◌<◌, ◌+◌, IsSome, IfOk, OnOk, OnErr, None, length, slice_index_or};
+ghost use Rattle.lv_core.specs.Committing.{IsCommitOf, with_next};
 ghost use Rattle.lv_schema.specs.Cases.{committed};
-ghost use Rattle.lv_core.specs.Seen.{visible, IsWhole, always_written};
+ghost use Rattle.lv_schema.specs.Commits.{conflict_of, merged as merged_state};
+ghost use Rattle.lv_schema.specs.World.{last};
+ghost use Rattle.lv_plain.specs.LegalTurns.{always_written};
+ghost use Rattle.lv_core.specs.Seen.{visible, IsWhole};
 ghost use Rattle.lv_core.specs.Stops.{Meets};
 
 use crate::conflicts::conflict;
@@ -15,7 +18,7 @@ use std::alloc::Global;
 
 /// What a commit of a transaction makes: the database and the actions, or the fault that rolls it back.
 #[derive(Drop)]
-enum Commit {
+pub enum Commit {
     Done {
         database: Database,
         actions: Actions,
@@ -24,37 +27,65 @@ enum Commit {
 }
 
 impl Whole {
-    /// What a commit of this transaction would make. Nothing is changed.
-    fn commit_of(&self, alloc: Global, transaction: &Open) -> Result<Commit, NoMemory>
-        requires whole { IsWhole self.now }
-        requires few { length self.now.commits.list < 2 ^ 63 }
-        ensures { IfOk result (IsCommitOf (visible self.now) transaction.now) }
+    /// The conflict that rolls a transaction back, where there is one.
+    fn conflict_of(&self, alloc: Global, transaction: &Open) -> Result<Option<Fault>, NoMemory>
+        ensures { IfOk result (λ fault. fault ≡ conflict_of (visible self.now) transaction.now) }
     {
-        let actions = transaction.actions.as_slice();
-        let commits = self.commits.as_slice();
-        if let Some(fault) = conflict(
+        conflict(
             alloc,
             &self.schema,
-            commits,
+            self.commits.as_slice(),
             transaction.snapshot,
-            actions,
-        )? {
-            return Ok(Commit::RolledBack(fault));
-        }
-        let database = merged(
+            transaction.actions.as_slice(),
+        )
+    }
+
+    /// The last state, with each key that the transaction wrote as the transaction has it. Cost: a copy of that state,
+    /// and a test for each pair of a row and an action.
+    fn merged_of(&self, alloc: Global, transaction: &Open) -> Result<Database, NoMemory>
+        requires { IsWhole self.now }
+        ensures { IfOk result (λ database. database ≡ merged_state (visible self.now) transaction.now) }
+    {
+        merged(
             alloc,
             &self.schema,
-            actions,
+            transaction.actions.as_slice(),
             &transaction.own,
             self.last_state(),
-        )?;
-        if let Some(fault) = first_full(&database, self.schema.tables()) {
+        )
+    }
+
+    /// What a commit of this transaction would make. Nothing is changed.
+    pub fn commit_of(&self, alloc: Global, transaction: &Open) -> Result<Commit, NoMemory>
+        requires { IsWhole self.now }
+        ensures { IfOk result (IsCommitOf (visible self.now) transaction.now) }
+    {
+        let conflict = self.conflict_of(alloc, transaction)?;
+        if let Some(fault) = conflict {
             return Ok(Commit::RolledBack(fault));
         }
-        Ok(Commit::Done {
-            database,
-            actions: transaction.actions.copy(alloc)?,
-        })
+        let database = self.merged_of(alloc, transaction)?;
+        let full = first_full(&database, self.schema.tables());
+        if let Some(fault) = full {
+            return Ok(Commit::RolledBack(fault));
+        }
+        let actions = transaction.actions.copy(alloc)?;
+        Ok(Commit::Done { database, actions })
+    }
+
+    /// Adds a commit, and answers its number. Want of memory changes nothing that is seen.
+    pub fn add_commit(&mut self, database: Database, actions: Actions) -> Result<u64, NoMemory>
+        requires whole { IsWhole self.old }
+        ensures added { OnOk result (visible self.new ≡ with_next database actions (visible self.old)) }
+        ensures number { IfOk result (λ number. number ≡ last (visible self.old) + 1) }
+        ensures refused { OnErr result (visible self.new ≡ visible self.old) }
+        ensures whole { IsWhole self.new }
+    {
+        self.snaps.reserve(1)?;
+        self.commits.reserve(1)?;
+        self.snaps.push(database);
+        self.commits.push(actions);
+        Ok(self.commits.len() as u64)
     }
 
     /// COMMIT of a live transaction. Answers the number of the commit, none where there is no action. A conflict or a full
@@ -63,7 +94,6 @@ impl Whole {
         requires whole { IsWhole self.old }
         requires session { session < SESSIONS }
         requires live { IsSome (slice_index_or self.old.sessions.items session None) }
-        requires few { length self.old.commits.list < 2 ^ 63 }
         ensures case { Meets (visible self.old) (visible self.new) result (committed always_written session (visible self.old)) }
         ensures whole { IsWhole self.new }
     {
@@ -74,18 +104,16 @@ impl Whole {
             self.sessions[session] = None;
             return Ok(None);
         }
-        match self.commit_of(alloc, transaction)? {
+        let commit = self.commit_of(alloc, transaction)?;
+        match commit {
             Commit::RolledBack(fault) => {
                 self.sessions[session] = None;
                 Err(Stop::Refused(fault))
             }
             Commit::Done { database, actions } => {
-                self.snaps.reserve(1)?;
-                self.commits.reserve(1)?;
-                self.snaps.push(database);
-                self.commits.push(actions);
+                let number = self.add_commit(database, actions)?;
                 self.sessions[session] = None;
-                Ok(Some(self.commits.len() as u64))
+                Ok(Some(number))
             }
         }
     }

@@ -1,6 +1,6 @@
 //! Conflicts: a key that the transaction writes and that a commit above its snapshot wrote. The first committer of a key
 //! wins (Berenson and others, SIGMOD 1995).
-ghost use Rattle.std.specs.Prelude.{◌≡◌, ◌<◌, ◌^◌, length, map, IfOk};
+ghost use Rattle.std.specs.Prelude.{◌≡◌, map, IfOk};
 ghost use Rattle.lv_schema.specs.World.{table_at};
 ghost use Rattle.lv_schema.specs.Commits.{written_place, writes, same_place};
 ghost use Rattle.lv_core.specs.Conflicts.{last_writer_in, conflict_in};
@@ -57,7 +57,6 @@ fn writes(schema: &Schema, actions: &[Action], place: &Place) -> bool
 
 /// The last commit above the snapshot that writes the place. Cost: the actions of the commits above the snapshot.
 fn last_writer(schema: &Schema, commits: &[Actions], snapshot: u64, place: &Place) -> Option<u64>
-    requires { length commits.now < 2 ^ 63 }
     ensures { result ≡ last_writer_in schema.now.tables commits.now snapshot place.now }
 {
     let mut last = commits.len();
@@ -79,7 +78,6 @@ pub fn conflict(
     snapshot: u64,
     actions: &[Action],
 ) -> Result<Option<Fault>, NoMemory>
-    requires { length commits.now < 2 ^ 63 }
     ensures { IfOk result (λ fault. fault ≡ conflict_in schema.now.tables commits.now snapshot actions.now) }
 {
     let mut places = written_places(alloc, schema, actions)?;
