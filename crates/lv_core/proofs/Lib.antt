@@ -5,7 +5,6 @@ pub mod PlaceLemmas
 pub mod OneTable
 pub mod Meeting
 pub mod Commits
-pub mod Runs
 pub mod SmallLists
 pub mod SmallChanges
 pub mod SmallTuples

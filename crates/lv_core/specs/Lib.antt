@@ -10,4 +10,3 @@ pub mod Preparing
 pub mod Committing
 pub mod Small
 pub mod Answering
-pub mod Run

@@ -1,7 +1,6 @@
 //! The core: it answers statements over whole snapshots, and its type keeps the run.
 #![tactic(auto)]
 
-mod answering;
 mod applying;
 mod changing;
 mod committing;
