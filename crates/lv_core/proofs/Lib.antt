@@ -6,3 +6,5 @@ pub mod OneTable
 pub mod Meeting
 pub mod Commits
 pub mod Committed
+pub mod SumLemmas
+pub mod CreatedViews
