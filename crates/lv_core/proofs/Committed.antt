@@ -1,7 +1,7 @@
 -- The cases of COMMIT and of a change outside a transaction, each from what the calls gave.
 use Rattle.std.proofs.Common.{◌≡◌, ℕ, ◌+◌, ◌<◌, ◌==◌, Bool, true, false, List, [], ◌∷◌, length, set, get_or, refl, sym, ◌∙◌, ap, subst, suc, arith}
 use Rattle.std.proofs.lemmas.Bool.Decides.{nat_tests}
-use Rattle.std.specs.Prelude.{if◌then◌else◌, Option, Some, None, Result, Ok, Err, slice_index_or, unwrap_or}
+use Rattle.std.specs.Prelude.{if◌then◌else◌, Option, Some, None, Result, Ok, Err, slice_index_or, unwrap_or, IsTrue, ◌↔◌}
 use Rattle.std.proofs.lemmas.List.{set-set, set-get_or, get_or-set_same}
 use Rattle.lv_schema.specs.declared.action.Action.{Action}
 use Rattle.lv_schema.specs.declared.change.Change.{Change}
@@ -165,3 +165,6 @@ alone_done s new session change count number o db actions h none k some made n i
       is ∙ next_is s o db actions made.1 made.2
           ∙ ap (λ (l : List (Option Open)). record (with_next (merged s o) o.actions s) { sessions = l }) (sym (emptied s.sessions session (Some (opened s)) (Some o) none)),
     )
+
+pub some_kept : (b : Bool) (actions : List Action) → IsTrue b ↔ (actions ≡ []) → b ≡ false → actions ≡ [] → ⊥
+some_kept b actions h e none = let t : b ≡ true = h.1 none in cc

@@ -11,3 +11,5 @@ pub mod SmallTuples
 pub mod SmallRows
 pub mod SmallSteps
 pub mod Committed
+pub mod SumLemmas
+pub mod CreatedViews

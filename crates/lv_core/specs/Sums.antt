@@ -1,7 +1,7 @@
 -- The sums that an UPDATE computes stay inside signed 128 bits.
-use Rattle.std.specs.Prelude.{◌+ℤ◌, FitsSigned, List}
+use Rattle.std.specs.Prelude.{◌≡◌, ◌^◌, ◌+ℤ◌, nat_abs, nat_lt, FitsSigned, Bool, true, List}
 use Rattle.std.specs.Int.{w128}
-use Rattle.std.specs.List.{AllByRecursion}
+use Rattle.std.specs.List.{AllByRecursion, list_all}
 use Rattle.lv_values.specs.declared.value.Value.{Value}
 use Rattle.lv_values.specs.Order.{number_of}
 use Rattle.lv_values.specs.Rows.{value_in}
@@ -10,6 +10,8 @@ use Rattle.lv_schema.specs.declared.change.Change.TheVariants.{Insert, Update, D
 use Rattle.lv_schema.specs.declared.change.Set.{Set}
 use Rattle.lv_schema.specs.declared.change.SetValue.{SetValue}
 use Rattle.lv_schema.specs.declared.change.SetValue.TheVariants.{Literal, Column, Plus}
+use Rattle.lv_schema.specs.declared.table.TableDef.{TableDef}
+use Rattle.lv_schema.specs.Databases.{row_fits}
 
 -- the sum that a SET computes from the old row
 abbrev pub SumFits : List Value → SetValue → Type 0
@@ -29,3 +31,18 @@ abbrev pub ChangeSumsFit : Change → List (List Value) → Type 0
 ChangeSumsFit (Insert table new) rows = Unit {0}
 ChangeSumsFit (Update table sets c) rows = SumsFit sets rows
 ChangeSumsFit (Delete table c) rows = Unit {0}
+
+-- the amounts of a change's SETs have at most 38 digits
+abbrev pub has_short_amount : SetValue → Bool
+has_short_amount (Literal v) = true
+has_short_amount (Column c) = true
+has_short_amount (Plus c amount) = nat_lt (nat_abs amount) (10 ^ 38)
+
+abbrev pub has_short_amounts : Change → Bool
+has_short_amounts (Insert table new) = true
+has_short_amounts (Update table sets c) = list_all (λ s. has_short_amount s.value) sets
+has_short_amounts (Delete table c) = true
+
+-- rows that fit the columns of a table
+abbrev pub AllFit : TableDef → List (List Value) → Type 0
+AllFit def rows = AllByRecursion (λ row. row_fits def.columns row ≡ true) rows

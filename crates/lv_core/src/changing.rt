@@ -1,19 +1,22 @@
 //! INSERT, UPDATE and DELETE in a transaction.
-ghost use Rattle.std.specs.Prelude.{◌≡◌, ◌<◌, ◌-◌, ◌^◌, OnOk, OnErr, length, IsSome, None, slice_index_or};
+ghost use Rattle.std.specs.Prelude.{◌≡◌, ◌<◌, ◌-◌, ◌^◌, true, OnOk, OnErr, length, IsSome, None, slice_index_or};
 ghost use Rattle.lv_schema.specs.Cases.{changed};
 ghost use Rattle.lv_core.specs.Seen.{visible, IsWhole, MayChange};
 ghost use Rattle.lv_core.specs.Stops.{Meets};
 ghost use Rattle.lv_schema.specs.Databases.{rows_of};
 ghost use Rattle.lv_schema.specs.Effects.{changed_table};
 ghost use Rattle.lv_core.specs.Preparing.{GivesPrepared, with_prepared};
-ghost use Rattle.lv_core.specs.Sums.{ChangeSumsFit};
+ghost use Rattle.lv_core.specs.Sums.{has_short_amounts, AllFit};
+ghost use Rattle.lv_schema.specs.World.{table_at};
+ghost use Rattle.lv_schema.specs.Bound.{is_table_kind};
+ghost use Rattle.std.specs.List.{list_all};
 
 use crate::applying::after_actions;
 use crate::effects::effect;
 use crate::merging::rows_of;
 use crate::stop::Stop;
 use crate::whole::{SESSIONS, Whole};
-use lv_schema::{Action, Actions, Change, Open, Schema};
+use lv_schema::{Action, Actions, Change, Open, Schema, TableDef};
 use lv_values::{Edit, NoMemory, Rows};
 use std::alloc::Global;
 
@@ -44,10 +47,20 @@ pub fn table_of(change: &Change) -> u32
     }
 }
 
+/// The table of a number that is in use. Its columns are numbers of 64 bits and texts.
+fn table_def(schema: &Schema, table: u32) -> &TableDef
+    requires { table < length schema.now.tables }
+    ensures def { result.now ≡ table_at schema.now.tables table }
+    ensures kinds { list_all (λ c. is_table_kind c.kind) result.now.columns ≡ true }
+{
+    let _tables = schema.tables();
+    schema.table(table)
+}
+
 /// A change that a transaction may keep: the number of rows, the table's rows after it, and its actions.
 #[derive(Drop)]
-struct Prepared {
-    count: u64,
+pub struct Prepared {
+    pub count: u64,
     table: u32,
     rows: Rows,
     actions: Actions,
@@ -55,20 +68,20 @@ struct Prepared {
 
 /// What a change makes of a transaction, or why it is refused. Nothing is changed yet. Cost: as the change's effect, and
 /// a copy of the table.
-fn prepare(
+pub fn prepare(
     alloc: Global,
     schema: &Schema,
     transaction: &Open,
     change: &Change,
 ) -> Result<Prepared, Stop>
     requires table { changed_table change.now < length schema.now.tables }
-    requires few { length (rows_of transaction.now.own (changed_table change.now)) < 2 ^ 62 }
-    requires sums { ChangeSumsFit change.now (rows_of transaction.now.own (changed_table change.now)) }
+    requires amounts { has_short_amounts change.now ≡ true }
+    requires rows { AllFit (table_at schema.now.tables (changed_table change.now)) (rows_of transaction.now.own (changed_table change.now)) }
     requires changes { transaction.now.changes < 2 ^ 32 - 1 }
     ensures { GivesPrepared schema.now.tables change.now transaction.now result }
 {
     let table = table_of(change);
-    let def = schema.table(table);
+    let def = table_def(schema, table);
     let rows = rows_of(&transaction.own, table);
     let (count, mut actions) = effect(alloc, def, change, rows)?;
     let rows = after_actions(alloc, def.key.as_slice(), actions.as_slice(), rows)?;
@@ -84,7 +97,7 @@ fn prepare(
 }
 
 /// Keeps a change in a transaction. Want of memory changes nothing.
-fn keep(transaction: &mut Open, prepared: Prepared) -> Result<(), NoMemory>
+pub fn keep(transaction: &mut Open, prepared: Prepared) -> Result<(), NoMemory>
     requires { transaction.old.changes < 2 ^ 32 - 1 }
     ensures ok { OnOk result (transaction.new ≡ with_prepared prepared transaction.old) }
     ensures err { OnErr result (transaction.new ≡ transaction.old) }

@@ -9,7 +9,7 @@ ghost use Rattle.lv_schema.specs.Effects.{has_key, first_taken, matching, set_va
 ghost use Rattle.lv_schema.specs.Truth.{holds};
 ghost use Rattle.lv_core.specs.Sums.{SumFits, RowSumsFit, SumsFit, ChangeSumsFit};
 ghost use Rattle.lv_core.specs.Stops.{GivesEffect, insert_fault};
-ghost use Rattle.std.specs.Prelude.{◌+◌, ◌<◌, ◌^◌};
+ghost use Rattle.std.specs.Prelude.{◌+◌, nat_lt};
 
 use crate::stop::{MOST_ROWS, Stop};
 use lv_schema::{Action, ActionKind, Actions, Change, Cond, Fault, Set, SetValue, TableDef, holds};
@@ -264,6 +264,13 @@ fn updates(
     Ok(actions)
 }
 
+/// Whether a table with so many rows has no room for so many more.
+fn is_overfull(rows: usize, more: usize) -> bool
+    ensures { result ≡ nat_lt 65535 (rows + more) }
+{
+    more > MOST_ROWS || rows > MOST_ROWS - more
+}
+
 /// Why an INSERT of these rows is refused, where it is: the first key that is taken, or more rows than a table may have.
 fn insert_fault(
     alloc: Global,
@@ -272,13 +279,12 @@ fn insert_fault(
     new: &[Row],
     rows: &[Row],
 ) -> Result<Option<Fault>, NoMemory>
-    requires { length rows.now + length new.now < 2 ^ 63 }
     ensures { IfOk result (λ fault. fault ≡ insert_fault table def.now new.now rows.now) }
 {
     if let Some(key) = first_taken(alloc, def.key.as_slice(), rows, new)? {
         return Ok(Some(Fault::Duplicate { table, key }));
     }
-    if rows.len() + new.len() > MOST_ROWS {
+    if is_overfull(rows.len(), new.len()) {
         return Ok(Some(Fault::TableFull { table }));
     }
     Ok(None)
@@ -293,8 +299,7 @@ pub fn effect(
     change: &Change,
     rows: &[Row],
 ) -> Result<(u64, Actions), Stop>
-    requires few { length rows.now < 2 ^ 62 }
-    requires sums { ChangeSumsFit change.now rows.now }
+    requires { ChangeSumsFit change.now rows.now }
     ensures { GivesEffect result (effect_on def.now change.now rows.now) }
 {
     match change {

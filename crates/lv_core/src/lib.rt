@@ -2,9 +2,11 @@
 #![tactic(auto)]
 
 mod applying;
+mod autocommit;
 mod changing;
 mod committing;
 mod conflicts;
+mod creating;
 mod effects;
 mod merging;
 mod places;

@@ -1,7 +1,7 @@
 //! Whole snapshots, and the cases of each statement over them.
 ghost use Rattle.std.specs.Prelude.{◌≡◌, ◌<◌, ◌≤◌, ◌+◌, ◌^◌, ◌∷◌, [], length, IfOk};
 ghost use Rattle.lv_schema.specs.Cases.{began, closed};
-ghost use Rattle.lv_schema.specs.World.{nothing_visible, snap, last};
+ghost use Rattle.lv_schema.specs.World.{nothing_visible, snap, last, opened};
 ghost use Rattle.lv_core.specs.Seen.{visible, IsWhole};
 ghost use Rattle.lv_core.specs.Stops.{MeetsUnlessMemory};
 
@@ -51,21 +51,29 @@ impl Whole {
         self.snaps.get(self.commits.len())
     }
 
-    /// BEGIN. Cost: a copy of the last state.
+    /// A transaction that begins now. Cost: a copy of the last state.
+    pub fn opened(&self, alloc: Global) -> Result<Open, NoMemory>
+        requires { IsWhole self.now }
+        ensures { IfOk result (λ transaction. transaction ≡ opened (visible self.now)) }
+    {
+        let own = self.last_state().copy(alloc)?;
+        Ok(Open {
+            snapshot: self.commits.len() as u64,
+            own,
+            actions: Actions::new(alloc),
+            changes: 0,
+        })
+    }
+
+    /// BEGIN. Answers the snapshot. Cost: a copy of the last state.
     pub fn begin(&mut self, alloc: Global, session: usize) -> Result<u64, NoMemory>
         requires whole { IsWhole self.old }
         requires session { session < SESSIONS }
         ensures case { MeetsUnlessMemory (visible self.old) (visible self.new) result (began session (visible self.old)) }
         ensures whole { IsWhole self.new }
     {
-        let own = self.last_state().copy(alloc)?;
-        let snapshot = self.commits.len() as u64;
-        let open = Open {
-            snapshot,
-            own,
-            actions: Actions::new(alloc),
-            changes: 0,
-        };
+        let open = self.opened(alloc)?;
+        let snapshot = open.snapshot;
         self.sessions[session] = Some(open);
         Ok(snapshot)
     }

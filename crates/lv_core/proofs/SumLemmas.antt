@@ -1,0 +1,103 @@
+-- In a table of numbers and texts the sums of a change fit, where its amounts are short.
+use Rattle.std.proofs.Common.{◌≡◌, ℕ, zero, suc, ◌+◌, ◌^◌, ◌<◌, ◌≤◌, ℤ, pos, negsuc, neg_ℤ, ◌+ℤ◌, Bool, true, false, ◌&&◌, List, [], ◌∷◌, FitsSigned, refl, sym, subst, arith}
+use Rattle.std.specs.Prelude.{nat_abs, nat_lt, nat_le, int_lt, int_le, unsigned_abs}
+use Rattle.std.proofs.lemmas.Int.{ints, fits_signed_from_abs}
+use Rattle.std.proofs.lemmas.Bool.Decides.{nat_tests}
+use Rattle.std.specs.Int.{w128}
+use Rattle.std.specs.List.{AllByRecursion, list_all}
+use Rattle.lv_values.specs.declared.value.Value.{Value}
+use Rattle.lv_values.specs.declared.value.Value.TheVariants.{Num, Text as Word}
+use Rattle.lv_values.specs.Order.{number_of}
+use Rattle.lv_values.specs.Rows.{value_in}
+use Rattle.lv_schema.specs.declared.change.Change.{Change}
+use Rattle.lv_schema.specs.declared.change.Change.TheVariants.{Insert, Update, Delete}
+use Rattle.lv_schema.specs.declared.change.Set.{Set}
+use Rattle.lv_schema.specs.declared.change.SetValue.{SetValue}
+use Rattle.lv_schema.specs.declared.change.SetValue.TheVariants.{Literal, Column as OfColumn, Plus}
+use Rattle.lv_schema.specs.declared.table.Column.{Column}
+use Rattle.lv_schema.specs.declared.table.Kind.{Kind}
+use Rattle.lv_schema.specs.declared.table.Kind.TheVariants.{Int, Text, Big}
+use Rattle.lv_schema.specs.declared.table.TableDef.{TableDef}
+use Rattle.lv_schema.specs.Bound.{is_table_kind}
+use Rattle.lv_schema.specs.declared.open.Open.{Open}
+use Rattle.lv_schema.specs.Databases.{is_int, value_fits, row_fits, rows_of}
+use Rattle.lv_schema.specs.Effects.{changed_table}
+use Rattle.lv_schema.specs.World.{table_at}
+use Rattle.lv_core.specs.Sums.{SumFits, RowSumsFit, SumsFit, ChangeSumsFit, has_short_amount, has_short_amounts, AllFit}
+
+both_left : (a b : Bool) → (a && b) ≡ true → a ≡ true
+both_left true b e = refl
+both_left false b e = cc
+
+both_right : (a b : Bool) → (a && b) ≡ true → b ≡ true
+both_right true b e = e
+both_right false b e = cc
+
+lt_of : (a b : ℕ) → nat_lt a b ≡ true → a < b
+lt_of a b h = grind (arith, nat_tests)
+
+le_of : (a b : ℕ) → nat_le a b ≡ true → a ≤ b
+le_of a b h = grind (arith, nat_tests)
+
+abs_small : (z : ℤ) → is_int z ≡ true → unsigned_abs z ≤ 2 ^ 63
+abs_small (pos n) h =
+    let t = both_right (int_le (neg_ℤ (pos (2 ^ 63))) (pos n)) (int_lt (pos n) (pos (2 ^ 63))) h in
+    let u : nat_lt n 9223372036854775808 ≡ true = t in
+    let v = lt_of n 9223372036854775808 u in omega (arith, v)
+abs_small (negsuc n) h =
+    let t = both_left (int_le (neg_ℤ (pos (2 ^ 63))) (negsuc n)) (int_lt (negsuc n) (pos (2 ^ 63))) h in
+    let u : nat_le n 9223372036854775807 ≡ true = t in
+    let v = le_of n 9223372036854775807 u in omega (arith, v)
+
+abs_sum : (a b : ℤ) → unsigned_abs (a +ℤ b) ≤ unsigned_abs a + unsigned_abs b
+abs_sum a b = omega (arith, ints)
+
+sum_fits : (a b : ℤ) → is_int a ≡ true → nat_lt (nat_abs b) (10 ^ 38) ≡ true → FitsSigned w128 (a +ℤ b)
+sum_fits a b h k =
+    let s = lt_of (unsigned_abs b) (10 ^ 38) k in
+    fits_signed_from_abs w128 (a +ℤ b) (omega (arith, abs_sum a b, abs_small a h, s))
+
+kind_small : (k : Kind) (v : Value) → is_table_kind k ≡ true → value_fits k v ≡ true → is_int (number_of v) ≡ true
+kind_small Int (Num n) k f = f
+kind_small Int (Word t) k f = cc
+kind_small Text (Num n) k f = cc
+kind_small Text (Word t) k f = refl
+kind_small Big v k f = cc
+
+abbrev AreTableKinds : List Column → Type 0
+AreTableKinds columns = list_all (λ c. is_table_kind c.kind) columns ≡ true
+
+value_small : (columns : List Column) (row : List Value) (at : ℕ) → AreTableKinds columns → row_fits columns row ≡ true → is_int (number_of (value_in row at)) ≡ true
+value_small [] [] at k f = refl
+value_small [] (v ∷ vs) at k f = cc
+value_small (c ∷ cs) [] at k f = refl
+value_small (c ∷ cs) (v ∷ vs) zero k f = kind_small c.kind v (both_left _ _ k) (both_left _ _ f)
+value_small (c ∷ cs) (v ∷ vs) (suc at) k f = value_small cs vs at (both_right _ _ k) (both_right _ _ f)
+
+value_sum : (columns : List Column) (row : List Value) (value : SetValue) → AreTableKinds columns → row_fits columns row ≡ true → has_short_amount value ≡ true → SumFits row value
+value_sum columns row (Literal v) k f a = tt
+value_sum columns row (OfColumn c) k f a = tt
+value_sum columns row (Plus c amount) k f a = sum_fits (number_of (value_in row c)) amount (value_small columns row c k f) a
+
+row_sums : (columns : List Column) (row : List Value) (sets : List Set) → AreTableKinds columns → row_fits columns row ≡ true → list_all (λ s. has_short_amount s.value) sets ≡ true → RowSumsFit sets row
+row_sums columns row [] k f a = tt
+row_sums columns row (s ∷ sets) k f a =
+    (value_sum columns row s.value k f (both_left _ _ a), row_sums columns row sets k f (both_right _ _ a))
+
+all_sums : (columns : List Column) (rows : List (List Value)) (sets : List Set) → AreTableKinds columns → AllByRecursion (λ row. row_fits columns row ≡ true) rows
+    → list_all (λ s. has_short_amount s.value) sets ≡ true → SumsFit sets rows
+all_sums columns [] sets k f a = tt
+all_sums columns (row ∷ rows) sets k f a = (row_sums columns row sets k f.0 a, all_sums columns rows sets k f.1 a)
+
+pub change_sums : (def : TableDef) (change : Change) (rows : List (List Value)) → AreTableKinds def.columns → AllFit def rows → has_short_amounts change ≡ true → ChangeSumsFit change rows
+change_sums def (Insert table new) rows k f a = tt
+change_sums def (Update table sets c) rows k f a = all_sums def.columns rows sets k f a
+change_sums def (Delete table c) rows k f a = tt
+
+-- the sums of a change that is prepared against a transaction's own database
+pub prepared_sums : (tables : List TableDef) (change : Change) (o : Open) (t : ℕ) (def : TableDef) (rows : List (List Value))
+    → t ≡ changed_table change → def ≡ table_at tables t → rows ≡ rows_of o.own t → AreTableKinds def.columns
+    → AllFit (table_at tables (changed_table change)) (rows_of o.own (changed_table change)) → has_short_amounts change ≡ true → ChangeSumsFit change rows
+prepared_sums tables change o t def rows at is_def is_rows kinds fit short =
+    let there : AllFit (table_at tables t) (rows_of o.own t) = subst (λ (n : ℕ). AllFit (table_at tables n) (rows_of o.own n)) (sym at) fit in
+    change_sums def change rows kinds (subst (λ (d : TableDef). AllFit d rows) (sym is_def) (subst (AllFit (table_at tables t)) (sym is_rows) there)) short
