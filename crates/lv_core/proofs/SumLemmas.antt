@@ -1,4 +1,4 @@
--- In a table of numbers and texts the sums of a change fit, where its amounts are short.
+-- Over small rows the sums of a change fit, where its amounts are short.
 use Rattle.std.proofs.Common.{◌≡◌, ℕ, zero, suc, ◌+◌, ◌^◌, ◌<◌, ◌≤◌, ℤ, pos, negsuc, neg_ℤ, ◌+ℤ◌, Bool, true, false, ◌&&◌, List, [], ◌∷◌, FitsSigned, refl, sym, subst, arith}
 use Rattle.std.specs.Prelude.{nat_abs, nat_lt, nat_le, int_lt, int_le, unsigned_abs}
 use Rattle.std.proofs.lemmas.Int.{ints, fits_signed_from_abs}
@@ -23,7 +23,8 @@ use Rattle.lv_schema.specs.declared.open.Open.{Open}
 use Rattle.lv_schema.specs.Databases.{is_int, value_fits, row_fits, rows_of}
 use Rattle.lv_schema.specs.Effects.{changed_table}
 use Rattle.lv_schema.specs.World.{table_at}
-use Rattle.lv_core.specs.Sums.{SumFits, RowSumsFit, SumsFit, ChangeSumsFit, has_short_amount, has_short_amounts, AllFit}
+use Rattle.lv_core.specs.Small.{IsSmall, AreSmallRows}
+use Rattle.lv_core.specs.Sums.{SumFits, RowSumsFit, SumsFit, ChangeSumsFit, has_short_amount, has_short_amounts}
 
 both_left : (a b : Bool) → (a && b) ≡ true → a ≡ true
 both_left true b e = refl
@@ -57,47 +58,33 @@ sum_fits a b h k =
     let s = lt_of (unsigned_abs b) (10 ^ 38) k in
     fits_signed_from_abs w128 (a +ℤ b) (omega (arith, abs_sum a b, abs_small a h, s))
 
-kind_small : (k : Kind) (v : Value) → is_table_kind k ≡ true → value_fits k v ≡ true → is_int (number_of v) ≡ true
-kind_small Int (Num n) k f = f
-kind_small Int (Word t) k f = cc
-kind_small Text (Num n) k f = cc
-kind_small Text (Word t) k f = refl
-kind_small Big v k f = cc
+value_small : (row : List Value) (at : ℕ) → AllByRecursion IsSmall row → is_int (number_of (value_in row at)) ≡ true
+value_small [] at f = refl
+value_small (Num n ∷ vs) zero f = f.0
+value_small (Word t ∷ vs) zero f = refl
+value_small (v ∷ vs) (suc at) f = value_small vs at f.1
 
-abbrev AreTableKinds : List Column → Type 0
-AreTableKinds columns = list_all (λ c. is_table_kind c.kind) columns ≡ true
+value_sum : (row : List Value) (value : SetValue) → AllByRecursion IsSmall row → has_short_amount value ≡ true → SumFits row value
+value_sum row (Literal v) f a = tt
+value_sum row (OfColumn c) f a = tt
+value_sum row (Plus c amount) f a = sum_fits (number_of (value_in row c)) amount (value_small row c f) a
 
-value_small : (columns : List Column) (row : List Value) (at : ℕ) → AreTableKinds columns → row_fits columns row ≡ true → is_int (number_of (value_in row at)) ≡ true
-value_small [] [] at k f = refl
-value_small [] (v ∷ vs) at k f = cc
-value_small (c ∷ cs) [] at k f = refl
-value_small (c ∷ cs) (v ∷ vs) zero k f = kind_small c.kind v (both_left _ _ k) (both_left _ _ f)
-value_small (c ∷ cs) (v ∷ vs) (suc at) k f = value_small cs vs at (both_right _ _ k) (both_right _ _ f)
+row_sums : (row : List Value) (sets : List Set) → AllByRecursion IsSmall row → list_all (λ s. has_short_amount s.value) sets ≡ true → RowSumsFit sets row
+row_sums row [] f a = tt
+row_sums row (s ∷ sets) f a = (value_sum row s.value f (both_left _ _ a), row_sums row sets f (both_right _ _ a))
 
-value_sum : (columns : List Column) (row : List Value) (value : SetValue) → AreTableKinds columns → row_fits columns row ≡ true → has_short_amount value ≡ true → SumFits row value
-value_sum columns row (Literal v) k f a = tt
-value_sum columns row (OfColumn c) k f a = tt
-value_sum columns row (Plus c amount) k f a = sum_fits (number_of (value_in row c)) amount (value_small columns row c k f) a
+all_sums : (rows : List (List Value)) (sets : List Set) → AreSmallRows rows → list_all (λ s. has_short_amount s.value) sets ≡ true → SumsFit sets rows
+all_sums [] sets f a = tt
+all_sums (row ∷ rows) sets f a = (row_sums row sets f.0 a, all_sums rows sets f.1 a)
 
-row_sums : (columns : List Column) (row : List Value) (sets : List Set) → AreTableKinds columns → row_fits columns row ≡ true → list_all (λ s. has_short_amount s.value) sets ≡ true → RowSumsFit sets row
-row_sums columns row [] k f a = tt
-row_sums columns row (s ∷ sets) k f a =
-    (value_sum columns row s.value k f (both_left _ _ a), row_sums columns row sets k f (both_right _ _ a))
-
-all_sums : (columns : List Column) (rows : List (List Value)) (sets : List Set) → AreTableKinds columns → AllByRecursion (λ row. row_fits columns row ≡ true) rows
-    → list_all (λ s. has_short_amount s.value) sets ≡ true → SumsFit sets rows
-all_sums columns [] sets k f a = tt
-all_sums columns (row ∷ rows) sets k f a = (row_sums columns row sets k f.0 a, all_sums columns rows sets k f.1 a)
-
-pub change_sums : (def : TableDef) (change : Change) (rows : List (List Value)) → AreTableKinds def.columns → AllFit def rows → has_short_amounts change ≡ true → ChangeSumsFit change rows
-change_sums def (Insert table new) rows k f a = tt
-change_sums def (Update table sets c) rows k f a = all_sums def.columns rows sets k f a
-change_sums def (Delete table c) rows k f a = tt
+pub change_sums : (change : Change) (rows : List (List Value)) → AreSmallRows rows → has_short_amounts change ≡ true → ChangeSumsFit change rows
+change_sums (Insert table new) rows f a = tt
+change_sums (Update table sets c) rows f a = all_sums rows sets f a
+change_sums (Delete table c) rows f a = tt
 
 -- the sums of a change that is prepared against a transaction's own database
-pub prepared_sums : (tables : List TableDef) (change : Change) (o : Open) (t : ℕ) (def : TableDef) (rows : List (List Value))
-    → t ≡ changed_table change → def ≡ table_at tables t → rows ≡ rows_of o.own t → AreTableKinds def.columns
-    → AllFit (table_at tables (changed_table change)) (rows_of o.own (changed_table change)) → has_short_amounts change ≡ true → ChangeSumsFit change rows
-prepared_sums tables change o t def rows at is_def is_rows kinds fit short =
-    let there : AllFit (table_at tables t) (rows_of o.own t) = subst (λ (n : ℕ). AllFit (table_at tables n) (rows_of o.own n)) (sym at) fit in
-    change_sums def change rows kinds (subst (λ (d : TableDef). AllFit d rows) (sym is_def) (subst (AllFit (table_at tables t)) (sym is_rows) there)) short
+pub prepared_sums : (change : Change) (o : Open) (t : ℕ) (rows : List (List Value)) → t ≡ changed_table change → rows ≡ rows_of o.own t
+    → AreSmallRows (rows_of o.own (changed_table change)) → has_short_amounts change ≡ true → ChangeSumsFit change rows
+prepared_sums change o t rows at is_rows fit short =
+    let there : AreSmallRows (rows_of o.own t) = subst (λ (n : ℕ). AreSmallRows (rows_of o.own n)) (sym at) fit in
+    change_sums change rows (subst AreSmallRows (sym is_rows) there) short

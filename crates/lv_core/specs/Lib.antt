@@ -10,3 +10,4 @@ pub mod Preparing
 pub mod Committing
 pub mod Small
 pub mod Answering
+pub mod Named

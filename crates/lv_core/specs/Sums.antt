@@ -42,7 +42,3 @@ abbrev pub has_short_amounts : Change → Bool
 has_short_amounts (Insert table new) = true
 has_short_amounts (Update table sets c) = list_all (λ s. has_short_amount s.value) sets
 has_short_amounts (Delete table c) = true
-
--- rows that fit the columns of a table
-abbrev pub AllFit : TableDef → List (List Value) → Type 0
-AllFit def rows = AllByRecursion (λ row. row_fits def.columns row ≡ true) rows

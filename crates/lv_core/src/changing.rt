@@ -6,17 +6,15 @@ ghost use Rattle.lv_core.specs.Stops.{Meets};
 ghost use Rattle.lv_schema.specs.Databases.{rows_of};
 ghost use Rattle.lv_schema.specs.Effects.{changed_table};
 ghost use Rattle.lv_core.specs.Preparing.{GivesPrepared, with_prepared};
-ghost use Rattle.lv_core.specs.Sums.{has_short_amounts, AllFit};
-ghost use Rattle.lv_schema.specs.World.{table_at};
-ghost use Rattle.lv_schema.specs.Bound.{is_table_kind};
-ghost use Rattle.std.specs.List.{list_all};
+ghost use Rattle.lv_core.specs.Small.{AreSmallRows};
+ghost use Rattle.lv_core.specs.Sums.{has_short_amounts};
 
 use crate::applying::after_actions;
 use crate::effects::effect;
 use crate::merging::rows_of;
 use crate::stop::Stop;
 use crate::whole::{SESSIONS, Whole};
-use lv_schema::{Action, Actions, Change, Open, Schema, TableDef};
+use lv_schema::{Action, Actions, Change, Open, Schema};
 use lv_values::{Edit, NoMemory, Rows};
 use std::alloc::Global;
 
@@ -47,16 +45,6 @@ pub fn table_of(change: &Change) -> u32
     }
 }
 
-/// The table of a number that is in use. Its columns are numbers of 64 bits and texts.
-fn table_def(schema: &Schema, table: u32) -> &TableDef
-    requires { table < length schema.now.tables }
-    ensures def { result.now ≡ table_at schema.now.tables table }
-    ensures kinds { list_all (λ c. is_table_kind c.kind) result.now.columns ≡ true }
-{
-    let _tables = schema.tables();
-    schema.table(table)
-}
-
 /// A change that a transaction may keep: the number of rows, the table's rows after it, and its actions.
 #[derive(Drop)]
 pub struct Prepared {
@@ -76,12 +64,12 @@ pub fn prepare(
 ) -> Result<Prepared, Stop>
     requires table { changed_table change.now < length schema.now.tables }
     requires amounts { has_short_amounts change.now ≡ true }
-    requires rows { AllFit (table_at schema.now.tables (changed_table change.now)) (rows_of transaction.now.own (changed_table change.now)) }
+    requires rows { AreSmallRows (rows_of transaction.now.own (changed_table change.now)) }
     requires changes { transaction.now.changes < 2 ^ 32 - 1 }
     ensures { GivesPrepared schema.now.tables change.now transaction.now result }
 {
     let table = table_of(change);
-    let def = table_def(schema, table);
+    let def = schema.table(table);
     let rows = rows_of(&transaction.own, table);
     let (count, mut actions) = effect(alloc, def, change, rows)?;
     let rows = after_actions(alloc, def.key.as_slice(), actions.as_slice(), rows)?;

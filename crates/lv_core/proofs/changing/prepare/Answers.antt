@@ -5,12 +5,12 @@ use Rattle.lv_core.proofs.changing.prepare.Goals as goal
 
 pub effect-requires : goal.effect-requires
 effect-requires c =
-    prepared_sums c.args.schema.now.tables c.args.change.now c.args.transaction.now c.table_of-table.result c.table_def-def.result.now c.rows_of-rows.result.now
-    c.table_of-table.ensures c.table_def-def.ensures.def c.rows_of-rows.ensures c.table_def-def.ensures.kinds c.requires.rows c.requires.amounts
+    prepared_sums c.args.change.now c.args.transaction.now c.table_of-table.result c.rows_of-rows.result.now
+    c.table_of-table.ensures c.rows_of-rows.ensures c.requires.rows c.requires.amounts
 
 pub returns : goal.returns
 returns c =
-    prepared_is c.args.schema.now.tables c.args.change.now c.args.transaction.now c.table_of-table.result c.table_def-def.result.now c.rows_of-rows.result.now
+    prepared_is c.args.schema.now.tables c.args.change.now c.args.transaction.now c.table_of-table.result c.table-def.result.now c.rows_of-rows.result.now
     c.in_ok-rows.rows c.in_ok-count.count c.in_ok-count.actions c.edit_each.new.self
-    c.table_of-table.ensures c.table_def-def.ensures.def c.rows_of-rows.ensures c.in_ok-count.ensures
+    c.table_of-table.ensures c.table-def.ensures c.rows_of-rows.ensures c.in_ok-count.ensures
     (cc (c.in_ok-rows.ensures, c.as_slice.ensures, c.as_slice-2.ensures)) c.edit_each.ensures

@@ -1,0 +1,30 @@
+-- Each table that a reply names is in use.
+use Rattle.std.specs.Prelude.{◌<◌, ℕ, List, length, slice_index_or, Option, Some, None}
+use Rattle.std.specs.List.{AllByRecursion}
+use Rattle.lv_schema.specs.declared.action.Action.{Action}
+use Rattle.lv_schema.specs.declared.fault.Fault.{Fault}
+use Rattle.lv_schema.specs.declared.fault.Fault.TheVariants.{Duplicate, TableFull, Conflict, MergedFull}
+use Rattle.lv_schema.specs.declared.open.Open.{Open}
+use Rattle.lv_schema.specs.World.{Visible}
+use Rattle.lv_plain.specs.declared.entry.Reply.{Reply}
+use Rattle.lv_plain.specs.declared.entry.Reply.TheVariants.{Refused}
+
+-- of so many tables
+abbrev pub IsNamedFault : ℕ → Fault → Type 0
+IsNamedFault tables (Duplicate table key) = table < tables
+IsNamedFault tables (TableFull table) = table < tables
+IsNamedFault tables (Conflict table key commit) = table < tables
+IsNamedFault tables (MergedFull table) = table < tables
+IsNamedFault tables fault = Unit {0}
+
+abbrev pub IsNamedReply : ℕ → Reply → Type 0
+IsNamedReply tables (Refused fault) = IsNamedFault tables fault
+IsNamedReply tables reply = Unit {0}
+
+-- a transaction, if there is one, acts on tables in use
+abbrev pub IsNamedOpen : ℕ → Option Open → Type 0
+IsNamedOpen tables None = Unit {0}
+IsNamedOpen tables (Some o) = AllByRecursion (λ a. a.table < tables) o.actions
+
+abbrev pub AreNamedStates : Visible → Type 0
+AreNamedStates s = (session : ℕ) → IsNamedOpen (length s.tables) (slice_index_or s.sessions session None)
