@@ -13,3 +13,5 @@ pub mod SmallSteps
 pub mod Committed
 pub mod SumLemmas
 pub mod CreatedViews
+pub mod Answered
+pub mod SoundViews

@@ -1,6 +1,7 @@
 //! The core: it answers statements over whole snapshots, and its type keeps the run.
 #![tactic(auto)]
 
+mod answering;
 mod applying;
 mod autocommit;
 mod changing;

@@ -7,7 +7,7 @@ ghost use Rattle.lv_schema.specs.Cases.{queried};
 ghost use Rattle.lv_schema.specs.Databases.{rows_of};
 ghost use Rattle.lv_schema.specs.Groups.{view_rows};
 ghost use Rattle.lv_schema.specs.JoinViews.{parts_of, plain_columns};
-ghost use Rattle.lv_schema.specs.World.{transaction};
+ghost use Rattle.lv_schema.specs.World.{transaction, view_at};
 ghost use Rattle.lv_core.specs.Seen.{visible, IsWhole};
 ghost use Rattle.lv_core.specs.Small.{IsSmallDb};
 
@@ -36,6 +36,7 @@ fn view_parts(
 }
 
 /// The rows of a view by its definition. Cost: that of the join, and a copy of the tables that it reads.
+#[tactic(auto, using(crate::proofs::SmallTuples::small_tuples))]
 fn view_rows(alloc: Global, view: &ViewDef, database: &Database) -> Result<Rows, NoMemory>
     requires listed { view.now.grouped ≡ true → list_all (λ col. has_col col view.now.groups) (plain_columns view.now.items) ≡ true }
     requires small { IsSmallDb database.now }
@@ -46,6 +47,7 @@ fn view_rows(alloc: Global, view: &ViewDef, database: &Database) -> Result<Rows,
 }
 
 /// The view of a number that is in use, whose definition is sound.
+#[tactic(auto, using(crate::proofs::SoundViews::sound_listed))]
 fn sound_view(schema: &Schema, view: u32) -> &ViewDef
     requires { view < length schema.now.views }
     ensures view { result.now ≡ view_at schema.now.views view }
