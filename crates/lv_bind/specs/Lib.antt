@@ -1,0 +1,15 @@
+pub mod Ambiguous
+pub mod Assigned
+pub mod Binding
+pub mod Faults
+pub mod InUse
+pub mod Kinds
+pub mod Limits
+pub mod Pieces
+pub mod Profile
+pub mod Ranges
+pub mod Rights
+pub mod Seen
+pub mod Sources
+pub mod Unknown
+pub mod Spoken
