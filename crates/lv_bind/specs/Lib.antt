@@ -9,6 +9,7 @@ pub mod Pieces
 pub mod Profile
 pub mod Ranges
 pub mod Rights
+pub mod Sample
 pub mod Seen
 pub mod Sources
 pub mod Unknown

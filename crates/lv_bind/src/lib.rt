@@ -4,6 +4,8 @@
 mod ambiguous;
 mod assigned;
 mod binding;
+#[cfg(test)]
+mod cases;
 mod creating;
 mod entries;
 mod in_use;
@@ -14,6 +16,12 @@ mod profile;
 mod ranges;
 mod refusals;
 mod rights;
+#[cfg(test)]
+mod sample;
 mod sources;
 mod statement;
+#[cfg(test)]
+mod tests;
 mod unknown;
+
+pub use statement::{BindFault, bind};
