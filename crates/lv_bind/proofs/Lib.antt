@@ -1,0 +1,4 @@
+pub mod FaultLemmas
+pub mod NarrowLemmas
+pub mod SampleLemmas
+pub mod SourceLemmas

@@ -1,0 +1,8 @@
+use Rattle.std.proofs.Common.{◌≡◌, map, drop, take}
+use Rattle.lv_bind.specs.Binding.{bound_column, key_place, bound_item, table_numbers}
+use Rattle.lv_bind.specs.Seen.{alias_seen}
+use Rattle.lv_bind.proofs.creating.bound_items.Given as goal
+
+abbrev pub invariant-loop-item : goal.invariant-loop-item
+invariant-loop-item l =
+    l.out ≡ map (bound_item (map (alias_seen l.schema.tables l.schema.views) l.sources)) (take l.item-index l.items)

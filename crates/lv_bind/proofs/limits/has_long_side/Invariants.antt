@@ -1,0 +1,9 @@
+use Rattle.std.proofs.Common.{◌≡◌, map, drop, take, [], nat_lt, ◌+◌, ◌≤◌}
+use Rattle.std.specs.List.{list_any, flat_map}
+use Rattle.lv_bind.specs.Limits.{lengths, value_texts, tuple_texts, compared_texts, assign_texts, column_total}
+use Rattle.lv_bind.specs.Seen.{sides_seen}
+use Rattle.lv_bind.proofs.limits.has_long_side.Given as goal
+
+abbrev pub invariant-loop-left : goal.invariant-loop-left
+invariant-loop-left l =
+    list_any (nat_lt 256) (lengths (compared_texts (map sides_seen (drop l.left-index l.comparisons)))) ≡ list_any (nat_lt 256) (lengths (compared_texts (map sides_seen l.comparisons)))

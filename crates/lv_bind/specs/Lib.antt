@@ -1,0 +1,16 @@
+pub mod Ambiguous
+pub mod Assigned
+pub mod Binding
+pub mod Faults
+pub mod InUse
+pub mod Kinds
+pub mod Limits
+pub mod Pieces
+pub mod Profile
+pub mod Ranges
+pub mod Rights
+pub mod Sample
+pub mod Seen
+pub mod Sources
+pub mod Unknown
+pub mod Spoken

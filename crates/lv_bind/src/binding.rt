@@ -1,0 +1,278 @@
+//! The bound statement: names are numbers.
+ghost use Rattle.std.specs.Prelude.{◌≡◌, ◌++◌, map, IfOk, OnOk};
+ghost use Rattle.lv_bind.specs.Binding.{IsNarrow, bound_col, bound_literal, bound_side, bound_op, bound_cond, bound_rows, bound_value, bound_set, bound_order, columns_from, bound_list, bound_rels, table_number};
+ghost use Rattle.std.specs.List.{range_with_len};
+ghost use Rattle.lv_schema.specs.Catalog.{rel_named};
+ghost use Rattle.lv_bind.specs.Seen.{alias_seen, column_seen};
+
+use crate::pieces::Mention;
+use crate::sources::{Source, place_of};
+use lv_parser::{
+    Assign, AssignValue, ColName, ColNames, CondTree, Literal, Named, OperandTree, RefTree, Sign,
+    Tuple,
+};
+use lv_schema::{
+    Col, Cols, Cond, Conds, Op, Operand, OrderCols, Rel, Rels, Schema, Set, SetValue, Sets,
+};
+use lv_values::{Boxed, Copying, Items, NoMemory, Row, Rows, Value};
+use std::alloc::Global;
+
+/// The column that is named, among few aliases of few columns.
+#[tactic(auto, using(crate::proofs::NarrowLemmas::narrow_alias, crate::proofs::NarrowLemmas::narrow_column))]
+pub(crate) fn bound_col(schema: &Schema, sources: &[Source<'_>], column: Mention<'_>) -> Col
+    requires { IsNarrow (map (alias_seen schema.now.tables schema.now.views) sources.now) }
+    ensures { result ≡ bound_col (map (alias_seen schema.now.tables schema.now.views) sources.now) (column_seen column.entry) }
+{
+    let place = place_of(schema, sources, column);
+    Col {
+        alias: place.alias as u8,
+        column: place.column as u8,
+    }
+}
+
+fn bound_literal(alloc: Global, value: &Value) -> Result<Operand, NoMemory>
+    ensures { IfOk result (λ operand. operand ≡ bound_literal value.now) }
+{
+    match value {
+        Value::Num(number) => Ok(Operand::Number(*number)),
+        Value::Text(text) => Ok(Operand::Text(text.copy(alloc)?)),
+    }
+}
+
+fn bound_side(
+    alloc: Global,
+    schema: &Schema,
+    sources: &[Source<'_>],
+    side: &OperandTree,
+) -> Result<Operand, NoMemory>
+    requires { IsNarrow (map (alias_seen schema.now.tables schema.now.views) sources.now) }
+    ensures { IfOk result (λ operand. operand ≡ bound_side (map (alias_seen schema.now.tables schema.now.views) sources.now) side.now) }
+{
+    match side {
+        OperandTree::Column(column) => Ok(Operand::Column(bound_col(
+            schema,
+            sources,
+            Mention::of(column),
+        ))),
+        OperandTree::Literal(literal) => bound_literal(alloc, &literal.value),
+    }
+}
+
+fn bound_op(sign: Sign) -> Op
+    ensures { result ≡ bound_op sign }
+{
+    match sign {
+        Sign::Eq => Op::Eq,
+        Sign::Ne => Op::Ne,
+        Sign::Lt => Op::Lt,
+        Sign::Le => Op::Le,
+        Sign::Gt => Op::Gt,
+        Sign::Ge => Op::Ge,
+    }
+}
+
+/// The condition on these aliases. Cost: linear, with a look-up for each column.
+#[cycle(bound_cond)]
+pub(crate) fn bound_cond(
+    alloc: Global,
+    schema: &Schema,
+    sources: &[Source<'_>],
+    cond: &CondTree,
+) -> Result<Cond, NoMemory>
+    requires { IsNarrow (map (alias_seen schema.now.tables schema.now.views) sources.now) }
+    ensures { IfOk result (λ c. c ≡ bound_cond (map (alias_seen schema.now.tables schema.now.views) sources.now) cond.now) }
+{
+    match cond {
+        CondTree::True => Ok(Cond::True),
+        CondTree::Cmp { op, left, right } => Ok(Cond::Cmp {
+            op: bound_op(*op),
+            left: bound_side(alloc, schema, sources, left)?,
+            right: bound_side(alloc, schema, sources, right)?,
+        }),
+        CondTree::And(parts) => Ok(Cond::And(bound_conds(
+            alloc,
+            schema,
+            sources,
+            parts.as_slice(),
+        )?)),
+        CondTree::Or(parts) => Ok(Cond::Or(bound_conds(alloc, schema, sources, parts.as_slice())?)),
+        CondTree::Not(part) => Ok(Cond::Not(Boxed::new(
+            alloc,
+            bound_cond(alloc, schema, sources, part.get())?,
+        )?)),
+    }
+}
+
+#[cycle(bound_cond)]
+fn bound_conds(
+    alloc: Global,
+    schema: &Schema,
+    sources: &[Source<'_>],
+    conds: &[CondTree],
+) -> Result<Conds, NoMemory>
+    requires { IsNarrow (map (alias_seen schema.now.tables schema.now.views) sources.now) }
+    ensures { IfOk result (λ cs. cs ≡ map (bound_cond (map (alias_seen schema.now.tables schema.now.views) sources.now)) conds.now) }
+{
+    let mut out = Items::new(alloc);
+    for cond in conds {
+        out.push(bound_cond(alloc, schema, sources, cond)?)?;
+    }
+    Ok(out)
+}
+
+/// The values of a tuple.
+fn bound_row(alloc: Global, values: &[Literal]) -> Result<Row, NoMemory>
+    ensures { IfOk result (λ row. row ≡ map (λ l. l.value) values.now) }
+{
+    let mut row = Row::new(alloc);
+    for literal in values {
+        row.push(literal.value.copy(alloc)?)?;
+    }
+    Ok(row)
+}
+
+/// The rows of an INSERT. Cost: linear.
+pub(crate) fn bound_rows(alloc: Global, tuples: &[Tuple]) -> Result<Rows, NoMemory>
+    ensures { IfOk result (λ rows. rows ≡ bound_rows tuples.now) }
+{
+    let mut rows = Rows::new(alloc);
+    for tuple in tuples {
+        rows.push(bound_row(alloc, tuple.values.as_slice())?)?;
+    }
+    Ok(rows)
+}
+
+fn bound_value(
+    alloc: Global,
+    schema: &Schema,
+    sources: &[Source<'_>],
+    value: &AssignValue,
+) -> Result<SetValue, NoMemory>
+    requires { IsNarrow (map (alias_seen schema.now.tables schema.now.views) sources.now) }
+    ensures { IfOk result (λ v. v ≡ bound_value (map (alias_seen schema.now.tables schema.now.views) sources.now) value.now) }
+{
+    match value {
+        AssignValue::Literal(literal) => Ok(SetValue::Literal(literal.value.copy(alloc)?)),
+        AssignValue::Column(column) => {
+            Ok(SetValue::Column(bound_col(schema, sources, Mention::alone(column)).column))
+        }
+        AssignValue::Plus { column, amount } => Ok(SetValue::Plus {
+            column: bound_col(schema, sources, Mention::alone(column)).column,
+            amount: *amount,
+        }),
+    }
+}
+
+/// The columns that an UPDATE of this alias sets.
+pub(crate) fn bound_sets(
+    alloc: Global,
+    schema: &Schema,
+    sources: &[Source<'_>],
+    sets: &[Assign],
+) -> Result<Sets, NoMemory>
+    requires { IsNarrow (map (alias_seen schema.now.tables schema.now.views) sources.now) }
+    ensures { IfOk result (λ found. found ≡ map (bound_set (map (alias_seen schema.now.tables schema.now.views) sources.now)) sets.now) }
+{
+    let mut out = Sets::new(alloc);
+    for assign in sets {
+        out.push(Set {
+            column: bound_col(schema, sources, Mention::alone(&assign.column)).column,
+            value: bound_value(alloc, schema, sources, &assign.value)?,
+        })?;
+    }
+    Ok(out)
+}
+
+/// The columns that are listed.
+pub(crate) fn bound_cols(
+    alloc: Global,
+    schema: &Schema,
+    sources: &[Source<'_>],
+    columns: &[ColName],
+) -> Result<Cols, NoMemory>
+    requires { IsNarrow (map (alias_seen schema.now.tables schema.now.views) sources.now) }
+    ensures { IfOk result (λ cols. cols ≡ map (bound_col (map (alias_seen schema.now.tables schema.now.views) sources.now)) columns.now) }
+{
+    let mut out = Cols::new(alloc);
+    for column in columns {
+        out.push(bound_col(schema, sources, Mention::of(column)))?;
+    }
+    Ok(out)
+}
+
+/// The columns of ORDER BY.
+pub(crate) fn bound_order(
+    alloc: Global,
+    schema: &Schema,
+    sources: &[Source<'_>],
+    order: &[(ColName, bool)],
+) -> Result<OrderCols, NoMemory>
+    requires { IsNarrow (map (alias_seen schema.now.tables schema.now.views) sources.now) }
+    ensures { IfOk result (λ cols. cols ≡ bound_order (map (alias_seen schema.now.tables schema.now.views) sources.now) order.now) }
+{
+    let mut out = OrderCols::new(alloc);
+    for (column, falls) in order {
+        out.push((bound_col(schema, sources, Mention::of(column)), *falls))?;
+    }
+    Ok(out)
+}
+
+/// Puts as many columns of an alias at the end.
+fn push_each(alias: u8, width: u8, out: &mut Cols) -> Result<(), NoMemory>
+    ensures { OnOk result (out.new ≡ out.old ++ map (λ k. record { alias = alias; column = k }) (range_with_len 0 width)) }
+{
+    for column in 0..width {
+        out.push(Col { alias, column })?;
+    }
+    Ok(())
+}
+
+/// All columns of all aliases, which `*` lists.
+#[tactic(auto, using(crate::proofs::NarrowLemmas::narrow_width))]
+fn every_col(alloc: Global, schema: &Schema, sources: &[Source<'_>]) -> Result<Cols, NoMemory>
+    requires { IsNarrow (map (alias_seen schema.now.tables schema.now.views) sources.now) }
+    ensures { IfOk result (λ cols. cols ≡ columns_from 0 (map (alias_seen schema.now.tables schema.now.views) sources.now)) }
+{
+    let mut out = Cols::new(alloc);
+    for (alias, source) in sources.iter().enumerate() {
+        push_each(alias as u8, source.width(schema) as u8, &mut out)?;
+    }
+    Ok(out)
+}
+
+/// The list of a query.
+pub(crate) fn bound_list(
+    alloc: Global,
+    schema: &Schema,
+    sources: &[Source<'_>],
+    list: &Option<ColNames>,
+) -> Result<Cols, NoMemory>
+    requires { IsNarrow (map (alias_seen schema.now.tables schema.now.views) sources.now) }
+    ensures { IfOk result (λ cols. cols ≡ bound_list (map (alias_seen schema.now.tables schema.now.views) sources.now) list.now) }
+{
+    match list {
+        None => every_col(alloc, schema, sources),
+        Some(columns) => bound_cols(alloc, schema, sources, columns.as_slice()),
+    }
+}
+
+/// What the aliases of a FROM stand for.
+pub(crate) fn bound_rels(alloc: Global, schema: &Schema, refs: &[RefTree]) -> Result<Rels, NoMemory>
+    ensures { IfOk result (λ rels. rels ≡ bound_rels schema.now.tables schema.now.views refs.now) }
+{
+    let mut out = Rels::new(alloc);
+    for table in refs {
+        out.push(schema.find(&table.name.name).unwrap_or(Rel::Table(0)))?;
+    }
+    Ok(out)
+}
+
+/// The number of a table, 0 where the name is of none.
+pub(crate) fn table_number(schema: &Schema, table: &Named) -> u32
+    ensures { result ≡ table_number (rel_named schema.now.tables schema.now.views table.now.name) }
+{
+    match schema.find(&table.name) {
+        Some(Rel::Table(number)) => number,
+        Some(Rel::View(_)) | None => 0,
+    }
+}

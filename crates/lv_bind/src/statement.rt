@@ -1,0 +1,200 @@
+//! Binding of a statement.
+ghost use Rattle.std.specs.Prelude.{◌≡◌, ◌∷◌, map, IfOk, None, Ok, Err};
+ghost use Rattle.lv_bind.specs.Binding.{IsNarrow, IsSmallTable, IsSmallView, bound_among};
+ghost use Rattle.lv_bind.specs.Faults.{lowest, reading_faults, profile_fault, later_faults, bound_of};
+ghost use Rattle.lv_bind.specs.Seen.{alias_seen};
+ghost use Rattle.lv_bind.specs.Sources.{AreNarrow, sources_of};
+ghost use Rattle.lv_schema.specs.declared.fault.Fault.{Fault};
+
+use crate::binding::{
+    bound_cond, bound_list, bound_order, bound_rels, bound_rows, bound_sets, table_number,
+};
+use crate::creating::{bound_table, bound_view};
+use crate::pieces::{columns_in, comparisons_in};
+use crate::profile::profile;
+use crate::refusals::{later_fault, reading_fault};
+use crate::sources::{Source, sources};
+use lv_parser::Stmt;
+use lv_schema::{Bound, Change, Fault, Query, Schema};
+use lv_values::NoMemory;
+use std::alloc::Global;
+
+/// Why a statement is not bound.
+#[derive(Drop)]
+pub enum BindFault {
+    /// The statement is refused.
+    Stmt(Fault),
+    /// Memory was refused.
+    NoMemory,
+}
+
+impl From<NoMemory> for BindFault {
+    ghost use Rattle.std.specs.Prelude.{◌≡◌};
+    ghost use Rattle.lv_bind.specs.declared.statement.BindFault.TheVariants.{NoMemory};
+
+    ghost from_gives = { λ _ e. e ≡ NoMemory };
+
+    fn from(_: NoMemory) -> BindFault {
+        BindFault::NoMemory
+    }
+}
+
+/// What a statement with these aliases is bound to, once none of the faults 2 to 6 refuses it.
+fn bound_among(
+    alloc: Global,
+    schema: &Schema,
+    stmt: &Stmt,
+    sources: &[Source<'_>],
+) -> Result<Bound, NoMemory>
+    requires narrow { IsNarrow (map (alias_seen schema.now.tables schema.now.views) sources.now) }
+    requires small { IsSmallTable stmt.now }
+    ensures { IfOk result (λ b. b ≡ bound_among schema.now.tables schema.now.views (map (alias_seen schema.now.tables schema.now.views) sources.now) stmt.now) }
+{
+    match stmt {
+        Stmt::CreateTable { name, columns, key } => Ok(Bound::Table(bound_table(
+            alloc,
+            schema,
+            name,
+            columns.as_slice(),
+            key.as_slice(),
+        )?)),
+        Stmt::CreateView {
+            name,
+            items,
+            refs,
+            cond,
+            groups,
+        } => Ok(Bound::View(bound_view(
+            alloc,
+            schema,
+            sources,
+            name,
+            items.as_slice(),
+            refs.as_slice(),
+            cond,
+            groups.as_slice(),
+        )?)),
+        Stmt::Insert { table, tuples } => Ok(Bound::Change(Change::Insert {
+            table: table_number(schema, table),
+            rows: bound_rows(alloc, tuples.as_slice())?,
+        })),
+        Stmt::Update { table, sets, cond } => Ok(Bound::Change(Change::Update {
+            table: table_number(schema, table),
+            sets: bound_sets(alloc, schema, sources, sets.as_slice())?,
+            cond: bound_cond(alloc, schema, sources, cond)?,
+        })),
+        Stmt::Delete { table, cond } => Ok(Bound::Change(Change::Delete {
+            table: table_number(schema, table),
+            cond: bound_cond(alloc, schema, sources, cond)?,
+        })),
+        Stmt::Select {
+            list,
+            refs,
+            cond,
+            order,
+        } => Ok(Bound::Query(Query {
+            rels: bound_rels(alloc, schema, refs.as_slice())?,
+            cond: bound_cond(alloc, schema, sources, cond)?,
+            list: bound_list(alloc, schema, sources, list)?,
+            order: bound_order(alloc, schema, sources, order.as_slice())?,
+        })),
+        Stmt::Begin => Ok(Bound::Begin),
+        Stmt::Commit => Ok(Bound::Commit),
+        Stmt::Rollback => Ok(Bound::Rollback),
+        Stmt::ShowTasks => Ok(Bound::Tasks),
+    }
+}
+
+/// The lowest of the faults 2 to 6 of a statement with these aliases.
+fn early_fault(
+    alloc: Global,
+    schema: &Schema,
+    stmt: &Stmt,
+    sources: &[Source<'_>],
+) -> Result<Option<Fault>, NoMemory>
+    requires { map (alias_seen schema.now.tables schema.now.views) sources.now ≡ sources_of schema.now.tables schema.now.views stmt.now }
+    ensures { IfOk result (λ found. found ≡ lowest (reading_faults schema.now.tables schema.now.views stmt.now)) }
+{
+    let comparisons = comparisons_in(alloc, stmt)?;
+    let columns = columns_in(alloc, stmt, comparisons.as_slice())?;
+    reading_fault(
+        alloc,
+        schema,
+        stmt,
+        sources,
+        columns.as_slice(),
+        comparisons.as_slice(),
+    )
+}
+
+/// The lowest of the faults 7 to 12 of a statement with these aliases, which is bound to this.
+fn late_fault(
+    alloc: Global,
+    schema: &Schema,
+    setup: bool,
+    live: bool,
+    stmt: &Stmt,
+    sources: &[Source<'_>],
+    bound: &Bound,
+) -> Result<Option<Fault>, NoMemory>
+    requires sources { map (alias_seen schema.now.tables schema.now.views) sources.now ≡ sources_of schema.now.tables schema.now.views stmt.now }
+    requires small { IsSmallView bound.now }
+    requires bound { bound.now ≡ bound_among schema.now.tables schema.now.views (sources_of schema.now.tables schema.now.views stmt.now) stmt.now }
+    ensures { IfOk result (λ found. found ≡ lowest (profile_fault schema.now.tables schema.now.views stmt.now ∷ later_faults schema.now.tables schema.now.views setup live stmt.now)) }
+{
+    if let Some(rule) = profile(schema, stmt, bound) {
+        return Ok(Some(Fault::Profile { rule }));
+    }
+    later_fault(alloc, schema, setup, live, stmt, sources)
+}
+
+/// Binds a statement with these aliases, which none of the faults 2 to 6 refuses.
+#[tactic(auto, using(crate::proofs::FaultLemmas::narrow_sources, crate::proofs::FaultLemmas::small_table, crate::proofs::FaultLemmas::small_view, crate::proofs::FaultLemmas::refused_later, crate::proofs::FaultLemmas::bound_unrefused))]
+fn bind_readable(
+    alloc: Global,
+    schema: &Schema,
+    setup: bool,
+    live: bool,
+    stmt: &Stmt,
+    sources: &[Source<'_>],
+) -> Result<Bound, BindFault>
+    requires sources { map (alias_seen schema.now.tables schema.now.views) sources.now ≡ sources_of schema.now.tables schema.now.views stmt.now }
+    requires narrow { AreNarrow (map (alias_seen schema.now.tables schema.now.views) sources.now) }
+    requires readable { lowest (reading_faults schema.now.tables schema.now.views stmt.now) ≡ None }
+    ensures found { IfOk result (λ b. bound_of schema.now.tables schema.now.views setup live stmt.now ≡ Ok b) }
+    ensures refused { (fault : Fault) → result ≡ Err (BindFault.Stmt fault) → bound_of schema.now.tables schema.now.views setup live stmt.now ≡ Err fault }
+{
+    let bound = bound_among(alloc, schema, stmt, sources)?;
+    match late_fault(alloc, schema, setup, live, stmt, sources, &bound)? {
+        Some(fault) => Err(BindFault::Stmt(fault)),
+        None => Ok(bound),
+    }
+}
+
+/// Binds a statement against a schema, for the setup or for another session, with a live transaction or without one: its
+/// names become numbers.
+///
+/// # Errors
+/// The statement is refused: of its faults 2 to 12 the lowest number, and of that the first place. Of fault 12 only the
+/// numbers that stand in the statement are seen here; what the rows decide comes when the statement runs. Or memory was
+/// refused.
+///
+/// Cost: linear in the statement, but for a search of the aliases' columns for each column, and of the names before it
+/// for each name that may stand only once.
+#[tactic(auto, using(crate::proofs::FaultLemmas::refused_reading))]
+pub fn bind(
+    alloc: Global,
+    schema: &Schema,
+    setup: bool,
+    live: bool,
+    stmt: &Stmt,
+) -> Result<Bound, BindFault>
+    ensures found { IfOk result (λ b. bound_of schema.now.tables schema.now.views setup live stmt.now ≡ Ok b) }
+    ensures refused { (fault : Fault) → result ≡ Err (BindFault.Stmt fault) → bound_of schema.now.tables schema.now.views setup live stmt.now ≡ Err fault }
+{
+    let found = sources(alloc, schema, stmt)?;
+    match early_fault(alloc, schema, stmt, found.as_slice())? {
+        Some(fault) => Err(BindFault::Stmt(fault)),
+        None => bind_readable(alloc, schema, setup, live, stmt, found.as_slice()),
+    }
+}

@@ -1,0 +1,132 @@
+//! Fault 2: names that stand for nothing.
+ghost use Rattle.std.specs.Prelude.{◌≡◌, map};
+ghost use Rattle.std.specs.Option.{option_copied};
+ghost use Rattle.lv_bind.specs.Pieces.{columns_in};
+ghost use Rattle.lv_bind.specs.Seen.{alias_seen, column_seen};
+ghost use Rattle.lv_bind.specs.Sources.{first, sources_of};
+ghost use Rattle.lv_bind.specs.Unknown.{unknown_refs, unknown_table, unknown_rels, unknown_qualifier, unknown_in, unknown_columns, is_column, unknown_key, unknown_keys, unknown};
+
+use crate::pieces::Mention;
+use crate::sources::{Fit, Source, resolve};
+use lv_parser::{ColumnTree, Named, RefTree, Stmt};
+use lv_schema::{Rel, Schema};
+use lv_values::Text;
+
+fn unknown_ref<'a>(schema: &Schema, refs: &'a [RefTree]) -> Option<&'a Text>
+    ensures { option_copied result ≡ first (unknown_refs schema.now.tables schema.now.views refs.now) }
+{
+    for table in refs {
+        if schema.find(&table.name.name).is_none() {
+            return Some(&table.name.name);
+        }
+    }
+    None
+}
+
+fn unknown_table<'a>(schema: &Schema, table: &'a Named) -> Option<&'a Text>
+    ensures { option_copied result ≡ first (unknown_table schema.now.tables schema.now.views table.now) }
+{
+    match schema.find(&table.name) {
+        Some(Rel::Table(_)) => None,
+        Some(Rel::View(_)) | None => Some(&table.name),
+    }
+}
+
+/// The first table or view that is not in the schema, or that is a view where a table is needed.
+fn unknown_rel<'a>(schema: &Schema, stmt: &'a Stmt) -> Option<&'a Text>
+    ensures { option_copied result ≡ first (unknown_rels schema.now.tables schema.now.views stmt.now) }
+{
+    match stmt {
+        Stmt::CreateView { refs, .. } | Stmt::Select { refs, .. } => {
+            unknown_ref(schema, refs.as_slice())
+        }
+        Stmt::Insert { table, .. } | Stmt::Update { table, .. } | Stmt::Delete { table, .. } => {
+            unknown_table(schema, table)
+        }
+        _ => None,
+    }
+}
+
+fn unknown_qualifier<'a>(
+    schema: &Schema,
+    sources: &[Source<'_>],
+    qualifier: Option<&'a Named>,
+) -> Option<&'a Text>
+    ensures { option_copied result ≡ first (unknown_qualifier (map (alias_seen schema.now.tables schema.now.views) sources.now) (option_copied qualifier.entry)) }
+{
+    let qualifier = qualifier?;
+    for source in sources {
+        if qualifier.name == *source.alias {
+            return None;
+        }
+    }
+    Some(&qualifier.name)
+}
+
+/// What is unknown of a column: its qualifier, or the column itself.
+fn unknown_in<'a>(schema: &Schema, sources: &[Source<'_>], column: Mention<'a>) -> Option<&'a Text>
+    ensures { option_copied result ≡ first (unknown_in (map (alias_seen schema.now.tables schema.now.views) sources.now) (column_seen column.entry)) }
+{
+    if let Some(name) = unknown_qualifier(schema, sources, column.qualifier) {
+        return Some(name);
+    }
+    match resolve(schema, sources, column) {
+        Fit::Nothing => Some(&column.name.name),
+        Fit::One(_) | Fit::Several(_) => None,
+    }
+}
+
+fn unknown_column<'a>(
+    schema: &Schema,
+    sources: &[Source<'_>],
+    columns: &[Mention<'a>],
+) -> Option<&'a Text>
+    ensures { option_copied result ≡ first (unknown_columns (map (alias_seen schema.now.tables schema.now.views) sources.now) (map column_seen columns.now)) }
+{
+    for column in columns {
+        if let Some(name) = unknown_in(schema, sources, *column) {
+            return Some(name);
+        }
+    }
+    None
+}
+
+fn is_column(columns: &[ColumnTree], name: &Text) -> bool
+    ensures { result ≡ is_column columns.now name.now }
+{
+    columns.iter().any(|column| *name == column.name.name)
+}
+
+fn unknown_key<'a>(columns: &[ColumnTree], key: &'a [Named]) -> Option<&'a Text>
+    ensures { option_copied result ≡ first (unknown_key columns.now key.now) }
+{
+    for column in key {
+        if !is_column(columns, &column.name) {
+            return Some(&column.name);
+        }
+    }
+    None
+}
+
+/// The first unknown name of a statement with these aliases and columns.
+pub(crate) fn unknown<'a>(
+    schema: &Schema,
+    stmt: &'a Stmt,
+    sources: &[Source<'_>],
+    columns: &[Mention<'a>],
+) -> Option<&'a Text>
+    requires sources { map (alias_seen schema.now.tables schema.now.views) sources.now ≡ sources_of schema.now.tables schema.now.views stmt.now }
+    requires columns { map column_seen columns.now ≡ columns_in stmt.now }
+    ensures { option_copied result ≡ first (unknown schema.now.tables schema.now.views stmt.now) }
+{
+    if let Some(name) = unknown_rel(schema, stmt) {
+        return Some(name);
+    }
+    if let Some(name) = unknown_column(schema, sources, columns) {
+        return Some(name);
+    }
+    match stmt {
+        Stmt::CreateTable { columns, key, .. } => unknown_key(columns.as_slice(), key.as_slice()),
+        _ => None,
+    }
+}
