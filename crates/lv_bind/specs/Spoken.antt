@@ -81,7 +81,7 @@ nesting = fold-CondTree ℕ nesting_step
 pub record IsSpokenCond (c : CondTree) : Type 0 where
   pub in_line : cond_in_line c ≡ true
   pub chained : is_chained c ≡ true
-  pub shallow : nesting c ≤ 130
+  pub shallow : nesting c ≤ 131
 
 -- the name that an item of a view's list gets
 abbrev pub output_name : ItemTree → List ℕ

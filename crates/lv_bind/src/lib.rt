@@ -15,5 +15,8 @@ mod ranges;
 mod refusals;
 mod rights;
 mod sources;
+mod spoken;
 mod statement;
 mod unknown;
+
+pub use spoken::lines_are_spoken;
