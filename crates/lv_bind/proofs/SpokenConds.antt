@@ -5,8 +5,6 @@ use Rattle.std.specs.List.{list_all}
 use Rattle.lv_lexer.specs.declared.terminals.Class.{Class}
 use Rattle.lv_lexer.specs.declared.terminals.Class.TheVariants as k
 use Rattle.lv_lexer.specs.declared.terminals.Terminal.{Terminal}
-use Rattle.lv_parser.specs.declared.conditions.Within.{Within}
-use Rattle.lv_parser.specs.declared.sources.Joined.{Joined}
 use Rattle.lv_parser.specs.declared.tree.Named.{Named}
 use Rattle.lv_parser.specs.declared.tree.ColName.{ColName}
 use Rattle.lv_parser.specs.declared.tree.CondTree.{CondTree, the_lemmas}
@@ -24,6 +22,22 @@ use Rattle.lv_parser.specs.Trees.{column_of, number_at, gathered, cond_or_true, 
 use Rattle.lv_schema.specs.Bound.{deepest}
 use Rattle.lv_bind.specs.Spoken.{is_spoken_name, value_in_line, side_in_line, cond_in_line, texts_step, is_chained, chains_step, nesting, nesting_step, IsSpokenCond}
 use Rattle.lv_bind.proofs.SpokenRules.{Keeps, IsOf, token_keeps, pure_keeps, then_keeps, word_then, made_keeps, or_keeps, weaker, OnFound, optional_keeps, EachOf, many_keeps, SomeOf, separated_keeps, each_of, all_pass}
+
+-- ---- two types that the parser has no public name for
+
+abbrev domain : {A : Type 0} → (A → Rule CondTree) → Type 0
+domain {A = A} f = A
+
+abbrev elements : {A : Type 0} → (List A → List RefTree) → Type 0
+elements {A = A} f = A
+
+-- where a condition stands
+abbrev pub Within : Type 0
+Within = domain rule.cond
+
+-- a reference after FROM, with its ON condition
+abbrev pub Joined : Type 0
+Joined = elements tables_of
 
 -- ---- names, values and sides
 

@@ -5,8 +5,6 @@ use Rattle.std.proofs.lemmas.List.Folds.{list_all-map}
 use Rattle.lv_lexer.specs.declared.terminals.Class.{Class}
 use Rattle.lv_lexer.specs.declared.terminals.Class.TheVariants as k
 use Rattle.lv_lexer.proofs.Spans.{each_token}
-use Rattle.lv_parser.specs.declared.conditions.Within.TheVariants as stands
-use Rattle.lv_parser.specs.declared.sources.Joined.{Joined}
 use Rattle.lv_parser.specs.declared.tree.Assign.{Assign}
 use Rattle.lv_parser.specs.declared.tree.ColName.{ColName}
 use Rattle.lv_parser.specs.declared.tree.ColumnTree.{ColumnTree}
@@ -42,7 +40,7 @@ create_view_keeps : Keeps rule.create_view IsSpoken
 unfolding rule.create_view
 create_view_keeps =
     word_then k.Create (word_then k.View (then_keeps name_keeps (λ view e. word_then k.As (word_then k.Select (then_keeps (separated_keeps k.Comma item_keeps) (λ items is.
-        then_keeps (from_keeps stands.View) (λ joined js. then_keeps (filter_keeps stands.View) (λ kept h.
+        then_keeps (from_keeps _) (λ joined js. then_keeps (filter_keeps _) (λ kept h.
         made_keeps IsSpoken (optional_keeps (two_then k.Group k.By (separated_keeps k.Comma col_keeps))) (λ groups g.
         (e, is.0, named items is.1, some_tables joined js.0, joined_spoken joined kept js.1 h))))))))))
   where
@@ -59,17 +57,17 @@ update_keeps : Keeps rule.update IsSpoken
 unfolding rule.update
 update_keeps =
     word_then k.Update (then_keeps name_keeps (λ table e. word_then k.Set (then_keeps (separated_keeps k.Comma assign_keeps) (λ sets ss.
-        made_keeps IsSpoken (filter_keeps stands.Query) (λ kept h. (ss.0, all_pass (λ (x : Assign). assigned_in_line x.value) sets ss.1, kept_spoken kept h))))))
+        made_keeps IsSpoken (filter_keeps _) (λ kept h. (ss.0, all_pass (λ (x : Assign). assigned_in_line x.value) sets ss.1, kept_spoken kept h))))))
 
 delete_keeps : Keeps rule.delete IsSpoken
 unfolding rule.delete
-delete_keeps = word_then k.Delete (word_then k.From (then_keeps name_keeps (λ table e. made_keeps IsSpoken (filter_keeps stands.Query) (λ kept h. kept_spoken kept h))))
+delete_keeps = word_then k.Delete (word_then k.From (then_keeps name_keeps (λ table e. made_keeps IsSpoken (filter_keeps _) (λ kept h. kept_spoken kept h))))
 
 select_keeps : Keeps rule.select IsSpoken
 unfolding rule.select
 select_keeps =
     word_then k.Select (then_keeps (or_keeps (word_then k.Star (pure_keeps IsSomeList None tt)) (made_keeps IsSomeList (separated_keeps k.Comma col_keeps) (λ cols h. h.0))) (λ listed l.
-        then_keeps (from_keeps stands.Query) (λ joined js. then_keeps (filter_keeps stands.Query) (λ kept h.
+        then_keeps (from_keeps _) (λ joined js. then_keeps (filter_keeps _) (λ kept h.
         made_keeps IsSpoken (optional_keeps (two_then k.Order k.By (separated_keeps k.Comma ord_keeps))) (λ order o.
         (l, some_tables joined js.0, joined_spoken joined kept js.1 h))))))
 
