@@ -1,14 +1,10 @@
 -- What the parts of every statement of a line keep.
-use Rattle.std.proofs.Common.{◌≡◌, ℕ, zero, suc, ℤ, pos, negsuc, nat_abs, ◌-ℤ◌, ◌^◌, ◌<◌, Bool, true, false, nat_lt, List, [], ◌∷◌, Option, Some, None, unwrap_or, refl, ap, ◌∙◌, arith}
-use Rattle.std.specs.List.{list_all}
+use Rattle.std.proofs.Common.{◌≡◌, ℕ, zero, suc, ℤ, pos, negsuc, nat_abs, ◌-ℤ◌, ◌^◌, ◌<◌, Bool, true, nat_lt, Option, Some, None, refl, ap, ◌∙◌, arith}
 use Rattle.std.proofs.lemmas.Bool.{lt-ltb}
 use Rattle.std.proofs.lemmas.Int.{ints}
 use Rattle.lv_lexer.specs.declared.terminals.Class.{Class}
 use Rattle.lv_lexer.specs.declared.terminals.Class.TheVariants as k
-use Rattle.lv_lexer.specs.declared.terminals.Terminal.{Terminal}
 use Rattle.lv_parser.specs.declared.tree.Assign.{Assign}
-use Rattle.lv_parser.specs.declared.tree.AssignValue.{AssignValue}
-use Rattle.lv_parser.specs.declared.tree.AssignValue.TheVariants as a
 use Rattle.lv_parser.specs.declared.tree.ColName.{ColName}
 use Rattle.lv_parser.specs.declared.tree.ColumnKind.{ColumnKind}
 use Rattle.lv_parser.specs.declared.tree.ColumnTree.{ColumnTree}
@@ -18,10 +14,10 @@ use Rattle.lv_parser.specs.declared.tree.Literal.{Literal}
 use Rattle.lv_parser.specs.declared.tree.Named.{Named}
 use Rattle.lv_parser.specs.declared.tree.Tuple.{Tuple}
 use Rattle.lv_parser.specs.Grammar as rule
-use Rattle.lv_parser.specs.Rule.{Rule, token, pure, ◌>>=◌, ◌>>◌, ◌<$>◌, ◌or◌, optional, many, separated}
+use Rattle.lv_parser.specs.Rule.{token, pure, ◌>>◌}
 use Rattle.lv_parser.specs.Trees.{source_of}
 use Rattle.lv_bind.specs.Spoken.{is_spoken_name, value_in_line, tuple_in_line, assigned_in_line, output_name}
-use Rattle.lv_bind.proofs.SpokenRules.{Keeps, IsOf, token_keeps, pure_keeps, then_keeps, word_then, made_keeps, or_keeps, weaker, OnFound, optional_keeps, EachOf, many_keeps, SomeOf, separated_keeps, each_of, all_pass}
+use Rattle.lv_bind.proofs.SpokenRules.{Keeps, token_keeps, pure_keeps, then_keeps, word_then, made_keeps, or_keeps, OnFound, optional_keeps, separated_keeps, all_pass}
 use Rattle.lv_bind.proofs.SpokenConds.{name_keeps, literal_keeps, col_keeps}
 
 abbrev pub Any : {A : Type 0} → A → Type 0
@@ -65,7 +61,7 @@ pub tuple_keeps : Keeps rule.tuple IsTuple
 unfolding rule.tuple
 tuple_keeps =
     then_keeps (token_keeps k.LeftParen) (λ paren u. then_keeps (separated_keeps k.Comma literal_keeps) (λ values h. word_then k.RightParen
-        (pure_keeps IsTuple (record { byte = paren.byte; values = values }) (all_pass (λ (l : Literal). value_in_line l.value) values h.1))))
+    (pure_keeps IsTuple (record { byte = paren.byte; values = values }) (all_pass (λ (l : Literal). value_in_line l.value) values h.1))))
 
 -- ---- what an UPDATE sets
 
@@ -93,10 +89,10 @@ pub assign_keeps : Keeps rule.assign IsAssign
 unfolding rule.assign
 assign_keeps =
     then_keeps name_keeps (λ set e. word_then k.Equal (made_keeps IsAssign (or_keeps (made_keeps (λ x. assigned_in_line x ≡ true) literal_keeps (λ l h. h))
-        (then_keeps name_keeps (λ source f. made_keeps (λ x. assigned_in_line x ≡ true) (optional_keeps (or_keeps
-        (word_then k.Plus (made_keeps IsAmount (token_keeps k.Number) (λ n is. plus_small n.number (is.0.number is.1))))
-        (word_then k.Minus (made_keeps IsAmount (token_keeps k.Number) (λ n is. minus_small n.number (is.0.number is.1))))))
-        (λ amount h. source_small source amount h)))) (λ value h. h)))
+    (then_keeps name_keeps (λ source f. made_keeps (λ x. assigned_in_line x ≡ true) (optional_keeps (or_keeps
+    (word_then k.Plus (made_keeps IsAmount (token_keeps k.Number) (λ n is. plus_small n.number (is.0.number is.1))))
+    (word_then k.Minus (made_keeps IsAmount (token_keeps k.Number) (λ n is. minus_small n.number (is.0.number is.1))))))
+    (λ amount h. source_small source amount h)))) (λ value h. h)))
 
 -- ---- ORDER BY
 
