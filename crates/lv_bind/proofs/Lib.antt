@@ -2,3 +2,8 @@ pub mod FaultLemmas
 pub mod NarrowLemmas
 pub mod SampleLemmas
 pub mod SourceLemmas
+pub mod SpokenTerms
+pub mod SpokenRules
+pub mod SpokenConds
+pub mod SpokenParts
+pub mod SpokenStmts

@@ -19,9 +19,11 @@ mod rights;
 #[cfg(test)]
 mod sample;
 mod sources;
+mod spoken;
 mod statement;
 #[cfg(test)]
 mod tests;
 mod unknown;
 
+pub use spoken::lines_are_spoken;
 pub use statement::{BindFault, bind};
