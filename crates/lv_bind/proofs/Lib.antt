@@ -7,3 +7,4 @@ pub mod SpokenRules
 pub mod SpokenConds
 pub mod SpokenParts
 pub mod SpokenStmts
+pub mod LineFaults

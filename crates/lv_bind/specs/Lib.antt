@@ -14,3 +14,4 @@ pub mod Seen
 pub mod Sources
 pub mod Unknown
 pub mod Spoken
+pub mod Reads

@@ -14,6 +14,7 @@ mod limits;
 mod pieces;
 mod profile;
 mod ranges;
+mod reading;
 mod refusals;
 mod rights;
 #[cfg(test)]
@@ -25,5 +26,6 @@ mod statement;
 mod tests;
 mod unknown;
 
+pub use reading::read_line;
 pub use spoken::lines_are_spoken;
 pub use statement::{BindFault, bind};

@@ -15,3 +15,4 @@ pub mod SumLemmas
 pub mod CreatedViews
 pub mod Answered
 pub mod SoundViews
+pub mod Runs

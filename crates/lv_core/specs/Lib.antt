@@ -11,3 +11,4 @@ pub mod Committing
 pub mod Small
 pub mod Answering
 pub mod Named
+pub mod Run

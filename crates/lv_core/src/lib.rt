@@ -9,6 +9,8 @@ mod committing;
 mod conflicts;
 mod creating;
 mod effects;
+mod ledger;
+mod lines;
 mod merging;
 mod places;
 mod query;

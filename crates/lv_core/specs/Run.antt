@@ -1,0 +1,32 @@
+-- What the core keeps of its run.
+use Rattle.std.specs.Prelude.{◌≡◌, ℕ, List, length}
+use Rattle.lv_schema.specs.World.{Visible}
+use Rattle.lv_plain.specs.declared.entry.Entry.{Entry}
+use Rattle.lv_plain.specs.declared.program.Program.{Program}
+use Rattle.lv_plain.specs.Limits.{IsWithinLimits}
+use Rattle.lv_plain.specs.LegalTurns.{Turning, start, LegalTurns, after_turns}
+use Rattle.lv_plain.specs.Programs.{Places, session_count}
+use Rattle.lv_plain.specs.Turns.{Reading}
+use Rattle.lv_bind.specs.Reads.{IsReading}
+use Rattle.lv_core.specs.Small.{AreSmallStates}
+
+-- the program; what statements see, and how many of each session are answered; and what they were answered
+pub record CoreView : Type 0 where
+  pub program : Program
+  pub seen : Visible
+  pub places : Places
+  pub entries : List Entry
+
+abbrev pub turning : CoreView → Turning
+turning c = record { visible = c.seen; places = c.places }
+
+-- the entries are legal, from the first one to the last, and this is the state after them
+pub record IsRunOf (reading : Reading) (c : CoreView) : Type 0 where
+  pub legal : LegalTurns reading c.program (start c.program) c.entries
+  pub state : after_turns reading c.program (start c.program) c.entries ≡ turning c
+
+pub record IsRun (c : CoreView) : Type 0 where
+  pub within : IsWithinLimits c.program
+  pub count : length c.places ≡ session_count c.program
+  pub small : AreSmallStates c.seen c.places
+  pub run : (reading : Reading) → IsReading reading → IsRunOf reading c
