@@ -10,6 +10,9 @@ pub mod SmallChanges
 pub mod SmallTuples
 pub mod SmallRows
 pub mod SmallSteps
+pub mod NamedFaults
+pub mod NamedTables
+pub mod NamedSteps
 pub mod Committed
 pub mod SumLemmas
 pub mod CreatedViews
