@@ -52,7 +52,7 @@ more_tables m n (reply.Began snapshot) le h = tt
 more_tables m n (reply.Committed number) le h = tt
 more_tables m n (reply.RolledBack) le h = tt
 more_tables m n (reply.Rows rows) le h = tt
-more_tables m n (reply.Tasks tasks) le h = tt
+more_tables m n (reply.Tasks tasks) le h = h
 more_tables m n (reply.Refused f) le h = fault_of_more m n f le h
 
 -- ---- a fault, if there is one
