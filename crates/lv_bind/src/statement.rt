@@ -149,7 +149,7 @@ fn late_fault(
 }
 
 /// Binds a statement with these aliases, which none of the faults 2 to 6 refuses.
-#[tactic(auto, using(crate::proofs::FaultLemmas::narrow_sources, crate::proofs::FaultLemmas::small_table, crate::proofs::FaultLemmas::small_view, crate::proofs::FaultLemmas::refused_later, crate::proofs::FaultLemmas::bound_unrefused))]
+#[tactic(auto, using(crate::proofs::FaultLemmas::small_table))]
 fn bind_readable(
     alloc: Global,
     schema: &Schema,
@@ -181,7 +181,6 @@ fn bind_readable(
 ///
 /// Cost: linear in the statement, but for a search of the aliases' columns for each column, and of the names before it
 /// for each name that may stand only once.
-#[tactic(auto, using(crate::proofs::FaultLemmas::refused_reading))]
 pub fn bind(
     alloc: Global,
     schema: &Schema,
