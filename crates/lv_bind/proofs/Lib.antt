@@ -1,2 +1,5 @@
+pub mod BoundTables
+pub mod FaultLemmas
+pub mod NameLemmas
 pub mod NarrowLemmas
 pub mod SourceLemmas

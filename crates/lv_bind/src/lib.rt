@@ -8,6 +8,7 @@ mod creating;
 mod entries;
 mod in_use;
 mod kinds;
+mod laws;
 mod limits;
 mod pieces;
 mod profile;
@@ -17,3 +18,5 @@ mod rights;
 mod sources;
 mod statement;
 mod unknown;
+
+pub use laws::bound_tables_fit;

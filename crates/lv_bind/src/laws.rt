@@ -1,0 +1,18 @@
+//! Laws of binding. Each is the contract of a function that does nothing.
+
+ghost use Rattle.lv_bind.specs.Faults.{bound_of};
+ghost use Rattle.lv_bind.specs.Spoken.{IsSpoken};
+ghost use Rattle.lv_parser.specs.declared.tree.Stmt.{Stmt};
+ghost use Rattle.lv_schema.specs.Bound.{IsBoundTable};
+ghost use Rattle.lv_schema.specs.declared.bound.Bound.TheVariants as bound;
+ghost use Rattle.lv_schema.specs.declared.table.TableDef.{TableDef};
+ghost use Rattle.lv_schema.specs.declared.view.ViewDef.{ViewDef};
+ghost use Rattle.std.specs.Prelude.{◌≡◌, Bool, List, Ok};
+
+/// A new table that is bound fits its schema.
+pub fn bound_tables_fit()
+    ensures {
+        (tables : List TableDef) (views : List ViewDef) (setup live : Bool) (stmt : Stmt) (def : TableDef) → IsSpoken stmt
+            → bound_of tables views setup live stmt ≡ Ok (bound.Table def) → IsBoundTable tables views def
+    }
+{}
