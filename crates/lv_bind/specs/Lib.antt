@@ -13,3 +13,4 @@ pub mod Seen
 pub mod Sources
 pub mod Unknown
 pub mod Spoken
+pub mod Whole
