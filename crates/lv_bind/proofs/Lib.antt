@@ -1,7 +1,10 @@
 pub mod BoundChanges
 pub mod BoundTables
+pub mod BoundViews
+pub mod ColumnLemmas
 pub mod CondLemmas
 pub mod FaultLemmas
 pub mod NameLemmas
 pub mod NarrowLemmas
+pub mod Pigeons
 pub mod SourceLemmas

@@ -27,7 +27,7 @@ pub fn changed_tables_exist()
     }
 {}
 
-#[tactic(auto, using(crate::proofs::CondLemmas::two_folds))]
+#[tactic(auto, using(crate::proofs::ColumnLemmas::pairs_fit))]
 pub fn scratch()
     ensures { (n : Bool) → n ≡ n }
 {}
