@@ -16,6 +16,7 @@ use Rattle.lv_parser.specs.declared.tree.Stmt.{Stmt}
 use Rattle.lv_parser.specs.declared.tree.Stmt.TheVariants.{CreateTable, CreateView, Insert, Update, Delete, Select, Begin, Commit, Rollback, ShowTasks}
 use Rattle.lv_schema.specs.declared.bound.Bound.TheVariants as bound
 use Rattle.lv_schema.specs.declared.cond.Col.{Col}
+use Rattle.lv_schema.specs.declared.cond.Cond.{Cond}
 use Rattle.lv_schema.specs.declared.fault.ProfileRule.TheVariants as rule
 use Rattle.lv_schema.specs.declared.query.Rel.{Rel}
 use Rattle.lv_schema.specs.declared.query.Rel.TheVariants.{Table, View}
@@ -43,11 +44,11 @@ use Rattle.lv_bind.specs.Limits.{alias_names, compared_texts, lengths, output_na
 use Rattle.lv_bind.specs.Pieces.{Sides, columns_in, compared_columns, item_columns, sides_of}
 use Rattle.lv_bind.specs.Profile.{is_view, names_view}
 use Rattle.lv_bind.specs.Sources.{Alias, columns_of, place_of, shown_unless, source_of, sources_of}
-use Rattle.lv_bind.specs.Spoken.{IsSpoken, is_spoken_name, nesting, output_name}
+use Rattle.lv_bind.specs.Spoken.{IsSpoken, IsSpokenCond, is_spoken_name, nesting, output_name}
 use Rattle.lv_bind.specs.Unknown.{is_table, unknown_columns, unknown_refs}
-use Rattle.lv_bind.specs.Whole.{IsWhole}
+use Rattle.lv_bind.specs.Whole.{IsWhole, IsWholeView}
 use Rattle.lv_bind.proofs.ColumnLemmas.{IsKnown, all_append, all_columns, all_known, all_mapped, kind_known, pairs_fit, table_kind}
-use Rattle.lv_bind.proofs.CondLemmas.{branches_bound, compares_bound, comparisons_bound, depth_bound, texts_in_line}
+use Rattle.lv_bind.proofs.CondLemmas.{branches_bound, compares_bound, comparisons_bound, depth_bound, pair_fits, texts_in_line}
 use Rattle.lv_bind.proofs.FaultLemmas.{IsFaultless, append_parts, faultless, none_over, none_shown, shown_well}
 use Rattle.lv_bind.proofs.NameLemmas.{AreFresh, apart_mapped, fresh_apart, name_fits, repeated_apart, table_in_use, taken_free}
 use Rattle.lv_bind.proofs.Pigeons.{no_longer}
@@ -189,3 +190,172 @@ module _ (tables : List TableDef) (views : List ViewDef) where
       let at : (rel_named tables views r.name.name ≡ Some (Table (table_number (rel_named tables views r.name.name)))) × (table_number (rel_named tables views r.name.name) < length tables) =
           table_in_use tables views r.name.name h.0 in
       (subst (λ rel. list_all (λ c. is_table_kind c.kind) (columns_of tables views rel) ≡ true) (sym at.0) (sound.each_table _ at.1).kinds, tables_kinds sound refs h.1)
+
+-- ---- conditions
+
+pub cond_fits : (aliases : List (List Column)) (sources : List Alias) (c : CondTree) → all_columns sources ≡ aliases → IsSpokenCond c
+    → AllByRecursion (IsKnown sources) (compared_columns (sides_of c)) → length (sides_of c) ≤ 16 → AllByRecursion (λ n. n ≤ 256) (lengths (compared_texts (sides_of c)))
+    → compared_kinds sources (sides_of c) ≡ [] → IsBoundCond aliases (bound_cond sources c)
+cond_fits aliases sources c same spoken known few short kinds = record {
+    compares_well =
+        compares_bound aliases sources c
+        ∙ subst (λ columns. list_all (pair_fits columns sources) (sides_of c) ≡ true) same (pairs_fit sources (sides_of c) known (sym (texts_in_line c) ∙ spoken.in_line) short kinds);
+    few = rw (comparisons_bound sources c) few;
+  }
+
+cond_kept : (sources : List Alias) (c : CondTree) → IsSpokenCond c → IsWhole c → length (sides_of c) ≤ 16 → IsKeptCond (bound_cond sources c)
+cond_kept sources c spoken whole few = record {
+    branches_well = branches_bound sources c spoken.chained whole (omega (arith, few));
+    shallow = rw (depth_bound sources c) (omega (arith, few, spoken.compared));
+  }
+
+-- ---- the rules on a view's list
+
+module _ (tables : List TableDef) (sources : List Alias) (items : List Item) (numbers : List ℕ) (few : length items ≤ 16) where
+  abbrev view_of : ℕ → List ℕ → Cond → List ColName → ViewDef
+  view_of at name tree groups = record {
+    no = at;
+    name = name;
+    created = 0;
+    tables = numbers;
+    cond = tree;
+    items = items;
+    grouped = nat_lt 0 (length groups);
+    groups = map (bound_col sources) groups;
+  }
+
+  abbrev Keeps : List ColName → Type 0
+  Keeps groups = (keeps_group items (map (bound_col sources) groups) ≡ true) × (keeps_count items (map (bound_col sources) groups) ≡ true) × (keeps_key tables numbers items (map (bound_col sources) groups) ≡ true)
+
+  fits_profile : (at : ℕ) (name : List ℕ) (cond : Cond) (groups : List ColName) → regrouped sources groups ≡ [] → Keeps groups
+      → IsProfile tables (view_of at name cond groups) (nat_lt 0 (length groups))
+  fits_profile at name cond [] apart keeps = record { no_groups = refl; plain = keeps.0; keys_listed = keeps.2 }
+  fits_profile at name cond (g ∷ groups) apart keeps =
+      subst (IsProfile tables (view_of at name cond (g ∷ groups))) (sym (lt-ltb 0 (length (g ∷ groups)) (omega arith)))
+          (by (groups_apart sources (g ∷ groups) apart) (and_parts _ (are_among (map (bound_col sources) (g ∷ groups)) (plain_columns items)) keeps.0))
+    where
+      by : are_apart same_col (map (bound_col sources) (g ∷ groups)) ≡ true
+          → (are_among (plain_columns items) (map (bound_col sources) (g ∷ groups)) ≡ true) × (are_among (map (bound_col sources) (g ∷ groups)) (plain_columns items) ≡ true)
+          → IsGroupList (view_of at name cond (g ∷ groups))
+      by once among = record {
+          some_groups = omega arith;
+          few_groups = omega (arith, no_longer same_col col_tells col_comm (map (bound_col sources) (g ∷ groups)) (plain_columns items) once among.1, plain_few items, few);
+          groups_listed = among.1;
+          listed_grouped = among.0;
+          one_count = eqb-true (count_by is_count items) 1 keeps.1;
+        }
+
+-- ---- the whole
+
+module _ (tables : List TableDef) (views : List ViewDef) (sound : IsSchema tables views) (name : Named) (items : List ItemTree) (refs : List RefTree) (c : CondTree) (groups : List ColName)
+    (spoken : IsSpoken (CreateView name items refs c groups)) (whole : IsWhole c) (clean : IsFaultless tables views (CreateView name items refs c groups)) where
+  abbrev sources : List Alias
+  sources = map (source_of tables views) refs
+
+  abbrev def : ViewDef
+  def = bound_view tables views sources name items refs c groups
+
+  unknowns : (unknown_refs tables views refs ≡ []) × (unknown_columns sources (columns_in (CreateView name items refs c groups)) ++ [] ≡ [])
+  unknowns = append_parts (unknown_refs tables views refs) (unknown_columns sources (columns_in (CreateView name items refs c groups)) ++ []) clean.known
+
+  cols_known : AllByRecursion (IsKnown sources) (flat_map item_columns items ++ (compared_columns (sides_of c) ++ groups))
+  cols_known = all_known sources (columns_in (CreateView name items refs c groups)) (append_parts (unknown_columns sources (columns_in (CreateView name items refs c groups))) [] unknowns.1).0
+
+  known : AllByRecursion (IsKnown sources) (flat_map item_columns items) × AllByRecursion (IsKnown sources) (compared_columns (sides_of c) ++ groups)
+  known = all_append (IsKnown sources) (flat_map item_columns items) (compared_columns (sides_of c) ++ groups) cols_known
+
+  known_after : AllByRecursion (IsKnown sources) (compared_columns (sides_of c)) × AllByRecursion (IsKnown sources) groups
+  known_after = all_append (IsKnown sources) (compared_columns (sides_of c)) groups known.1
+
+  rules_kept : (shown_unless (not (names_view tables views refs)) rule.Base ≡ []) × (broken_rules tables def ≡ [])
+  rules_kept = append_parts (shown_unless (not (names_view tables views refs)) rule.Base) (broken_rules tables def) clean.inside
+
+  of_tables : AreTables tables views refs
+  of_tables = only_tables tables views refs (none_shown (λ r. is_some (rel_named tables views r.name.name)) (λ r. r.name.name) refs unknowns.0)
+      (not-true (names_view tables views refs) (shown_well (not (names_view tables views refs)) rule.Base rules_kept.0))
+
+  same_columns : all_columns sources ≡ alias_columns tables (table_numbers tables views refs)
+  same_columns = columns_same tables views refs of_tables
+
+  kinds : (flat_map (item_kinds sources) items ≡ []) × (compared_kinds sources (sides_of c) ≡ [])
+  kinds = append_parts (flat_map (item_kinds sources) items) (compared_kinds sources (sides_of c)) clean.kinds_agree
+
+  unused : (taken tables views name ≡ []) × (repeated_outputs items ++ (repeated_aliases refs ++ regrouped sources groups) ≡ [])
+  unused = append_parts (taken tables views name) (repeated_outputs items ++ (repeated_aliases refs ++ regrouped sources groups)) clean.free
+
+  once_each : (repeated_outputs items ≡ []) × (repeated_aliases refs ++ regrouped sources groups ≡ [])
+  once_each = append_parts (repeated_outputs items) (repeated_aliases refs ++ regrouped sources groups) unused.1
+
+  grouped_once : regrouped sources groups ≡ []
+  grouped_once = (append_parts (repeated_aliases refs) (regrouped sources groups) once_each.1).1
+
+  short_names : AllByRecursion (λ n. n ≤ 32) (map length (name.name ∷ (output_names items ++ alias_names refs)))
+  short_names = none_over 32 (map length (name.name ∷ (output_names items ++ alias_names refs))) clean.small.0
+
+  short_outputs : AllByRecursion (λ n. length n ≤ 32) (output_names items)
+  short_outputs = (all_append (λ n. length n ≤ 32) (output_names items) (alias_names refs) (all_mapped (λ n. n ≤ 32) length (output_names items ++ alias_names refs) short_names.1)).0
+
+  few_aliases : length refs ≤ 4
+  few_aliases = (none_over 4 (length refs ∷ []) clean.small.1.1.1.0).0
+
+  few_items : length items ≤ 16
+  few_items = (none_over 16 (length items ∷ []) clean.small.1.1.0).0
+
+  few_sides : length (sides_of c) ≤ 16
+  few_sides = (none_over 16 (length (sides_of c) ∷ []) clean.small.1.1.1.1.0).0
+
+  short_texts : AllByRecursion (λ n. n ≤ 256) (lengths (compared_texts (sides_of c)))
+  short_texts = none_over 256 (lengths (compared_texts (sides_of c))) clean.small.1.1.1.1.1.0
+
+  few_bound : length (map (bound_item sources) items) ≤ 16
+  few_bound = rw (length-map items (bound_item sources)) few_items
+
+  keeps : Keeps tables sources (map (bound_item sources) items) (table_numbers tables views refs) few_bound groups
+  keeps =
+      let group : (broken (keeps_group def.items def.groups) rule.Group ≡ []) × (broken (keeps_count def.items def.groups) rule.Count ++ broken (keeps_key tables def.tables def.items def.groups) rule.Key ≡ []) =
+          append_parts (broken (keeps_group def.items def.groups) rule.Group) (broken (keeps_count def.items def.groups) rule.Count ++ broken (keeps_key tables def.tables def.items def.groups) rule.Key) rules_kept.1 in
+      let count : (broken (keeps_count def.items def.groups) rule.Count ≡ []) × (broken (keeps_key tables def.tables def.items def.groups) rule.Key ≡ []) =
+          append_parts (broken (keeps_count def.items def.groups) rule.Count) (broken (keeps_key tables def.tables def.items def.groups) rule.Key) group.1 in
+      (shown_well (keeps_group def.items def.groups) rule.Group group.0, shown_well (keeps_count def.items def.groups) rule.Count count.0, shown_well (keeps_key tables def.tables def.items def.groups) rule.Key count.1)
+
+  pub view_fits : IsBoundView tables views def
+  view_fits = record {
+    next = refl;
+    room = let le : suc (length views) ≤ 32 = (none_over 32 (suc (length views) ∷ []) clean.small.1.0).0 in omega arith;
+    named = name_fits name.name spoken.0 short_names.0;
+    free = taken_free tables views name.name (shown_well (is_none (rel_named tables views name.name)) name.name unused.0);
+    some_aliases = rw (length-map refs (λ r. table_number (rel_named tables views r.name.name))) spoken.3;
+    few_aliases = rw (length-map refs (λ r. table_number (rel_named tables views r.name.name))) few_aliases;
+    in_use = numbers_in_use tables views refs of_tables;
+    bound_cond = cond_fits (alias_columns tables (table_numbers tables views refs)) sources c same_columns spoken.4 known_after.0 few_sides short_texts kinds.1;
+    kept_cond = cond_kept sources c spoken.4 whole few_sides;
+    some_items = rw (length-map items (bound_item sources)) spoken.1;
+    few_items = few_bound;
+    items_named = rw (item_names sources items) (short_names_fit (output_names items) (subst (λ names. list_all is_spoken_name names ≡ true) (spoken_names items) spoken.2) short_outputs);
+    items_apart = rw (item_names sources items) (repeated_apart (output_names items) once_each.0);
+    plain_in_range = subst (λ columns. list_all (is_in_range columns) (plain_columns def.items) ≡ true) same_columns (plain_range sources items known.0);
+    sums_are_ints = subst (λ columns. list_all (is_int_column columns) (summed_columns def) ≡ true) same_columns (sums_range sources items (tables_kinds tables views sound refs of_tables) known.0 kinds.0);
+    groups_in_range = subst (λ columns. list_all (is_in_range columns) def.groups ≡ true) same_columns (groups_range sources groups known_after.1);
+    profile = fits_profile tables sources (map (bound_item sources) items) (table_numbers tables views refs) few_bound (length views) name.name (bound_cond sources c) groups grouped_once keeps;
+  }
+
+pub fits_view : (tables : List TableDef) (views : List ViewDef) (s : Stmt) (view : ViewDef) → IsSchema tables views → IsSpoken s → IsWholeView s → IsFaultless tables views s
+    → bound_among tables views (sources_of tables views s) s ≡ bound.View view → IsBoundView tables views view
+fits_view tables views (CreateTable name cols key) view sound spoken whole clean e = absurd cc
+fits_view tables views (CreateView name items refs c groups) view sound spoken whole clean e =
+    let same : bound_view tables views (map (source_of tables views) refs) name items refs c groups ≡ view = cc in
+    subst (IsBoundView tables views) same (view_fits tables views sound name items refs c groups spoken whole clean)
+fits_view tables views (Insert table tuples) view sound spoken whole clean e = absurd cc
+fits_view tables views (Update table sets c) view sound spoken whole clean e = absurd cc
+fits_view tables views (Delete table c) view sound spoken whole clean e = absurd cc
+fits_view tables views (Select list refs c order) view sound spoken whole clean e = absurd cc
+fits_view tables views Begin view sound spoken whole clean e = absurd cc
+fits_view tables views Commit view sound spoken whole clean e = absurd cc
+fits_view tables views Rollback view sound spoken whole clean e = absurd cc
+fits_view tables views ShowTasks view sound spoken whole clean e = absurd cc
+
+pub bound_view_fits : (tables : List TableDef) (views : List ViewDef) (setup live : Bool) (s : Stmt) (view : ViewDef) → IsSchema tables views → IsSpoken s → IsWholeView s
+    → bound_of tables views setup live s ≡ Ok (bound.View view) → IsBoundView tables views view
+bound_view_fits tables views setup live s view sound spoken whole e =
+    let clean : IsFaultless tables views s × (bound_among tables views (sources_of tables views s) s ≡ bound.View view) = faultless tables views setup live s (bound.View view) e in
+    fits_view tables views s view sound spoken whole clean.0 clean.1

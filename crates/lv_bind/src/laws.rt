@@ -3,8 +3,10 @@
 ghost use Rattle.lv_bind.specs.Faults.{bound_of};
 ghost use Rattle.lv_bind.specs.Spoken.{IsSpoken};
 ghost use Rattle.lv_parser.specs.declared.tree.Stmt.{Stmt};
-ghost use Rattle.lv_schema.specs.Bound.{IsBoundTable};
+ghost use Rattle.lv_bind.specs.Whole.{IsWholeView};
+ghost use Rattle.lv_schema.specs.Bound.{IsBoundTable, IsBoundView};
 ghost use Rattle.lv_schema.specs.Effects.{changed_table};
+ghost use Rattle.lv_schema.specs.Sound.{IsSchema};
 ghost use Rattle.lv_schema.specs.declared.bound.Bound.TheVariants as bound;
 ghost use Rattle.lv_schema.specs.declared.change.Change.{Change};
 ghost use Rattle.lv_schema.specs.declared.table.TableDef.{TableDef};
@@ -19,15 +21,18 @@ pub fn bound_tables_fit()
     }
 {}
 
+/// A new view that is bound fits its schema.
+pub fn bound_views_fit()
+    ensures {
+        (tables : List TableDef) (views : List ViewDef) (setup live : Bool) (stmt : Stmt) (def : ViewDef) → IsSchema tables views → IsSpoken stmt → IsWholeView stmt
+            → bound_of tables views setup live stmt ≡ Ok (bound.View def) → IsBoundView tables views def
+    }
+{}
+
 /// A change that is bound changes a table of its schema.
 pub fn changed_tables_exist()
     ensures {
         (tables : List TableDef) (views : List ViewDef) (setup live : Bool) (stmt : Stmt) (change : Change)
             → bound_of tables views setup live stmt ≡ Ok (bound.Change change) → changed_table change < length tables
     }
-{}
-
-#[tactic(auto, using(crate::proofs::ColumnLemmas::pairs_fit))]
-pub fn scratch()
-    ensures { (n : Bool) → n ≡ n }
 {}

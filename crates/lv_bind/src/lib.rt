@@ -19,4 +19,4 @@ mod sources;
 mod statement;
 mod unknown;
 
-pub use laws::{bound_tables_fit, changed_tables_exist};
+pub use laws::{bound_tables_fit, bound_views_fit, changed_tables_exist};
