@@ -124,7 +124,7 @@ regrouped_fresh sources before (col ∷ cols) e =
         append_parts _ (regrouped_after sources (before ++ place_of sources col ∷ []) cols) e in
     (not-true _ (shown_well (not (list_any (same_place (place_of sources col)) before)) col.name.name parts.0), regrouped_fresh sources (before ++ place_of sources col ∷ []) cols parts.1)
 
-nat_comm : (a b : ℕ) → (a == b) ≡ (b == a)
+pub nat_comm : (a b : ℕ) → (a == b) ≡ (b == a)
 nat_comm a b = same_from_decides (a == b) (b == a) (Decides-eqb a b) (Decides-like (b == a) sym sym (Decides-eqb b a))
 
 place_comm : (a b : Place) → same_place a b ≡ same_place b a

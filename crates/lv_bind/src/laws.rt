@@ -36,3 +36,8 @@ pub fn changed_tables_exist()
             → bound_of tables views setup live stmt ≡ Ok (bound.Change change) → changed_table change < length tables
     }
 {}
+
+#[tactic(auto, using(crate::proofs::BoundChanges::changed_table_in_use))]
+pub fn scratch()
+    ensures { (n : Bool) → n ≡ n }
+{}
