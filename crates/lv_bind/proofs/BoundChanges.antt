@@ -71,12 +71,12 @@ fits_number tables views (CreateView name items refs whole groups) c clean e = a
 fits_number tables views (Insert table tuples) c clean e =
     let same : change.Insert (table_number (rel_named tables views table.name)) (bound_rows tuples) ≡ c = cc in
     subst (InUse tables) same (number_in_use tables views table _ clean.known)
-fits_number tables views (Update table sets tree) c clean e =
-    let sources = sources_of tables views (Update table sets tree) in
-    let same : change.Update (table_number (rel_named tables views table.name)) (map (bound_set sources) sets) (bound_cond sources tree) ≡ c = cc in
+fits_number tables views (Update table sets only) c clean e =
+    let sources = sources_of tables views (Update table sets only) in
+    let same : change.Update (table_number (rel_named tables views table.name)) (map (bound_set sources) sets) (bound_cond sources only) ≡ c = cc in
     subst (InUse tables) same (number_in_use tables views table _ clean.known)
-fits_number tables views (Delete table tree) c clean e =
-    let same : change.Delete (table_number (rel_named tables views table.name)) (bound_cond (sources_of tables views (Delete table tree)) tree) ≡ c = cc in
+fits_number tables views (Delete table only) c clean e =
+    let same : change.Delete (table_number (rel_named tables views table.name)) (bound_cond (sources_of tables views (Delete table only)) only) ≡ c = cc in
     subst (InUse tables) same (number_in_use tables views table _ clean.known)
 fits_number tables views (Select list refs whole order) c clean e = absurd cc
 fits_number tables views Begin c clean e = absurd cc
@@ -242,3 +242,98 @@ module _ (s : Alias) (key : List ℕ) (table : list_all (λ c. is_table_kind c.k
   sets_apart sets h e =
       rw (set_columns sets) (apart_mapped (λ a. a.column.name) (λ a. (place_of (s ∷ []) (alone a.column)).column) bytes_eq nat_eq (λ a. IsKnown (s ∷ []) (alone a.column))
           (λ a b p q same. column_tells s a.column b.column p q same) sets (each_set_known sets h) (repeated_apart (map (λ a. a.column.name) sets) e))
+
+-- ---- the whole
+
+all_back : {X Y : Type 0} (P : Y → Type 0) (f : X → Y) (xs : List X) → AllByRecursion (λ x. P (f x)) xs → AllByRecursion P (map f xs)
+all_back P f [] h = tt
+all_back P f (x ∷ xs) h = (h.0, all_back P f xs h.1)
+
+abbrev Number : List TableDef → List ViewDef → Named → ℕ
+Number tables views table = table_number (rel_named tables views table.name)
+
+abbrev IsAt : List TableDef → List ViewDef → Named → Type 0
+IsAt tables views table = (rel_named tables views table.name ≡ Some (Table (Number tables views table))) × (Number tables views table < length tables)
+
+table_there : (tables : List TableDef) (views : List ViewDef) (table : Named) (more : List (List ℕ)) → unknown_table tables views table ++ more ≡ [] → IsAt tables views table
+table_there tables views table more e =
+    table_in_use tables views table.name (shown_well (is_table (rel_named tables views table.name)) table.name (append_parts (unknown_table tables views table) more e).0)
+
+module _ (tables : List TableDef) (views : List ViewDef) (sound : IsSchema tables views) (table : Named) where
+  abbrev here : TableDef
+  here = table_at tables (Number tables views table)
+
+  abbrev source : Alias
+  source = table_source tables views table
+
+  kinds_here : IsAt tables views table → list_all (λ c. is_table_kind c.kind) here.columns ≡ true
+  kinds_here at = (sound.each_table (Number tables views table) at.1).kinds
+
+  columns_here : IsAt tables views table → source.columns ≡ here.columns
+  columns_here at = ap (columns_of tables views) at.0
+
+  insert_fits : (tuples : List Tuple) → IsSpoken (Insert table tuples) → IsFaultless tables views (Insert table tuples) → IsBoundChange tables (change.Insert (Number tables views table) (bound_rows tuples))
+  insert_fits tuples spoken clean =
+      let at : IsAt tables views table = table_there tables views table [] clean.known in
+      let size : length (bound_rows tuples) ≡ length tuples = length-map tuples (λ t. map (λ l. l.value) t.values) in
+      let columns : insert_columns tables (rel_named tables views table.name) ≡ here.columns = ap (insert_columns tables) at.0 in
+      let kinds : flat_map (tuple_kinds here.columns) tuples ≡ [] = subst (λ cs. flat_map (tuple_kinds cs) tuples ≡ []) columns clean.kinds_agree in
+      let short : AllByRecursion IsShort (flat_map tuple_texts tuples) = all_mapped (λ n. n ≤ 256) length (flat_map tuple_texts tuples) (none_over 256 (lengths (flat_map tuple_texts tuples)) clean.small.0) in
+      (at.1, rw size spoken.0, rw size (none_over 1000 (length tuples ∷ []) clean.small.1.0).0, rows_so here.columns tuples (kinds_here at) kinds clean.in_range spoken.1 short)
+
+  update_fits : (sets : List Assign) (c : CondTree) → IsSpoken (Update table sets c) → IsFaultless tables views (Update table sets c)
+      → IsBoundChange tables (change.Update (Number tables views table) (map (bound_set (source ∷ [])) sets) (bound_cond (source ∷ []) c))
+  update_fits sets c spoken clean =
+      let cols : List ColName = flat_map assign_columns sets ++ compared_columns (sides_of c) in
+      let at : IsAt tables views table = table_there tables views table (unknown_columns (source ∷ []) cols ++ []) clean.known in
+      let unknowns : (unknown_table tables views table ≡ []) × (unknown_columns (source ∷ []) cols ++ [] ≡ []) = append_parts (unknown_table tables views table) (unknown_columns (source ∷ []) cols ++ []) clean.known in
+      let cols_known : AllByRecursion (IsKnown (source ∷ [])) (flat_map assign_columns sets ++ compared_columns (sides_of c)) = all_known (source ∷ []) cols (append_parts (unknown_columns (source ∷ []) cols) [] unknowns.1).0 in
+      let known : AllByRecursion (IsKnown (source ∷ [])) (flat_map assign_columns sets) × AllByRecursion (IsKnown (source ∷ [])) (compared_columns (sides_of c)) =
+          all_append (IsKnown (source ∷ [])) (flat_map assign_columns sets) (compared_columns (sides_of c)) cols_known in
+      let kinds : (flat_map (assign_kinds (source ∷ [])) sets ≡ []) × (compared_kinds (source ∷ []) (sides_of c) ≡ []) =
+          append_parts (flat_map (assign_kinds (source ∷ [])) sets) (compared_kinds (source ∷ []) (sides_of c)) clean.kinds_agree in
+      let texts : AllByRecursion IsShort (flat_map (λ a. assign_texts a.value) sets ++ compared_texts (sides_of c)) =
+          all_mapped (λ n. n ≤ 256) length (flat_map (λ a. assign_texts a.value) sets ++ compared_texts (sides_of c))
+              (none_over 256 (lengths (flat_map (λ a. assign_texts a.value) sets ++ compared_texts (sides_of c))) clean.small.1.0) in
+      let short : AllByRecursion IsShort (flat_map (λ a. assign_texts a.value) sets) × AllByRecursion IsShort (compared_texts (sides_of c)) =
+          all_append IsShort (flat_map (λ a. assign_texts a.value) sets) (compared_texts (sides_of c)) texts in
+      let table_kinds : list_all (λ c. is_table_kind c.kind) source.columns ≡ true = subst (λ cs. list_all (λ c. is_table_kind c.kind) cs ≡ true) (sym (columns_here at)) (kinds_here at) in
+      let few : length (sides_of c) ≤ 16 = (none_over 16 (length (sides_of c) ∷ []) clean.small.0).0 in
+      (at.1, rw (length-map sets (bound_set (source ∷ []))) spoken.0,
+          sets_so source here.key table_kinds here (sym (columns_here at)) refl sets known.0 kinds.0 clean.keys_kept clean.in_range spoken.1 short.0,
+          sets_apart source here.key table_kinds sets known.0 clean.free,
+          cond_fits (here.columns ∷ []) (source ∷ []) c (ap (λ (cs : List Column). cs ∷ []) (columns_here at)) spoken.2 known.1 few (all_back (λ n. n ≤ 256) length (compared_texts (sides_of c)) short.1) kinds.1)
+
+  delete_fits : (c : CondTree) → IsSpoken (Delete table c) → IsFaultless tables views (Delete table c) → IsBoundChange tables (change.Delete (Number tables views table) (bound_cond (source ∷ []) c))
+  delete_fits c spoken clean =
+      let cols : List ColName = compared_columns (sides_of c) in
+      let at : IsAt tables views table = table_there tables views table (unknown_columns (source ∷ []) cols ++ []) clean.known in
+      let unknowns : (unknown_table tables views table ≡ []) × (unknown_columns (source ∷ []) cols ++ [] ≡ []) = append_parts (unknown_table tables views table) (unknown_columns (source ∷ []) cols ++ []) clean.known in
+      let known : AllByRecursion (IsKnown (source ∷ [])) cols = all_known (source ∷ []) cols (append_parts (unknown_columns (source ∷ []) cols) [] unknowns.1).0 in
+      let few : length (sides_of c) ≤ 16 = (none_over 16 (length (sides_of c) ∷ []) clean.small.0).0 in
+      (at.1, cond_fits (here.columns ∷ []) (source ∷ []) c (ap (λ (cs : List Column). cs ∷ []) (columns_here at)) spoken known few (none_over 256 (lengths (compared_texts (sides_of c))) clean.small.1.0) clean.kinds_agree)
+
+pub fits_change : (tables : List TableDef) (views : List ViewDef) (s : Stmt) (c : Change) → IsSchema tables views → IsSpoken s → IsFaultless tables views s
+    → bound_among tables views (sources_of tables views s) s ≡ bound.Change c → IsBoundChange tables c
+fits_change tables views (CreateTable name cols key) c sound spoken clean e = absurd cc
+fits_change tables views (CreateView name items refs whole groups) c sound spoken clean e = absurd cc
+fits_change tables views (Insert table tuples) c sound spoken clean e =
+    let same : change.Insert (Number tables views table) (bound_rows tuples) ≡ c = cc in
+    subst (IsBoundChange tables) same (insert_fits tables views sound table tuples spoken clean)
+fits_change tables views (Update table sets only) c sound spoken clean e =
+    let same : change.Update (Number tables views table) (map (bound_set (table_source tables views table ∷ [])) sets) (bound_cond (table_source tables views table ∷ []) only) ≡ c = cc in
+    subst (IsBoundChange tables) same (update_fits tables views sound table sets only spoken clean)
+fits_change tables views (Delete table only) c sound spoken clean e =
+    let same : change.Delete (Number tables views table) (bound_cond (table_source tables views table ∷ []) only) ≡ c = cc in
+    subst (IsBoundChange tables) same (delete_fits tables views sound table only spoken clean)
+fits_change tables views (Select list refs whole order) c sound spoken clean e = absurd cc
+fits_change tables views Begin c sound spoken clean e = absurd cc
+fits_change tables views Commit c sound spoken clean e = absurd cc
+fits_change tables views Rollback c sound spoken clean e = absurd cc
+fits_change tables views ShowTasks c sound spoken clean e = absurd cc
+
+pub bound_change_fits : (tables : List TableDef) (views : List ViewDef) (setup live : Bool) (s : Stmt) (c : Change) → IsSchema tables views → IsSpoken s
+    → bound_of tables views setup live s ≡ Ok (bound.Change c) → IsBoundChange tables c
+bound_change_fits tables views setup live s c sound spoken e =
+    let clean : IsFaultless tables views s × (bound_among tables views (sources_of tables views s) s ≡ bound.Change c) = faultless tables views setup live s (bound.Change c) e in
+    fits_change tables views s c sound spoken clean.0 clean.1

@@ -1,4 +1,6 @@
 pub mod BoundChanges
+pub mod BoundQueries
+pub mod BoundStatements
 pub mod BoundTables
 pub mod BoundViews
 pub mod ColumnLemmas

@@ -37,7 +37,7 @@ pub fn changed_tables_exist()
     }
 {}
 
-#[tactic(auto, using(crate::proofs::BoundChanges::changed_table_in_use))]
+#[tactic(auto, using(crate::proofs::BoundChanges::bound_change_fits))]
 pub fn scratch()
     ensures { (n : Bool) → n ≡ n }
 {}
