@@ -2,6 +2,7 @@
 use Rattle.std.proofs.Common.{◌≡◌, Bool, List}
 use Rattle.std.specs.Prelude.{Result, Ok}
 use Rattle.lv_parser.specs.declared.tree.Stmt.{Stmt}
+use Rattle.lv_parser.specs.declared.tree.Stmt.TheVariants as stmt
 use Rattle.lv_schema.specs.declared.bound.Bound.{Bound}
 use Rattle.lv_schema.specs.declared.bound.Bound.TheVariants as bound
 use Rattle.lv_schema.specs.declared.table.TableDef.{TableDef}
@@ -35,3 +36,21 @@ pub bound_fits : (tables : List TableDef) (views : List ViewDef) (setup live : B
 bound_fits tables views setup live s b sound spoken whole e =
     let clean : IsFaultless tables views s × (bound_among tables views (sources_of tables views s) s ≡ b) = faultless tables views setup live s b e in
     fits tables views s b sound spoken whole clean.0 clean.1
+
+-- a spoken view's condition is whole
+spoken_whole : (s : Stmt) → IsSpoken s → IsWholeView s
+spoken_whole (stmt.CreateTable name cols key) h = tt
+spoken_whole (stmt.CreateView name items refs c groups) h = h.4.whole
+spoken_whole (stmt.Insert table tuples) h = tt
+spoken_whole (stmt.Update table sets c) h = tt
+spoken_whole (stmt.Delete table c) h = tt
+spoken_whole (stmt.Select list refs c order) h = tt
+spoken_whole stmt.Begin h = tt
+spoken_whole stmt.Commit h = tt
+spoken_whole stmt.Rollback h = tt
+spoken_whole stmt.ShowTasks h = tt
+
+-- what a spoken statement is bound to is bound against its schema
+pub spoken_fits : (tables : List TableDef) (views : List ViewDef) (setup live : Bool) (s : Stmt) (b : Bound) → IsSchema tables views → IsSpoken s
+    → bound_of tables views setup live s ≡ Ok b → IsBound tables views b
+spoken_fits tables views setup live s b sound spoken e = bound_fits tables views setup live s b sound spoken (spoken_whole s spoken) e

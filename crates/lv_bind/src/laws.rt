@@ -1,43 +1,26 @@
 //! Laws of binding. Each is the contract of a function that does nothing.
 
-ghost use Rattle.lv_bind.specs.Faults.{bound_of};
-ghost use Rattle.lv_bind.specs.Spoken.{IsSpoken};
+ghost use Rattle.std.specs.Prelude.{◌≡◌, ◌==◌, ℕ, Bool, false, List, Ok};
+ghost use Rattle.std.specs.List.{list_any};
 ghost use Rattle.lv_parser.specs.declared.tree.Stmt.{Stmt};
-ghost use Rattle.lv_bind.specs.Whole.{IsWholeView};
-ghost use Rattle.lv_schema.specs.Bound.{IsBoundTable, IsBoundView};
-ghost use Rattle.lv_schema.specs.Effects.{changed_table};
-ghost use Rattle.lv_schema.specs.Sound.{IsSchema};
-ghost use Rattle.lv_schema.specs.declared.bound.Bound.TheVariants as bound;
-ghost use Rattle.lv_schema.specs.declared.change.Change.{Change};
+ghost use Rattle.lv_parser.specs.Lines.{ReadsAs};
+ghost use Rattle.lv_schema.specs.declared.bound.Bound.{Bound};
 ghost use Rattle.lv_schema.specs.declared.table.TableDef.{TableDef};
 ghost use Rattle.lv_schema.specs.declared.view.ViewDef.{ViewDef};
-ghost use Rattle.std.specs.Prelude.{◌≡◌, ◌<◌, Bool, List, Ok, length};
+ghost use Rattle.lv_schema.specs.Bound.{IsBound};
+ghost use Rattle.lv_schema.specs.Sound.{IsSchema};
+ghost use Rattle.lv_bind.specs.Faults.{bound_of};
+ghost use Rattle.lv_bind.specs.Spoken.{IsSpoken};
 
-/// A new table that is bound fits its schema.
-pub fn bound_tables_fit()
-    ensures {
-        (tables : List TableDef) (views : List ViewDef) (setup live : Bool) (stmt : Stmt) (def : TableDef) → IsSpoken stmt
-            → bound_of tables views setup live stmt ≡ Ok (bound.Table def) → IsBoundTable tables views def
-    }
+/// The statement of every line without a line feed is spoken: names are names but for their length, lists are not empty,
+/// chains have two parts or more, conditions nest only so deep, and no text holds a line feed.
+pub fn lines_are_spoken()
+    ensures { (line : List ℕ) (stmt : Stmt) → ReadsAs line stmt → list_any (λ b. b == 10) line ≡ false → IsSpoken stmt }
 {}
 
-/// A new view that is bound fits its schema.
-pub fn bound_views_fit()
-    ensures {
-        (tables : List TableDef) (views : List ViewDef) (setup live : Bool) (stmt : Stmt) (def : ViewDef) → IsSchema tables views → IsSpoken stmt → IsWholeView stmt
-            → bound_of tables views setup live stmt ≡ Ok (bound.View def) → IsBoundView tables views def
-    }
-{}
-
-/// A change that is bound changes a table of its schema.
-pub fn changed_tables_exist()
-    ensures {
-        (tables : List TableDef) (views : List ViewDef) (setup live : Bool) (stmt : Stmt) (change : Change)
-            → bound_of tables views setup live stmt ≡ Ok (bound.Change change) → changed_table change < length tables
-    }
-{}
-
-#[tactic(auto, using(crate::proofs::BoundChanges::bound_change_fits))]
-pub fn scratch()
-    ensures { (n : Bool) → n ≡ n }
+/// What a spoken statement is bound to is bound against its schema: what it names is in use, its columns are in range,
+/// kinds agree, and it is inside the limits.
+pub fn bound_statements_fit()
+    ensures { (tables : List TableDef) (views : List ViewDef) (setup live : Bool) (stmt : Stmt) (b : Bound) → IsSchema tables views → IsSpoken stmt
+        → bound_of tables views setup live stmt ≡ Ok b → IsBound tables views b }
 {}

@@ -21,13 +21,11 @@ mod rights;
 #[cfg(test)]
 mod sample;
 mod sources;
-mod spoken;
 mod statement;
 #[cfg(test)]
 mod tests;
 mod unknown;
 
+pub use laws::{bound_statements_fit, lines_are_spoken};
 pub use reading::read_line;
-pub use spoken::lines_are_spoken;
 pub use statement::{BindFault, bind};
-pub use laws::{bound_tables_fit, bound_views_fit, changed_tables_exist};

@@ -13,6 +13,7 @@ use std::alloc::Global;
 
 /// The bound statement of a line, in the setup or not, with a live transaction or without, or the lowest of its faults 1
 /// to 12. Cost: linear in the line, and that of binding.
+#[tactic(auto, using(crate::proofs::ReadLines::read_fits, crate::proofs::LineFaults::refused_by_line))]
 pub fn read_line(
     alloc: Global,
     schema: &Schema,
@@ -29,7 +30,10 @@ pub fn read_line(
     ensures bound { IfOk result (IsBound schema.now.tables schema.now.views) }
 {
     match parse(alloc, line) {
-        Ok(stmt) => bind(alloc, schema, setup, live, &stmt),
+        Ok(stmt) => {
+            let _tables = schema.tables();
+            bind(alloc, schema, setup, live, &stmt)
+        }
         Err(ParseFault::Syntax { byte }) => Err(BindFault::Stmt(Fault::Syntax { byte })),
         Err(ParseFault::NoMemory) => Err(BindFault::NoMemory),
     }
