@@ -1,10 +1,10 @@
 -- A change is bound against its schema.
-use Rattle.std.proofs.Common.{◌≡◌, ◌<◌, ◌≤◌, ◌^◌, ℕ, zero, suc, Bool, true, false, not, cond, ◌&&◌, ◌==◌, List, [], ◌∷◌, ◌++◌, map, length, get_or, Option, Some, None, IfSome, refl, sym, ap, ap₂, subst, ◌∙◌, arith}
-use Rattle.std.specs.Prelude.{Result, Ok, nat_abs, nat_eq, nat_lt, position, slice_get, unwrap_or}
+use Rattle.std.proofs.Common.{◌≡◌, ◌<◌, ◌≤◌, ℕ, zero, suc, Bool, true, false, not, cond, ◌==◌, List, [], ◌∷◌, ◌++◌, map, length, get_or, Option, Some, None, IfSome, refl, sym, ap, subst, ◌∙◌, arith}
+use Rattle.std.specs.Prelude.{Ok, nat_eq, slice_get, unwrap_or}
 use Rattle.std.specs.List.{AllByRecursion, cons_option, flat_map, list_all, list_any}
 use Rattle.std.specs.Option.{option_map}
 use Rattle.std.specs.Str.{bytes_eq}
-use Rattle.std.proofs.lemmas.Bool.{and_from, and_parts, eqb-true, not-true, not_from_false}
+use Rattle.std.proofs.lemmas.Bool.{and_from, and_parts, eqb-true}
 use Rattle.std.proofs.lemmas.List.{length-map}
 use Rattle.std.proofs.lemmas.List.Quantifiers.{position-Some}
 use Rattle.std.proofs.lemmas.Slice.Eq.{bytes_eq-Decides}
@@ -25,14 +25,13 @@ use Rattle.lv_schema.specs.declared.change.Change.{Change}
 use Rattle.lv_schema.specs.declared.change.Change.TheVariants as change
 use Rattle.lv_schema.specs.declared.change.Set.{Set}
 use Rattle.lv_schema.specs.declared.change.SetValue.{SetValue}
-use Rattle.lv_schema.specs.declared.query.Rel.{Rel}
 use Rattle.lv_schema.specs.declared.query.Rel.TheVariants.{Table}
 use Rattle.lv_schema.specs.declared.table.Column.{Column}
 use Rattle.lv_schema.specs.declared.table.Kind.{Kind}
 use Rattle.lv_schema.specs.declared.table.Kind.TheVariants.{Int, Text, Big}
 use Rattle.lv_schema.specs.declared.table.TableDef.{TableDef}
 use Rattle.lv_schema.specs.declared.view.ViewDef.{ViewDef}
-use Rattle.lv_schema.specs.Bound.{IsBoundChange, IsBoundCond, column_set, has_kind, is_bound_set, is_table_kind, is_text, same_kind, set_fits}
+use Rattle.lv_schema.specs.Bound.{IsBoundChange, column_set, has_kind, is_bound_set, is_table_kind, is_text, same_kind, set_fits}
 use Rattle.lv_schema.specs.Catalog.{rel_named}
 use Rattle.lv_schema.specs.Databases.{is_int, row_fits, value_fits}
 use Rattle.lv_schema.specs.Effects.{changed_table}
@@ -46,13 +45,13 @@ use Rattle.lv_bind.specs.Faults.{bound_of}
 use Rattle.lv_bind.specs.InUse.{repeated_sets}
 use Rattle.lv_bind.specs.Kinds.{assign_byte, assign_fits, assign_kinds, both_or_none, compared_kinds, insert_columns, kind_of, literal_fits, tuple_kinds, value_is_text, value_kinds}
 use Rattle.lv_bind.specs.Limits.{assign_texts, compared_texts, lengths, tuple_texts, value_texts}
-use Rattle.lv_bind.specs.Pieces.{Sides, alone, assign_columns, columns_in, compared_columns, sides_of, source_columns}
+use Rattle.lv_bind.specs.Pieces.{alone, assign_columns, compared_columns, sides_of, source_columns}
 use Rattle.lv_bind.specs.Ranges.{wide_assign, wide_tuple, wide_value}
 use Rattle.lv_bind.specs.Sources.{Alias, column_named, columns_of, first, goes_by, no_column, place_at, place_in, place_of, shown_unless, sources_of, table_source}
-use Rattle.lv_bind.specs.Spoken.{IsSpoken, IsSpokenCond, assigned_in_line, tuple_in_line, value_in_line}
+use Rattle.lv_bind.specs.Spoken.{IsSpoken, assigned_in_line, tuple_in_line, value_in_line}
 use Rattle.lv_bind.specs.Unknown.{is_nil, is_table, unknown_columns, unknown_table}
 use Rattle.lv_bind.proofs.BoundViews.{cond_fits, nat_comm}
-use Rattle.lv_bind.proofs.ColumnLemmas.{IsKnown, all_append, all_columns, all_known, all_mapped, kind_known, line_fits, table_kind}
+use Rattle.lv_bind.proofs.ColumnLemmas.{IsKnown, all_append, all_known, all_mapped, kind_known, line_fits, table_kind}
 use Rattle.lv_bind.proofs.FoundFaults.{IsFaultless, append_parts, faultless, none_over, shown_well}
 use Rattle.lv_bind.proofs.NameLemmas.{apart_mapped, repeated_apart, table_in_use}
 
@@ -116,7 +115,7 @@ row_so (c ∷ cs) (l ∷ ls) same table kinds wide line short =
     let n : (value_in_line l.value ≡ true) × (list_all (λ l. value_in_line l.value) ls ≡ true) = and_parts (value_in_line l.value) (list_all (λ l. value_in_line l.value) ls) line in
     let s : AllByRecursion IsShort (value_texts l.value) × AllByRecursion IsShort (flat_map (λ l. value_texts l.value) ls) = all_append IsShort (value_texts l.value) (flat_map (λ l. value_texts l.value) ls) short in
     and_from (value_fits c.kind l.value) (row_fits cs (map (λ l. l.value) ls)) (value_so c.kind l.value t.0 (shown_well (literal_fits c.kind l) l.byte k.0) w.0 n.0 s.0)
-        (row_so cs ls (omega (arith, same)) t.1 k.1 w.1 n.1 s.1)
+    (row_so cs ls (omega (arith, same)) t.1 k.1 w.1 n.1 s.1)
 
 rows_so : (columns : List Column) (tuples : List Tuple) → list_all (λ c. is_table_kind c.kind) columns ≡ true → flat_map (tuple_kinds columns) tuples ≡ [] → flat_map wide_tuple tuples ≡ []
     → list_all tuple_in_line tuples ≡ true → AllByRecursion IsShort (flat_map tuple_texts tuples) → list_all (row_fits columns) (bound_rows tuples) ≡ true
@@ -198,7 +197,7 @@ module _ (s : Alias) (key : List ℕ) (table : list_all (λ c. is_table_kind c.k
   value_set k (value.Plus col amount) kind known kinds wide line short =
       let numbers : (not (is_text k) ≡ true) × (not (is_text (kind_of (s ∷ []) (alone col))) ≡ true) = and_parts (not (is_text k)) (not (is_text (kind_of (s ∷ []) (alone col)))) kinds in
       let has : has_kind k (slice_get s.columns (place_of (s ∷ []) (alone col)).column) ≡ true =
-          has_some (slice_get s.columns (place_of (s ∷ []) (alone col)).column) k (kind_of (s ∷ []) (alone col)) (kind_one s (alone col) known.0) (same_of_numbers k (kind_of (s ∷ []) (alone col)) numbers.0 numbers.1) in
+      has_some (slice_get s.columns (place_of (s ∷ []) (alone col)).column) k (kind_of (s ∷ []) (alone col)) (kind_one s (alone col) known.0) (same_of_numbers k (kind_of (s ∷ []) (alone col)) numbers.0 numbers.1) in
       rw (numbers.0, has, line) refl
 
   any_comm : (at : ℕ) (ks : List ℕ) → list_any (nat_eq at) ks ≡ list_any (λ k. k == at) ks
@@ -213,17 +212,17 @@ module _ (s : Alias) (key : List ℕ) (table : list_all (λ c. is_table_kind c.k
       let kn : AllByRecursion (IsKnown (s ∷ [])) (assign_columns a) × AllByRecursion (IsKnown (s ∷ [])) (flat_map assign_columns sets) = all_append (IsKnown (s ∷ [])) (assign_columns a) (flat_map assign_columns sets) known in
       let k : (assign_kinds (s ∷ []) a ≡ []) × (flat_map (assign_kinds (s ∷ [])) sets ≡ []) = append_parts (assign_kinds (s ∷ []) a) (flat_map (assign_kinds (s ∷ [])) sets) kinds in
       let ky : (shown_unless (not (list_any (nat_eq (place_of (s ∷ []) (alone a.column)).column) key)) a.column.name ≡ []) × (assigned_keys (s ∷ []) key sets ≡ []) =
-          append_parts (shown_unless (not (list_any (nat_eq (place_of (s ∷ []) (alone a.column)).column) key)) a.column.name) (assigned_keys (s ∷ []) key sets) keys in
+      append_parts (shown_unless (not (list_any (nat_eq (place_of (s ∷ []) (alone a.column)).column) key)) a.column.name) (assigned_keys (s ∷ []) key sets) keys in
       let w : (wide_assign a.value ≡ []) × (flat_map (λ a. wide_assign a.value) sets ≡ []) = append_parts (wide_assign a.value) (flat_map (λ a. wide_assign a.value) sets) wide in
       let n : (assigned_in_line a.value ≡ true) × (list_all (λ a. assigned_in_line a.value) sets ≡ true) = and_parts (assigned_in_line a.value) (list_all (λ a. assigned_in_line a.value) sets) line in
       let sh : AllByRecursion IsShort (assign_texts a.value) × AllByRecursion IsShort (flat_map (λ a. assign_texts a.value) sets) = all_append IsShort (assign_texts a.value) (flat_map (λ a. assign_texts a.value) sets) short in
       let kind : is_table_kind (kind_of (s ∷ []) (alone a.column)) ≡ true = table_kind (s ∷ []) (alone a.column) (table, tt) kn.0.0 in
       let fits : set_fits s.columns (kind_of (s ∷ []) (alone a.column)) (bound_value (s ∷ []) a.value) ≡ true =
-          value_set (kind_of (s ∷ []) (alone a.column)) a.value kind kn.0.1 (shown_well (assign_fits (s ∷ []) (kind_of (s ∷ []) (alone a.column)) a.value) (assign_byte a.value) k.0) w.0 n.0 sh.0 in
+      value_set (kind_of (s ∷ []) (alone a.column)) a.value kind kn.0.1 (shown_well (assign_fits (s ∷ []) (kind_of (s ∷ []) (alone a.column)) a.value) (assign_byte a.value) k.0) w.0 n.0 sh.0 in
       let there : column_set s.columns (slice_get s.columns (place_of (s ∷ []) (alone a.column)).column) (bound_value (s ∷ []) a.value) ≡ true =
-          set_some s.columns (slice_get s.columns (place_of (s ∷ []) (alone a.column)).column) (kind_of (s ∷ []) (alone a.column)) (bound_value (s ∷ []) a.value) (kind_one s (alone a.column) kn.0.0) fits in
+      set_some s.columns (slice_get s.columns (place_of (s ∷ []) (alone a.column)).column) (kind_of (s ∷ []) (alone a.column)) (bound_value (s ∷ []) a.value) (kind_one s (alone a.column) kn.0.0) fits in
       let free : not (list_any (λ k. k == (place_of (s ∷ []) (alone a.column)).column) key) ≡ true =
-          rw (← any_comm (place_of (s ∷ []) (alone a.column)).column key) (shown_well (not (list_any (nat_eq (place_of (s ∷ []) (alone a.column)).column) key)) a.column.name ky.0) in
+      rw (← any_comm (place_of (s ∷ []) (alone a.column)).column key) (shown_well (not (list_any (nat_eq (place_of (s ∷ []) (alone a.column)).column) key)) a.column.name ky.0) in
       let here : is_bound_set def (bound_set (s ∷ []) a) ≡ true = rw (same, same_key) (and_from _ _ there free) in
       and_from (is_bound_set def (bound_set (s ∷ []) a)) _ here (sets_so def same same_key sets kn.1 k.1 ky.1 w.1 n.1 sh.1)
 
@@ -241,7 +240,7 @@ module _ (s : Alias) (key : List ℕ) (table : list_all (λ c. is_table_kind c.k
       → are_apart nat_eq (map (λ (x : Set). x.column) (map (bound_set (s ∷ [])) sets)) ≡ true
   sets_apart sets h e =
       rw (set_columns sets) (apart_mapped (λ a. a.column.name) (λ a. (place_of (s ∷ []) (alone a.column)).column) bytes_eq nat_eq (λ a. IsKnown (s ∷ []) (alone a.column))
-          (λ a b p q same. column_tells s a.column b.column p q same) sets (each_set_known sets h) (repeated_apart (map (λ a. a.column.name) sets) e))
+      (λ a b p q same. column_tells s a.column b.column p q same) sets (each_set_known sets h) (repeated_apart (map (λ a. a.column.name) sets) e))
 
 -- ---- the whole
 
@@ -289,20 +288,22 @@ module _ (tables : List TableDef) (views : List ViewDef) (sound : IsSchema table
       let unknowns : (unknown_table tables views table ≡ []) × (unknown_columns (source ∷ []) cols ++ [] ≡ []) = append_parts (unknown_table tables views table) (unknown_columns (source ∷ []) cols ++ []) clean.known in
       let cols_known : AllByRecursion (IsKnown (source ∷ [])) (flat_map assign_columns sets ++ compared_columns (sides_of c)) = all_known (source ∷ []) cols (append_parts (unknown_columns (source ∷ []) cols) [] unknowns.1).0 in
       let known : AllByRecursion (IsKnown (source ∷ [])) (flat_map assign_columns sets) × AllByRecursion (IsKnown (source ∷ [])) (compared_columns (sides_of c)) =
-          all_append (IsKnown (source ∷ [])) (flat_map assign_columns sets) (compared_columns (sides_of c)) cols_known in
+      all_append (IsKnown (source ∷ [])) (flat_map assign_columns sets) (compared_columns (sides_of c)) cols_known in
       let kinds : (flat_map (assign_kinds (source ∷ [])) sets ≡ []) × (compared_kinds (source ∷ []) (sides_of c) ≡ []) =
-          append_parts (flat_map (assign_kinds (source ∷ [])) sets) (compared_kinds (source ∷ []) (sides_of c)) clean.kinds_agree in
+      append_parts (flat_map (assign_kinds (source ∷ [])) sets) (compared_kinds (source ∷ []) (sides_of c)) clean.kinds_agree in
       let texts : AllByRecursion IsShort (flat_map (λ a. assign_texts a.value) sets ++ compared_texts (sides_of c)) =
-          all_mapped (λ n. n ≤ 256) length (flat_map (λ a. assign_texts a.value) sets ++ compared_texts (sides_of c))
-              (none_over 256 (lengths (flat_map (λ a. assign_texts a.value) sets ++ compared_texts (sides_of c))) clean.small.1.0) in
+      all_mapped (λ n. n ≤ 256) length (flat_map (λ a. assign_texts a.value) sets ++ compared_texts (sides_of c))
+      (none_over 256 (lengths (flat_map (λ a. assign_texts a.value) sets ++ compared_texts (sides_of c))) clean.small.1.0) in
       let short : AllByRecursion IsShort (flat_map (λ a. assign_texts a.value) sets) × AllByRecursion IsShort (compared_texts (sides_of c)) =
-          all_append IsShort (flat_map (λ a. assign_texts a.value) sets) (compared_texts (sides_of c)) texts in
+      all_append IsShort (flat_map (λ a. assign_texts a.value) sets) (compared_texts (sides_of c)) texts in
       let table_kinds : list_all (λ c. is_table_kind c.kind) source.columns ≡ true = subst (λ cs. list_all (λ c. is_table_kind c.kind) cs ≡ true) (sym (columns_here at)) (kinds_here at) in
-      let few : length (sides_of c) ≤ 16 = (none_over 16 (length (sides_of c) ∷ []) clean.small.0).0 in
-      (at.1, rw (length-map sets (bound_set (source ∷ []))) spoken.0,
-          sets_so source here.key table_kinds here (sym (columns_here at)) refl sets known.0 kinds.0 clean.keys_kept clean.in_range spoken.1 short.0,
-          sets_apart source here.key table_kinds sets known.0 clean.free,
-          cond_fits (here.columns ∷ []) (source ∷ []) c (ap (λ (cs : List Column). cs ∷ []) (columns_here at)) spoken.2 known.1 few (all_back (λ n. n ≤ 256) length (compared_texts (sides_of c)) short.1) kinds.1)
+      let few : length (sides_of c) ≤ 16 = (none_over 16 (length (sides_of c) ∷ []) clean.small.0).0 in (
+        at.1,
+        rw (length-map sets (bound_set (source ∷ []))) spoken.0,
+        sets_so source here.key table_kinds here (sym (columns_here at)) refl sets known.0 kinds.0 clean.keys_kept clean.in_range spoken.1 short.0,
+        sets_apart source here.key table_kinds sets known.0 clean.free,
+        cond_fits (here.columns ∷ []) (source ∷ []) c (ap (λ (cs : List Column). cs ∷ []) (columns_here at)) spoken.2 known.1 few (all_back (λ n. n ≤ 256) length (compared_texts (sides_of c)) short.1) kinds.1,
+      )
 
   delete_fits : (c : CondTree) → IsSpoken (Delete table c) → IsFaultless tables views (Delete table c) → IsBoundChange tables (change.Delete (Number tables views table) (bound_cond (source ∷ []) c))
   delete_fits c spoken clean =

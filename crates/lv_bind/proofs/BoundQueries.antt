@@ -1,7 +1,7 @@
 -- A query is bound against its schema.
-use Rattle.std.proofs.Common.{◌≡◌, ◌<◌, ◌≤◌, ◌+◌, ℕ, zero, suc, Bool, true, false, ◌&&◌, List, [], ◌∷◌, ◌++◌, map, length, get_or, Option, Some, None, refl, sym, ap, ap₂, subst, ◌∙◌, arith}
-use Rattle.std.specs.Prelude.{Result, Ok, is_some, nat_lt, position, slice_get, unwrap_or}
-use Rattle.std.specs.List.{AllByRecursion, list_all, list_any, range_with_len}
+use Rattle.std.proofs.Common.{◌≡◌, ◌<◌, ◌≤◌, ◌+◌, ℕ, zero, suc, Bool, true, List, [], ◌∷◌, ◌++◌, map, length, get_or, Option, Some, None, refl, sym, ap, ap₂, subst, ◌∙◌, arith}
+use Rattle.std.specs.Prelude.{is_some}
+use Rattle.std.specs.List.{AllByRecursion, list_all, range_with_len}
 use Rattle.std.specs.Option.{option_map, option_or}
 use Rattle.std.specs.Str.{bytes_eq}
 use Rattle.std.proofs.lemmas.Bool.{and_from, and_parts, lt-ltb, ltb-true}
@@ -23,21 +23,19 @@ use Rattle.lv_schema.specs.declared.query.Rel.TheVariants.{Table, View}
 use Rattle.lv_schema.specs.declared.table.Column.{Column}
 use Rattle.lv_schema.specs.declared.table.TableDef.{TableDef}
 use Rattle.lv_schema.specs.declared.view.ViewDef.{ViewDef}
-use Rattle.lv_schema.specs.Bound.{IsBoundQuery, alias_columns, is_in_range, listed_column, rel_columns, rel_in_use, view_columns}
+use Rattle.lv_schema.specs.Bound.{IsBoundQuery, alias_columns, is_in_range, listed_column, rel_columns, rel_in_use}
 use Rattle.lv_schema.specs.Catalog.{rel_named, table_named, view_named}
 use Rattle.lv_schema.specs.Sound.{IsSchema}
-use Rattle.lv_schema.specs.World.{table_at, view_at}
+use Rattle.lv_schema.specs.World.{view_at}
 use Rattle.lv_bind.specs.Binding.{bound_among, bound_col, bound_cond, bound_list, bound_order, bound_rels, columns_from, rel_of}
-use Rattle.lv_bind.specs.Faults.{bound_of}
-use Rattle.lv_bind.specs.Kinds.{compared_kinds, kind_of}
 use Rattle.lv_bind.specs.Limits.{column_total, compared_texts, lengths, list_length}
-use Rattle.lv_bind.specs.Pieces.{columns_in, compared_columns, listed_columns, sides_of}
+use Rattle.lv_bind.specs.Pieces.{compared_columns, listed_columns, sides_of}
 use Rattle.lv_bind.specs.Sources.{Alias, columns_of, no_column, source_of, sources_of}
-use Rattle.lv_bind.specs.Spoken.{IsSomeList, IsSpoken, IsSpokenCond}
+use Rattle.lv_bind.specs.Spoken.{IsSomeList, IsSpoken}
 use Rattle.lv_bind.specs.Unknown.{unknown_columns, unknown_refs}
 use Rattle.lv_bind.proofs.BoundViews.{cond_fits}
 use Rattle.lv_bind.proofs.ColumnLemmas.{IsKnown, all_append, all_columns, all_known, kind_known}
-use Rattle.lv_bind.proofs.FoundFaults.{IsFaultless, append_parts, faultless, none_over, none_shown}
+use Rattle.lv_bind.proofs.FoundFaults.{IsFaultless, append_parts, none_over, none_shown}
 
 -- ---- all columns of all aliases
 
@@ -52,7 +50,7 @@ some_in_range : (whole : List (List Column)) (n : ℕ) (cs : List Column) → ge
 some_in_range whole n cs same a zero le = refl
 some_in_range whole n cs same a (suc len) le =
     and_from (is_in_range whole (col_of n a)) (list_all (is_in_range whole) (map (col_of n) (range_with_len (a + 1) len)))
-        (one_in_range whole n a cs same (omega arith)) (some_in_range whole n cs same (a + 1) len (omega arith))
+    (one_in_range whole n a cs same (omega arith)) (some_in_range whole n cs same (a + 1) len (omega arith))
 
 all_in_range : (whole : List (List Column)) (n : ℕ) (sources : List Alias) → ((i : ℕ) → get_or whole (n + i) [] ≡ get_or (all_columns sources) i []) → list_all (is_in_range whole) (columns_from n sources) ≡ true
 all_in_range whole n [] same = refl
@@ -61,8 +59,8 @@ all_in_range whole n (s ∷ more) same =
     let here : get_or whole n [] ≡ s.columns = ap (λ j. get_or whole j []) (sym at) ∙ same 0 in
     list_all-append (is_in_range whole) (map (col_of n) (range_with_len 0 (length s.columns))) (columns_from (suc n) more)
     ∙ and_from (list_all (is_in_range whole) (map (col_of n) (range_with_len 0 (length s.columns)))) (list_all (is_in_range whole) (columns_from (suc n) more))
-        (some_in_range whole n s.columns here 0 (length s.columns) (omega arith))
-        (all_in_range whole (suc n) more (λ i. let next : suc n + i ≡ n + suc i = omega arith in ap (λ j. get_or whole j []) next ∙ same (suc i)))
+    (some_in_range whole n s.columns here 0 (length s.columns) (omega arith))
+    (all_in_range whole (suc n) more (λ i. let next : suc n + i ≡ n + suc i = omega arith in ap (λ j. get_or whole j []) next ∙ same (suc i)))
 
 columns_total : (n : ℕ) (sources : List Alias) → length (columns_from n sources) ≡ column_total sources
 columns_total n [] = refl
@@ -132,7 +130,7 @@ module _ (tables : List TableDef) (views : List ViewDef) where
   some_listed sound None (r ∷ refs) some any there =
       let parts : (is_some (rel_named tables views r.name.name) ≡ true) × AreThere refs = and_parts (is_some (rel_named tables views r.name.name)) (list_all (λ r. is_some (rel_named tables views r.name.name)) refs) there in
       let here : 0 < length (columns_of tables views (rel_named tables views r.name.name)) =
-          rw (columns_so (rel_named tables views r.name.name) parts.0) (has_column sound (rel_of (rel_named tables views r.name.name)) (named_in_use r.name.name parts.0)) in
+      rw (columns_so (rel_named tables views r.name.name) parts.0) (has_column sound (rel_of (rel_named tables views r.name.name)) (named_in_use r.name.name parts.0)) in
       rw (columns_total 0 (map (source_of tables views) (r ∷ refs))) (omega (arith, here))
 
 -- ---- the whole
@@ -176,7 +174,7 @@ module _ (tables : List TableDef) (views : List ViewDef) (sound : IsSchema table
     some_list = some_listed tables views sound list refs spoken.0 spoken.1 there;
     few_list = rw (list_size sources list) (none_over 64 (list_length sources list ∷ []) clean.small.1.1.1.1.0).0;
     list_in_range = subst (λ columns. list_all (is_in_range columns) (bound_list sources list) ≡ true) same_columns (list_range sources list known.0);
-    few_order = rw (length-map order (λ by. (bound_col sources by.0, by.1))) (none_over 16 (length order ∷ []) clean.small.1.1.1.1.1.0).0;
+    few_order = rw (length-map {B = Col × Bool} order (λ by. (bound_col sources by.0, by.1))) (none_over 16 (length order ∷ []) clean.small.1.1.1.1.1.0).0;
     order_in_range = subst (λ columns. list_all (λ by. is_in_range columns by.0) (bound_order sources order) ≡ true) same_columns (order_range sources order known_after.1);
   }
 

@@ -1,6 +1,6 @@
 -- What a statement is bound to is bound against its schema.
 use Rattle.std.proofs.Common.{◌≡◌, Bool, List}
-use Rattle.std.specs.Prelude.{Result, Ok}
+use Rattle.std.specs.Prelude.{Ok}
 use Rattle.lv_parser.specs.declared.tree.Stmt.{Stmt}
 use Rattle.lv_parser.specs.declared.tree.Stmt.TheVariants as stmt
 use Rattle.lv_schema.specs.declared.bound.Bound.{Bound}

@@ -1,11 +1,10 @@
 -- A table that is made is bound against its schema.
-use Rattle.std.proofs.Common.{◌≡◌, ◌<◌, ◌≤◌, ℕ, suc, Bool, true, false, not, ◌&&◌, List, [], ◌∷◌, ◌++◌, map, length, get_or, refl, sym, ap, subst, ◌∙◌, arith}
-use Rattle.std.specs.Prelude.{nat_eq, nat_lt, is_none, position, unwrap_or, Some, Result, Ok}
-use Rattle.std.specs.List.{AllByRecursion, list_all, list_any, position_or_len}
+use Rattle.std.proofs.Common.{◌≡◌, ◌<◌, ◌≤◌, ℕ, suc, Bool, true, ◌&&◌, List, [], ◌∷◌, ◌++◌, map, length, get_or, refl, sym, ap, subst, ◌∙◌, arith}
+use Rattle.std.specs.Prelude.{nat_eq, nat_lt, is_none, position, unwrap_or, Some, Ok}
+use Rattle.std.specs.List.{AllByRecursion, list_all}
 use Rattle.std.specs.Str.{bytes_eq}
-use Rattle.std.proofs.lemmas.Bool.{and_from, and_parts, or_parts, lt-ltb, ltb-false, eqb-true}
+use Rattle.std.proofs.lemmas.Bool.{and_from, and_parts, lt-ltb, eqb-true}
 use Rattle.std.proofs.lemmas.List.{length-map}
-use Rattle.std.proofs.lemmas.List.Folds.{list_all-map}
 use Rattle.std.proofs.lemmas.List.Quantifiers.{position-Some}
 use Rattle.std.proofs.lemmas.Slice.Eq.{bytes_eq-Decides}
 use Rattle.lv_parser.specs.declared.tree.ColumnKind.{ColumnKind}
@@ -20,16 +19,15 @@ use Rattle.lv_schema.specs.declared.table.TableDef.{TableDef}
 use Rattle.lv_schema.specs.declared.view.ViewDef.{ViewDef}
 use Rattle.lv_schema.specs.Bound.{IsBoundTable, is_table_kind}
 use Rattle.lv_schema.specs.Names.{is_name}
-use Rattle.lv_schema.specs.Once.{are_apart}
 use Rattle.lv_schema.specs.Catalog.{rel_named}
 use Rattle.lv_bind.specs.Binding.{bound_among, bound_column, bound_kind, bound_table, key_place}
 use Rattle.lv_bind.specs.Faults.{bound_of}
 use Rattle.lv_bind.specs.InUse.{taken, repeated_columns, repeated_names}
 use Rattle.lv_bind.specs.Sources.{sources_of}
 use Rattle.lv_bind.specs.Spoken.{IsSpoken, is_spoken_name}
-use Rattle.lv_bind.specs.Unknown.{is_column, unknown_key}
+use Rattle.lv_bind.specs.Unknown.{is_column}
 use Rattle.lv_bind.proofs.FoundFaults.{IsFaultless, append_parts, faultless, none_over, none_shown, shown_well}
-use Rattle.lv_bind.proofs.NameLemmas.{apart_mapped, name_fits, names_fit, position_found, repeated_apart, taken_free}
+use Rattle.lv_bind.proofs.NameLemmas.{apart_mapped, name_fits, position_found, repeated_apart, taken_free}
 
 abbrev named_so : List ℕ → ColumnTree → Bool
 named_so name c = bytes_eq name c.name.name
@@ -64,7 +62,7 @@ places_below : (cols : List ColumnTree) (key : List Named) → AllByRecursion (�
 places_below cols [] h = refl
 places_below cols (k ∷ key) h =
     and_from (nat_lt (key_place cols k.name) (length (map bound_column cols))) _
-        (lt-ltb _ _ (rw (length-map cols bound_column) (place_below cols k.name h.0))) (places_below cols key h.1)
+    (lt-ltb _ _ (rw (length-map cols bound_column) (place_below cols k.name h.0))) (places_below cols key h.1)
 
 kinds_fit : (cols : List ColumnTree) → list_all (λ c. is_table_kind c.kind) (map bound_column cols) ≡ true
 kinds_fit [] = refl
@@ -83,7 +81,7 @@ columns_named : (cols : List ColumnTree) → list_all (λ c. is_spoken_name c.na
 columns_named [] e le = refl
 columns_named (c ∷ cols) e le =
     let parts : (is_spoken_name c.name.name ≡ true) × (list_all (λ c. is_spoken_name c.name.name) cols ≡ true) =
-        and_parts (is_spoken_name c.name.name) (list_all (λ c. is_spoken_name c.name.name) cols) e in
+    and_parts (is_spoken_name c.name.name) (list_all (λ c. is_spoken_name c.name.name) cols) e in
     and_from (is_name c.name.name) _ (name_fits c.name.name parts.0 le.0) (columns_named cols parts.1 le.1)
 
 module _ (tables : List TableDef) (views : List ViewDef) (name : Named) (cols : List ColumnTree) (key : List Named)

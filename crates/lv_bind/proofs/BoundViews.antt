@@ -1,9 +1,8 @@
 -- A view that is made is bound against its schema.
 use Rattle.std.proofs.Common.{◌≡◌, ◌<◌, ◌≤◌, ℕ, suc, Bool, true, false, not, ◌&&◌, ◌==◌, List, [], ◌∷◌, ◌++◌, map, length, Option, Some, None, refl, sym, ap, ap₂, subst, ◌∙◌, arith}
-use Rattle.std.specs.Prelude.{nat_lt, is_none, is_some, Result, Ok}
+use Rattle.std.specs.Prelude.{nat_lt, is_none, is_some, Ok}
 use Rattle.std.specs.List.{AllByRecursion, cons_option, filter_map, flat_map, list_all, list_any, count_by}
-use Rattle.std.specs.Str.{bytes_eq}
-use Rattle.std.proofs.lemmas.Bool.{and_from, and_parts, eqb-true, le-ltb, lt-ltb, not-true, or_parts}
+use Rattle.std.proofs.lemmas.Bool.{and_from, and_parts, eqb-true, lt-ltb, not-true, or_parts}
 use Rattle.std.proofs.lemmas.Bool.Decides.{same_from_decides, Decides-eqb, Decides-like}
 use Rattle.std.proofs.lemmas.List.{length-map}
 use Rattle.lv_parser.specs.declared.tree.ColName.{ColName}
@@ -26,7 +25,7 @@ use Rattle.lv_schema.specs.declared.table.Kind.TheVariants.{Int, Text, Big}
 use Rattle.lv_schema.specs.declared.table.TableDef.{TableDef}
 use Rattle.lv_schema.specs.declared.view.Item.{Item}
 use Rattle.lv_schema.specs.declared.view.ViewDef.{ViewDef}
-use Rattle.lv_schema.specs.Bound.{IsBoundCond, IsBoundView, IsKeptCond, IsGroupList, IsPlainList, IsProfile, alias_columns, all_key_cols, has_col, is_count, is_in_range, is_int_column, is_plain, is_table_kind, is_text, item_name, same_col}
+use Rattle.lv_schema.specs.Bound.{IsBoundCond, IsBoundView, IsKeptCond, IsGroupList, IsProfile, alias_columns, is_count, is_in_range, is_int_column, is_table_kind, is_text, item_name, same_col}
 use Rattle.lv_schema.specs.Catalog.{rel_named}
 use Rattle.lv_schema.specs.Differences.{summed_columns, summed_column}
 use Rattle.lv_schema.specs.JoinViews.{plain_column, plain_columns}
@@ -34,17 +33,16 @@ use Rattle.lv_schema.specs.Names.{is_name}
 use Rattle.lv_schema.specs.Once.{are_apart}
 use Rattle.lv_schema.specs.Profile.{are_among, broken, broken_rules, keeps_count, keeps_group, keeps_key}
 use Rattle.lv_schema.specs.Sound.{IsSchema}
-use Rattle.lv_schema.specs.World.{table_at}
 use Rattle.lv_bind.specs.declared.sources.Place.{Place}
 use Rattle.lv_bind.specs.Binding.{bound_among, bound_col, bound_cond, bound_item, bound_view, table_number, table_numbers}
 use Rattle.lv_bind.specs.Faults.{bound_of}
 use Rattle.lv_bind.specs.InUse.{output_of, regrouped, regrouped_after, repeated_aliases, repeated_outputs, same_place, taken}
 use Rattle.lv_bind.specs.Kinds.{column_byte, compared_kinds, item_kinds, kind_of}
 use Rattle.lv_bind.specs.Limits.{alias_names, compared_texts, lengths, output_names}
-use Rattle.lv_bind.specs.Pieces.{Sides, columns_in, compared_columns, item_columns, sides_of}
+use Rattle.lv_bind.specs.Pieces.{columns_in, compared_columns, item_columns, sides_of}
 use Rattle.lv_bind.specs.Profile.{is_view, names_view}
 use Rattle.lv_bind.specs.Sources.{Alias, columns_of, place_of, shown_unless, source_of, sources_of}
-use Rattle.lv_bind.specs.Spoken.{IsSpoken, IsSpokenCond, is_spoken_name, nesting, output_name}
+use Rattle.lv_bind.specs.Spoken.{IsSpoken, IsSpokenCond, is_spoken_name, output_name}
 use Rattle.lv_bind.specs.Unknown.{is_table, unknown_columns, unknown_refs}
 use Rattle.lv_bind.specs.Whole.{IsWhole, IsWholeView}
 use Rattle.lv_bind.proofs.ColumnLemmas.{IsKnown, all_append, all_columns, all_known, all_mapped, kind_known, pairs_fit, table_kind}
@@ -121,7 +119,7 @@ regrouped_fresh : (sources : List Alias) (before : List Place) (cols : List ColN
 regrouped_fresh sources before [] e = tt
 regrouped_fresh sources before (col ∷ cols) e =
     let parts : (shown_unless (not (list_any (same_place (place_of sources col)) before)) col.name.name ≡ []) × (regrouped_after sources (before ++ place_of sources col ∷ []) cols ≡ []) =
-        append_parts _ (regrouped_after sources (before ++ place_of sources col ∷ []) cols) e in
+    append_parts _ (regrouped_after sources (before ++ place_of sources col ∷ []) cols) e in
     (not-true _ (shown_well (not (list_any (same_place (place_of sources col)) before)) col.name.name parts.0), regrouped_fresh sources (before ++ place_of sources col ∷ []) cols parts.1)
 
 pub nat_comm : (a b : ℕ) → (a == b) ≡ (b == a)
@@ -148,7 +146,7 @@ all_units (x ∷ xs) = (tt, all_units xs)
 groups_apart : (sources : List Alias) (groups : List ColName) → regrouped sources groups ≡ [] → are_apart same_col (map (bound_col sources) groups) ≡ true
 groups_apart sources groups e =
     apart_mapped (place_of sources) (bound_col sources) same_place same_col (λ x. Unit {0}) (λ x y p q same. same) groups (all_units groups)
-        (fresh_apart same_place place_comm [] (map (place_of sources) groups) (regrouped_fresh sources [] groups e)).0
+    (fresh_apart same_place place_comm [] (map (place_of sources) groups) (regrouped_fresh sources [] groups e)).0
 
 plain_few : (items : List Item) → length (plain_columns items) ≤ length items
 plain_few [] = omega arith
@@ -188,7 +186,7 @@ module _ (tables : List TableDef) (views : List ViewDef) where
   tables_kinds sound [] h = tt
   tables_kinds sound (r ∷ refs) h =
       let at : (rel_named tables views r.name.name ≡ Some (Table (table_number (rel_named tables views r.name.name)))) × (table_number (rel_named tables views r.name.name) < length tables) =
-          table_in_use tables views r.name.name h.0 in
+      table_in_use tables views r.name.name h.0 in
       (subst (λ rel. list_all (λ c. is_table_kind c.kind) (columns_of tables views rel) ≡ true) (sym at.0) (sound.each_table _ at.1).kinds, tables_kinds sound refs h.1)
 
 -- ---- conditions
@@ -197,17 +195,17 @@ pub cond_fits : (aliases : List (List Column)) (sources : List Alias) (c : CondT
     → AllByRecursion (IsKnown sources) (compared_columns (sides_of c)) → length (sides_of c) ≤ 16 → AllByRecursion (λ n. n ≤ 256) (lengths (compared_texts (sides_of c)))
     → compared_kinds sources (sides_of c) ≡ [] → IsBoundCond aliases (bound_cond sources c)
 cond_fits aliases sources c same spoken known few short kinds = record {
-    compares_well =
-        compares_bound aliases sources c
-        ∙ subst (λ columns. list_all (pair_fits columns sources) (sides_of c) ≡ true) same (pairs_fit sources (sides_of c) known (sym (texts_in_line c) ∙ spoken.in_line) short kinds);
-    few = rw (comparisons_bound sources c) few;
-  }
+  compares_well =
+      compares_bound aliases sources c
+      ∙ subst (λ columns. list_all (pair_fits columns sources) (sides_of c) ≡ true) same (pairs_fit sources (sides_of c) known (sym (texts_in_line c) ∙ spoken.in_line) short kinds);
+  few = rw (comparisons_bound sources c) few;
+}
 
 cond_kept : (sources : List Alias) (c : CondTree) → IsSpokenCond c → IsWhole c → length (sides_of c) ≤ 16 → IsKeptCond (bound_cond sources c)
 cond_kept sources c spoken whole few = record {
-    branches_well = branches_bound sources c spoken.chained whole (omega (arith, few));
-    shallow = rw (depth_bound sources c) (omega (arith, few, spoken.compared));
-  }
+  branches_well = branches_bound sources c spoken.chained whole (omega (arith, few));
+  shallow = rw (depth_bound sources c) (omega (arith, few, spoken.compared));
+}
 
 -- ---- the rules on a view's list
 
@@ -232,18 +230,18 @@ module _ (tables : List TableDef) (sources : List Alias) (items : List Item) (nu
   fits_profile at name cond [] apart keeps = record { no_groups = refl; plain = keeps.0; keys_listed = keeps.2 }
   fits_profile at name cond (g ∷ groups) apart keeps =
       subst (IsProfile tables (view_of at name cond (g ∷ groups))) (sym (lt-ltb 0 (length (g ∷ groups)) (omega arith)))
-          (by (groups_apart sources (g ∷ groups) apart) (and_parts _ (are_among (map (bound_col sources) (g ∷ groups)) (plain_columns items)) keeps.0))
+      (by (groups_apart sources (g ∷ groups) apart) (and_parts _ (are_among (map (bound_col sources) (g ∷ groups)) (plain_columns items)) keeps.0))
     where
       by : are_apart same_col (map (bound_col sources) (g ∷ groups)) ≡ true
           → (are_among (plain_columns items) (map (bound_col sources) (g ∷ groups)) ≡ true) × (are_among (map (bound_col sources) (g ∷ groups)) (plain_columns items) ≡ true)
           → IsGroupList (view_of at name cond (g ∷ groups))
       by once among = record {
-          some_groups = omega arith;
-          few_groups = omega (arith, no_longer same_col col_tells col_comm (map (bound_col sources) (g ∷ groups)) (plain_columns items) once among.1, plain_few items, few);
-          groups_listed = among.1;
-          listed_grouped = among.0;
-          one_count = eqb-true (count_by is_count items) 1 keeps.1;
-        }
+        some_groups = omega arith;
+        few_groups = omega (arith, no_longer same_col col_tells col_comm (map (bound_col sources) (g ∷ groups)) (plain_columns items) once among.1, plain_few items, few);
+        groups_listed = among.1;
+        listed_grouped = among.0;
+        one_count = eqb-true (count_by is_count items) 1 keeps.1;
+      }
 
 -- ---- the whole
 
@@ -313,9 +311,9 @@ module _ (tables : List TableDef) (views : List ViewDef) (sound : IsSchema table
   keeps : Keeps tables sources (map (bound_item sources) items) (table_numbers tables views refs) few_bound groups
   keeps =
       let group : (broken (keeps_group def.items def.groups) rule.Group ≡ []) × (broken (keeps_count def.items def.groups) rule.Count ++ broken (keeps_key tables def.tables def.items def.groups) rule.Key ≡ []) =
-          append_parts (broken (keeps_group def.items def.groups) rule.Group) (broken (keeps_count def.items def.groups) rule.Count ++ broken (keeps_key tables def.tables def.items def.groups) rule.Key) rules_kept.1 in
+      append_parts (broken (keeps_group def.items def.groups) rule.Group) (broken (keeps_count def.items def.groups) rule.Count ++ broken (keeps_key tables def.tables def.items def.groups) rule.Key) rules_kept.1 in
       let count : (broken (keeps_count def.items def.groups) rule.Count ≡ []) × (broken (keeps_key tables def.tables def.items def.groups) rule.Key ≡ []) =
-          append_parts (broken (keeps_count def.items def.groups) rule.Count) (broken (keeps_key tables def.tables def.items def.groups) rule.Key) group.1 in
+      append_parts (broken (keeps_count def.items def.groups) rule.Count) (broken (keeps_key tables def.tables def.items def.groups) rule.Key) group.1 in
       (shown_well (keeps_group def.items def.groups) rule.Group group.0, shown_well (keeps_count def.items def.groups) rule.Count count.0, shown_well (keeps_key tables def.tables def.items def.groups) rule.Key count.1)
 
   pub view_fits : IsBoundView tables views def

@@ -1,7 +1,7 @@
 -- A known column is in range, and has the kind that its place tells.
-use Rattle.std.proofs.Common.{◌≡◌, ◌<◌, ◌≤◌, ◌+◌, ℕ, zero, suc, Bool, true, false, not, cond, ◌&&◌, List, [], ◌∷◌, ◌++◌, map, length, get_or, Option, Some, None, IfSome, refl, sym, ap, ap₂, subst, ◌∙◌, arith}
-use Rattle.std.specs.Prelude.{is_some, unwrap_or, position, slice_get}
-use Rattle.std.specs.List.{AllByRecursion, cons_option, flat_map, list_all}
+use Rattle.std.proofs.Common.{◌≡◌, ◌<◌, ◌≤◌, ◌+◌, ℕ, zero, suc, Bool, true, false, not, cond, List, [], ◌∷◌, ◌++◌, map, length, get_or, Option, Some, None, IfSome, refl, ap, ap₂, subst, ◌∙◌, arith}
+use Rattle.std.specs.Prelude.{unwrap_or}
+use Rattle.std.specs.List.{AllByRecursion, cons_option, list_all}
 use Rattle.std.specs.Option.{option_map}
 use Rattle.std.specs.Str.{bytes_eq}
 use Rattle.std.proofs.lemmas.Bool.{and_from, and_parts, le-leb, not-true}
@@ -17,11 +17,11 @@ use Rattle.lv_schema.specs.Bound.{both_are, is_table_kind, is_text, operand_text
 use Rattle.lv_schema.specs.Bound as b
 use Rattle.lv_schema.specs.Databases.{is_line}
 use Rattle.lv_bind.specs.declared.sources.Place.{Place}
-use Rattle.lv_bind.specs.Binding.{bound_col, bound_literal, bound_side, col_at}
+use Rattle.lv_bind.specs.Binding.{bound_col, bound_literal, bound_side}
 use Rattle.lv_bind.specs.Kinds.{both_or_none, compared_kinds, kind_of, side_byte, side_is_text, value_is_text}
 use Rattle.lv_bind.specs.Limits.{compared_texts, lengths, side_texts, value_texts}
 use Rattle.lv_bind.specs.Pieces.{Sides, compared_columns, side_columns}
-use Rattle.lv_bind.specs.Sources.{Alias, column_named, first, goes_by, kind_at, no_alias, no_column, place_at, place_in, place_of, places, places_from, shown_unless}
+use Rattle.lv_bind.specs.Sources.{Alias, column_named, first, goes_by, no_alias, no_column, place_at, place_in, place_of, places, places_from, shown_unless}
 use Rattle.lv_bind.specs.Spoken.{is_in_line, side_in_line, value_in_line}
 use Rattle.lv_bind.specs.Unknown.{is_nil, unknown_columns, unknown_in, unknown_qualifier}
 use Rattle.lv_bind.proofs.FoundFaults.{append_parts, each_empty, each_of, none_shown, shown_well}
@@ -106,13 +106,13 @@ pub table_kind : (sources : List Alias) (col : ColName) → AllByRecursion (λ s
     → is_table_kind (kind_of sources col) ≡ true
 table_kind sources col kinds known =
     test_at (λ c. is_table_kind c.kind) (get_or sources (place_of sources col).alias no_alias).columns (place_of sources col).column no_column
-        (all_at (λ s. list_all (λ c. is_table_kind c.kind) s.columns ≡ true) sources (place_of sources col).alias no_alias kinds refl)
-        (rw (← columns_at sources (place_of sources col).alias) (known_place sources col known))
+    (all_at (λ s. list_all (λ c. is_table_kind c.kind) s.columns ≡ true) sources (place_of sources col).alias no_alias kinds refl)
+    (rw (← columns_at sources (place_of sources col).alias) (known_place sources col known))
 
 each_known_in : (sources : List Alias) (col : ColName) → unknown_in sources col ≡ [] → IsKnown sources col
 each_known_in sources col e =
     let parts : (unknown_qualifier sources col.qualifier ≡ []) × (shown_unless (not (is_nil (places sources col))) col.name.name ≡ []) =
-        append_parts (unknown_qualifier sources col.qualifier) (shown_unless (not (is_nil (places sources col))) col.name.name) e in
+    append_parts (unknown_qualifier sources col.qualifier) (shown_unless (not (is_nil (places sources col))) col.name.name) e in
     not-true (is_nil (places sources col)) (shown_well (not (is_nil (places sources col))) col.name.name parts.1)
 
 pub all_known : (sources : List Alias) (cols : List ColName) → unknown_columns sources cols ≡ [] → AllByRecursion (IsKnown sources) cols
@@ -150,11 +150,11 @@ pairs_so sources (p ∷ pairs) known line short kinds =
     let ss : AllByRecursion (λ t. length t ≤ 256) (side_texts p.0) × AllByRecursion (λ t. length t ≤ 256) (side_texts p.1) = all_append (λ t. length t ≤ 256) (side_texts p.0) (side_texts p.1) s.0 in
     let g : (both_or_none (side_is_text sources p.0) (side_is_text sources p.1) ≡ true) × (list_all (λ sides. both_or_none (side_is_text sources sides.0) (side_is_text sources sides.1)) pairs ≡ true) = and_parts _ _ kinds in
     let here : pair_fits (all_columns sources) sources p ≡ true =
-        ap₂ both_are (side_text sources p.0 ks.0 ls.0 ss.0) (side_text sources p.1 ks.1 ls.1 ss.1) ∙ both_some (side_is_text sources p.0) (side_is_text sources p.1) ∙ g.0 in
+    ap₂ both_are (side_text sources p.0 ks.0 ls.0 ss.0) (side_text sources p.1 ks.1 ls.1 ss.1) ∙ both_some (side_is_text sources p.0) (side_is_text sources p.1) ∙ g.0 in
     and_from (pair_fits (all_columns sources) sources p) _ here (pairs_so sources pairs k.1 l.1 s.1 g.1)
 
 pub pairs_fit : (sources : List Alias) (pairs : List Sides) → AllByRecursion (IsKnown sources) (compared_columns pairs) → list_all pair_in_line pairs ≡ true
     → AllByRecursion (λ n. n ≤ 256) (lengths (compared_texts pairs)) → compared_kinds sources pairs ≡ [] → list_all (pair_fits (all_columns sources) sources) pairs ≡ true
 pairs_fit sources pairs known line short kinds =
     pairs_so sources pairs known line (all_mapped (λ n. n ≤ 256) length (compared_texts pairs) short)
-        (none_shown (λ sides. both_or_none (side_is_text sources sides.0) (side_is_text sources sides.1)) (λ sides. side_byte sides.1) pairs kinds)
+    (none_shown (λ sides. both_or_none (side_is_text sources sides.0) (side_is_text sources sides.1)) (λ sides. side_byte sides.1) pairs kinds)

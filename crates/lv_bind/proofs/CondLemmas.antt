@@ -1,7 +1,7 @@
 -- A bound condition compares, counts and nests as its tree does.
-use Rattle.std.proofs.Common.{◌≡◌, ◌<◌, ◌≤◌, ◌+◌, ◌⊎◌, ℕ, zero, suc, Bool, true, false, not, ◌&&◌, List, [], ◌∷◌, ◌++◌, map, length, refl, sym, ap, subst, subst₂, ◌∙◌, arith, ⊎_elim}
+use Rattle.std.proofs.Common.{◌≡◌, ◌<◌, ◌≤◌, ◌+◌, ℕ, Bool, true, false, ◌&&◌, List, [], ◌∷◌, ◌++◌, map, length, refl, sym, ap, subst, subst₂, ◌∙◌, arith, ⊎_elim}
 use Rattle.std.specs.Prelude.{nat_le, sum}
-use Rattle.std.specs.List.{AllByRecursion, list_all}
+use Rattle.std.specs.List.{list_all}
 use Rattle.std.proofs.lemmas.Bool.{and_from, and_parts, le-leb, leb-true}
 use Rattle.std.proofs.lemmas.List.{length-append, length-map}
 use Rattle.std.proofs.lemmas.List.Folds.{list_all-append}
@@ -76,12 +76,12 @@ module _ (A B : Type 0) (f : CondTree-F A → A) (g : CondTree-F B → B) (R : A
   Related c = R (fold-CondTree A f c) (fold-CondTree B g c)
 
   pub two_folds : ((y : CondTree-F ((q : CondTree) × Related q))
-          → R (f (map-CondTree CondTree A (fold-CondTree A f) (map-CondTree ((q : CondTree) × Related q) CondTree (λ e. e.0) y)))
-              (g (map-CondTree CondTree B (fold-CondTree B g) (map-CondTree ((q : CondTree) × Related q) CondTree (λ e. e.0) y))))
+      → R (f (map-CondTree CondTree A (fold-CondTree A f) (map-CondTree ((q : CondTree) × Related q) CondTree (λ e. e.0) y)))
+      (g (map-CondTree CondTree B (fold-CondTree B g) (map-CondTree ((q : CondTree) × Related q) CondTree (λ e. e.0) y))))
       → (c : CondTree) → Related c
   two_folds step = ind-CondTree Related (λ x y is.
       subst₂ R (sym (fold-roll-CondTree A f x)) (sym (fold-roll-CondTree B g x))
-          (subst (λ z. R (f (map-CondTree CondTree A (fold-CondTree A f) z)) (g (map-CondTree CondTree B (fold-CondTree B g) z))) is (step y)))
+      (subst (λ z. R (f (map-CondTree CondTree A (fold-CondTree A f) z)) (g (map-CondTree CondTree B (fold-CondTree B g) z))) is (step y)))
 
 -- ---- what holds of a condition where it holds of each comparison
 
@@ -110,7 +110,7 @@ module _ (f : CondTree-F Bool → Bool) (p : Sides → Bool) (at_true : f CondTr
 
   tested_layer : (y : CondTree-F ((q : CondTree) × TestsSo q))
       → Tests (f (map-CondTree CondTree Bool (fold-CondTree Bool f) (map-CondTree ((q : CondTree) × TestsSo q) CondTree (λ e. e.0) y)))
-          (sides_step (map-CondTree CondTree (List Sides) sides_of (map-CondTree ((q : CondTree) × TestsSo q) CondTree (λ e. e.0) y)))
+      (sides_step (map-CondTree CondTree (List Sides) sides_of (map-CondTree ((q : CondTree) × TestsSo q) CondTree (λ e. e.0) y)))
   tested_layer CondTree-F.True = at_true
   tested_layer (CondTree-F.Cmp op l r) = at_cmp op l r ∙ and_true (p (l, r))
   tested_layer (CondTree-F.And ys) = at_and _ ∙ all_tested ys
@@ -158,7 +158,7 @@ module _ (sources : List Alias) where
 
   counted_layer : (y : CondTree-F ((q : CondTree) × CountsSo q))
       → Counts (counted_step (map-CondTree CondTree ℕ (fold-CondTree ℕ counted_step) (map-CondTree ((q : CondTree) × CountsSo q) CondTree (λ e. e.0) y)))
-          (sides_step (map-CondTree CondTree (List Sides) sides_of (map-CondTree ((q : CondTree) × CountsSo q) CondTree (λ e. e.0) y)))
+      (sides_step (map-CondTree CondTree (List Sides) sides_of (map-CondTree ((q : CondTree) × CountsSo q) CondTree (λ e. e.0) y)))
   counted_layer CondTree-F.True = refl
   counted_layer (CondTree-F.Cmp op l r) = refl
   counted_layer (CondTree-F.And ys) = all_counted ys
@@ -168,7 +168,7 @@ module _ (sources : List Alias) where
   pub comparisons_bound : (c : CondTree) → comparisons (bound_cond sources c) ≡ length (sides_of c)
   comparisons_bound c = fold_bound ℕ comparisons_step sources c ∙ two_folds ℕ (List Sides) counted_step sides_step Counts counted_layer c
 
--- ---- how deep it nests
+  -- ---- how deep it nests
 
   abbrev Same : ℕ → ℕ → Type 0
   Same a b = a ≡ b
@@ -185,7 +185,7 @@ module _ (sources : List Alias) where
 
   nested_layer : (y : CondTree-F ((q : CondTree) × NestsSo q))
       → Same (deep_step (map-CondTree CondTree ℕ (fold-CondTree ℕ deep_step) (map-CondTree ((q : CondTree) × NestsSo q) CondTree (λ e. e.0) y)))
-          (nesting_step (map-CondTree CondTree ℕ nesting (map-CondTree ((q : CondTree) × NestsSo q) CondTree (λ e. e.0) y)))
+      (nesting_step (map-CondTree CondTree ℕ nesting (map-CondTree ((q : CondTree) × NestsSo q) CondTree (λ e. e.0) y)))
   nested_layer CondTree-F.True = refl
   nested_layer (CondTree-F.Cmp op l r) = refl
   nested_layer (CondTree-F.And ys) = ap (λ parts. 1 + deepest parts) (all_nested ys)
@@ -195,7 +195,7 @@ module _ (sources : List Alias) where
   pub depth_bound : (c : CondTree) → depth (bound_cond sources c) ≡ nesting c
   depth_bound c = fold_bound ℕ depth_step sources c ∙ two_folds ℕ ℕ deep_step nesting_step Same nested_layer c
 
--- ---- that its chains have two parts or more, and as many as a byte can count
+  -- ---- that its chains have two parts or more, and as many as a byte can count
 
   abbrev branched_step : CondTree-F Bool → Bool
   branched_step y = branches_step (layer Bool sources y)
@@ -217,20 +217,20 @@ module _ (sources : List Alias) where
       let chain : (is_chained y.0 ≡ true) × (list_all (λ part. part) (map is_chained (map (λ e. e.0) ys)) ≡ true) = and_parts (is_chained y.0) _ chained in
       let full : (is_whole y.0 ≡ true) × (list_all (λ part. part) (map is_whole (map (λ e. e.0) ys)) ≡ true) = and_parts (is_whole y.0) _ whole in
       let long : length (sides_of y.0 ++ joined (map sides_of (map (λ e. e.0) ys))) ≡ length (sides_of y.0) + length (joined (map sides_of (map (λ e. e.0) ys))) =
-          length-append (sides_of y.0) (joined (map sides_of (map (λ e. e.0) ys))) in
+      length-append (sides_of y.0) (joined (map sides_of (map (λ e. e.0) ys))) in
       let one : (fold-CondTree Bool branched_step y.0 ≡ true) × (0 < length (sides_of y.0)) = y.1 chain.0 full.0 (omega (arith, few, long)) in
       let more : (list_all (λ part. part) (map (fold-CondTree Bool branched_step) (map (λ e. e.0) ys)) ≡ true) × (length ys ≤ length (joined (map sides_of (map (λ e. e.0) ys)))) =
-          all_branch ys chain.1 full.1 (omega (arith, few, long)) in
+      all_branch ys chain.1 full.1 (omega (arith, few, long)) in
       (and_from (fold-CondTree Bool branched_step y.0) _ one.0 more.0, omega (arith, long, one.1, more.1))
 
   chain_branches : (ys : List ((q : CondTree) × BranchesSo q))
       → Branches (nat_le 2 (length (map is_chained (map (λ e. e.0) ys))) && list_all (λ part. part) (map is_chained (map (λ e. e.0) ys)))
-          (list_all (λ part. part) (map is_whole (map (λ e. e.0) ys))) (joined (map sides_of (map (λ e. e.0) ys)))
-          (is_some_parts (map (fold-CondTree Bool branched_step) (map (λ e. e.0) ys)))
+      (list_all (λ part. part) (map is_whole (map (λ e. e.0) ys))) (joined (map sides_of (map (λ e. e.0) ys)))
+      (is_some_parts (map (fold-CondTree Bool branched_step) (map (λ e. e.0) ys)))
   chain_branches ys chained whole few =
       let chain : (nat_le 2 (length (map is_chained (map (λ e. e.0) ys))) ≡ true) × (list_all (λ part. part) (map is_chained (map (λ e. e.0) ys)) ≡ true) = and_parts _ _ chained in
       let more : (list_all (λ part. part) (map (fold-CondTree Bool branched_step) (map (λ e. e.0) ys)) ≡ true) × (length ys ≤ length (joined (map sides_of (map (λ e. e.0) ys)))) =
-          all_branch ys chain.1 whole few in
+      all_branch ys chain.1 whole few in
       let size : length (map (fold-CondTree Bool branched_step) (map (λ e. e.0) ys)) ≡ length ys = length-map (map (λ e. e.0) ys) (fold-CondTree Bool branched_step) ∙ length-map ys (λ e. e.0) in
       let chain_size : length (map is_chained (map (λ e. e.0) ys)) ≡ length ys = length-map (map (λ e. e.0) ys) is_chained ∙ length-map ys (λ e. e.0) in
       let two : 2 ≤ length (map is_chained (map (λ e. e.0) ys)) = leb-true 2 _ chain.0 in
@@ -240,9 +240,9 @@ module _ (sources : List Alias) where
 
   branched_layer : (y : CondTree-F ((q : CondTree) × BranchesSo q))
       → Branches (chains_step (map-CondTree CondTree Bool is_chained (map-CondTree ((q : CondTree) × BranchesSo q) CondTree (λ e. e.0) y)))
-          (whole_step (map-CondTree CondTree Bool is_whole (map-CondTree ((q : CondTree) × BranchesSo q) CondTree (λ e. e.0) y)))
-          (sides_step (map-CondTree CondTree (List Sides) sides_of (map-CondTree ((q : CondTree) × BranchesSo q) CondTree (λ e. e.0) y)))
-          (branched_step (map-CondTree CondTree Bool (fold-CondTree Bool branched_step) (map-CondTree ((q : CondTree) × BranchesSo q) CondTree (λ e. e.0) y)))
+      (whole_step (map-CondTree CondTree Bool is_whole (map-CondTree ((q : CondTree) × BranchesSo q) CondTree (λ e. e.0) y)))
+      (sides_step (map-CondTree CondTree (List Sides) sides_of (map-CondTree ((q : CondTree) × BranchesSo q) CondTree (λ e. e.0) y)))
+      (branched_step (map-CondTree CondTree Bool (fold-CondTree Bool branched_step) (map-CondTree ((q : CondTree) × BranchesSo q) CondTree (λ e. e.0) y)))
   branched_layer CondTree-F.True chained whole few = (refl, absurd cc)
   branched_layer (CondTree-F.Cmp op l r) chained whole few = (refl, omega arith)
   branched_layer (CondTree-F.And ys) chained whole few = chain_branches ys chained whole few

@@ -1,8 +1,8 @@
 -- A statement that is bound has no fault: each list of faults is empty, and what that says of lists.
-use Rattle.std.proofs.Common.{◌≡◌, ◌≤◌, ℕ, Bool, true, false, not, ◌&&◌, ◌||◌, List, [], ◌∷◌, ◌++◌, length, Option, Some, None, refl}
-use Rattle.std.specs.Prelude.{Result, Ok, Err, nat_lt}
+use Rattle.std.proofs.Common.{◌≡◌, ◌≤◌, ℕ, Bool, true, false, not, List, [], ◌∷◌, ◌++◌, length, Option, Some, None, refl}
+use Rattle.std.specs.Prelude.{Ok, nat_lt}
 use Rattle.std.specs.List.{AllByRecursion, flat_map, list_all, list_any}
-use Rattle.std.specs.Option.{option_map, option_or}
+use Rattle.std.specs.Option.{option_map}
 use Rattle.std.proofs.lemmas.Bool.{and_from, not-true, or_parts, ltb-false}
 use Rattle.lv_schema.specs.declared.fault.Fault.{Fault}
 use Rattle.lv_schema.specs.declared.fault.Fault.TheVariants as fault
@@ -98,15 +98,18 @@ pub record IsFaultless (tables : List TableDef) (views : List ViewDef) (s : Stmt
 pub faultless : (tables : List TableDef) (views : List ViewDef) (setup live : Bool) (s : Stmt) (b : Bound) → bound_of tables views setup live s ≡ Ok b
     → IsFaultless tables views s × (bound_among tables views (sources_of tables views s) s ≡ b)
 unfolding bound_of
-faultless tables views setup live s b e = (record {
-  known = shown_none fault.Unknown (unknown tables views s) none.0;
-  free = shown_none fault.InUse (in_use tables views s) none.1.1.0;
-  kinds_agree = shown_none fault.Kinds (kinds tables views s) none.1.1.1.0;
-  small = none_passed (measures_of tables views s) (first_none (limits tables views s) none.1.1.1.1.0);
-  inside = shown_none fault.Profile (profile tables views s) none.1.1.1.1.1.0;
-  keys_kept = shown_none fault.KeyAssigned (assigned tables views s) none.1.1.1.1.1.1.1.1.1.0;
-  in_range = shown_none fault.Range (ranges s) none.1.1.1.1.1.1.1.1.1.1.0;
-}, parts.1)
+faultless tables views setup live s b e = (
+  record {
+    known = shown_none fault.Unknown (unknown tables views s) none.0;
+    free = shown_none fault.InUse (in_use tables views s) none.1.1.0;
+    kinds_agree = shown_none fault.Kinds (kinds tables views s) none.1.1.1.0;
+    small = none_passed (measures_of tables views s) (first_none (limits tables views s) none.1.1.1.1.0);
+    inside = shown_none fault.Profile (profile tables views s) none.1.1.1.1.1.0;
+    keys_kept = shown_none fault.KeyAssigned (assigned tables views s) none.1.1.1.1.1.1.1.1.1.0;
+    in_range = shown_none fault.Range (ranges s) none.1.1.1.1.1.1.1.1.1.1.0;
+  },
+  parts.1,
+)
   where
     parts : (lowest (faults tables views setup live s) ≡ None) × (bound_among tables views (sources_of tables views s) s ≡ b)
     parts = ok_parts (lowest (faults tables views setup live s)) (bound_among tables views (sources_of tables views s) s) b e

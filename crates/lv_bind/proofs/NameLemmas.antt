@@ -1,17 +1,15 @@
 -- Lists in which nothing stands twice, names that fit, and the places of names.
-use Rattle.std.proofs.Common.{◌≡◌, ◌<◌, ◌≤◌, ◌+◌, ℕ, suc, Bool, true, false, not, cond, ◌&&◌, ◌||◌, List, [], ◌∷◌, ◌++◌, map, length, get_or, Option, Some, None, refl, sym, ap, ◌∙◌, arith}
-use Rattle.std.specs.Prelude.{nat_lt, nat_le, nat_eq, position, is_none, is_some, unwrap_or}
-use Rattle.std.specs.Bool.{Decides}
+use Rattle.std.proofs.Common.{◌≡◌, ◌<◌, ◌≤◌, ℕ, Bool, true, false, not, cond, ◌&&◌, List, [], ◌∷◌, ◌++◌, map, length, Option, Some, None, refl, sym, ap, ◌∙◌, arith}
+use Rattle.std.specs.Prelude.{nat_le, position, is_none}
 use Rattle.std.specs.List.{AllByRecursion, list_all, list_any, position_or_len}
 use Rattle.std.specs.Option.{option_map, option_or}
 use Rattle.std.specs.Str.{bytes_eq}
-use Rattle.std.proofs.lemmas.Bool.{and_from, and_parts, not-true, not_from_false, or_parts, or_from, lt-ltb, le-leb, ltb-false, both_ways}
+use Rattle.std.proofs.lemmas.Bool.{and_from, and_parts, not-true, not_from_false, or_parts, or_from, lt-ltb, le-leb, both_ways}
 use Rattle.std.proofs.lemmas.Bool.Decides.{same_from_decides, Decides-like}
 use Rattle.std.proofs.lemmas.List.{length-map}
 use Rattle.std.proofs.lemmas.List.Folds.{list_any-append}
 use Rattle.std.proofs.lemmas.List.Quantifiers.{position-Some}
 use Rattle.std.proofs.lemmas.Slice.Eq.{bytes_eq-Decides}
-use Rattle.lv_schema.specs.declared.query.Rel.{Rel}
 use Rattle.lv_schema.specs.declared.query.Rel.TheVariants.{Table, View}
 use Rattle.lv_schema.specs.declared.table.TableDef.{TableDef}
 use Rattle.lv_schema.specs.declared.view.ViewDef.{ViewDef}
@@ -19,7 +17,7 @@ use Rattle.lv_schema.specs.Catalog.{table_named, view_named, rel_named}
 use Rattle.lv_schema.specs.Names.{begins_name, continues_name, has_name, is_free, is_name, keywords}
 use Rattle.lv_schema.specs.Once.{are_apart}
 use Rattle.lv_bind.specs.Binding.{table_number}
-use Rattle.lv_bind.specs.InUse.{repeated_after, repeated, taken}
+use Rattle.lv_bind.specs.InUse.{repeated_after, repeated}
 use Rattle.lv_bind.specs.Sources.{shown_unless}
 use Rattle.lv_bind.specs.Spoken.{is_spoken_name}
 use Rattle.lv_bind.specs.Unknown.{is_table}
@@ -43,7 +41,7 @@ none_same same comm k (n ∷ ks) h = or_from (same k n) (list_any (same k) ks) (
 before_last : {K : Type 0} (same : K → K → Bool) (before : List K) (k n : K) → list_any (same n) (before ++ k ∷ []) ≡ false → (list_any (same n) before ≡ false) × (same n k ≡ false)
 before_last same before k n e =
     let parts : (list_any (same n) before ≡ false) × (list_any (same n) (k ∷ []) ≡ false) =
-        or_parts (list_any (same n) before) (list_any (same n) (k ∷ [])) (sym (list_any-append (same n) before (k ∷ [])) ∙ e) in
+    or_parts (list_any (same n) before) (list_any (same n) (k ∷ [])) (sym (list_any-append (same n) before (k ∷ [])) ∙ e) in
     (parts.0, (or_parts (same n k) false parts.1).0)
 
 pub fresh_apart : {K : Type 0} (same : K → K → Bool) → ((a b : K) → same a b ≡ same b a) → (before ks : List K) → AreFresh same before ks
@@ -88,8 +86,8 @@ module _ {X K B : Type 0} (g : X → K) (f : X → B) (sameK : K → K → Bool)
   apart_mapped (x ∷ xs) h e =
       let parts : (not (list_any (sameK (g x)) (map g xs)) ≡ true) × (are_apart sameK (map g xs) ≡ true) = and_parts (not (list_any (sameK (g x)) (map g xs))) (are_apart sameK (map g xs)) e in
       and_from (not (list_any (sameB (f x)) (map f xs))) (are_apart sameB (map f xs))
-          (not_from_false _ (none_mapped x xs h.0 h.1 (not-true (list_any (sameK (g x)) (map g xs)) parts.0)))
-          (apart_mapped xs h.1 parts.1)
+      (not_from_false _ (none_mapped x xs h.0 h.1 (not-true (list_any (sameK (g x)) (map g xs)) parts.0)))
+      (apart_mapped xs h.1 parts.1)
 
 -- ---- names
 
@@ -97,7 +95,7 @@ pub name_fits : (name : List ℕ) → is_spoken_name name ≡ true → length na
 name_fits [] e le = e
 name_fits (b ∷ bytes) e le =
     let parts : ((begins_name b && list_all continues_name bytes) ≡ true) × (not (has_name (b ∷ bytes) keywords) ≡ true) =
-        and_parts (begins_name b && list_all continues_name bytes) (not (has_name (b ∷ bytes) keywords)) e in
+    and_parts (begins_name b && list_all continues_name bytes) (not (has_name (b ∷ bytes) keywords)) e in
     let short : nat_le (length bytes) 31 ≡ true = le-leb (length bytes) 31 (omega arith) in
     let in_parts : (begins_name b ≡ true) × (list_all continues_name bytes ≡ true) = and_parts (begins_name b) (list_all continues_name bytes) parts.0 in
     rw (in_parts.0, in_parts.1, short, parts.1) refl
@@ -138,8 +136,8 @@ taken_free tables views name e = by (table_named tables name) (view_named views 
     by None (Some v) is_a is_b none = cc
     by None None is_a is_b none =
         and_from _ _
-            (not_from_false _ (position_none (bytes_eq name) (map (λ t. t.name) tables) is_a))
-            (not_from_false _ (position_none (bytes_eq name) (map (λ v. v.name) views) is_b))
+        (not_from_false _ (position_none (bytes_eq name) (map (λ t. t.name) tables) is_a))
+        (not_from_false _ (position_none (bytes_eq name) (map (λ v. v.name) views) is_b))
 
 -- a table's number is in use
 pub table_in_use : (tables : List TableDef) (views : List ViewDef) (name : List ℕ) → is_table (rel_named tables views name) ≡ true

@@ -1,5 +1,5 @@
 -- A list in which nothing stands twice is no longer than a list that has each of its elements.
-use Rattle.std.proofs.Common.{◌≡◌, ◌≤◌, ℕ, suc, Bool, true, false, not, cond, ◌||◌, List, [], ◌∷◌, length, refl, ap, subst, ◌∙◌, arith, ⊎_elim}
+use Rattle.std.proofs.Common.{◌≡◌, ◌≤◌, suc, Bool, true, false, not, cond, List, [], ◌∷◌, length, refl, ap, subst, ◌∙◌, arith, ⊎_elim}
 use Rattle.std.specs.List.{list_all, list_any}
 use Rattle.std.proofs.lemmas.Bool.{and_from, and_parts, not-true, or_cases, or_left, or_parts, or_right}
 use Rattle.lv_schema.specs.Once.{are_apart}
@@ -28,7 +28,7 @@ module _ {K : Type 0} (same : K → K → Bool) (tells : (a b : K) → same a b 
           rw is (rw other at e)
       by false is more =
           rw is (⊎_elim (λ t. or_left (same z y) (list_any (same z) (without same x ys)) t) (λ t. or_right (same z y) (list_any (same z) (without same x ys)) (more t))
-              (or_cases (same z y) (list_any (same z) ys) e))
+          (or_cases (same z y) (list_any (same z) ys) e))
 
   all_stay : (x : K) (xs ys : List K) → list_any (same x) xs ≡ false → list_all (λ z. list_any (same z) ys) xs ≡ true → list_all (λ z. list_any (same z) (without same x ys)) xs ≡ true
   all_stay x [] ys d e = refl

@@ -1,5 +1,5 @@
 -- Conditions in which only the whole may be missing: no part of a chain or of NOT is.
-use Rattle.std.specs.Prelude.{◌≡◌, ◌⊎◌, Bool, true, false, List}
+use Rattle.std.specs.Prelude.{◌≡◌, ◌⊎◌, Bool, true, false}
 use Rattle.std.specs.List.{list_all}
 use Rattle.lv_parser.specs.declared.tree.CondTree.{CondTree}
 use Rattle.lv_parser.specs.declared.tree.CondTree.TheOpen.{CondTree-F, True, Cmp, And, Or, Not}
