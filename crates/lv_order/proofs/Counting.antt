@@ -4,11 +4,12 @@ use Rattle.std.specs.List.{All, count_by, filter, flat_map, fold, range_with_len
 use Rattle.std.proofs.lemmas.Grind.{common_steps}
 use Rattle.std.proofs.lemmas.List.{get_or_past}
 use Rattle.std.proofs.lemmas.List.Folds.{sum_by-replicate}
-use Rattle.std.proofs.lemmas.List.Sums.{sum_by-append}
+use Rattle.std.proofs.lemmas.List.Sums.{sum_by-append, sum_by-cons}
 use Rattle.lv_plain.specs.declared.entry.Entry.{Entry}
 use Rattle.lv_plain.specs.declared.program.OrderItem.{OrderItem}
 use Rattle.lv_plain.specs.declared.program.OrderItem.TheVariants as item
 use Rattle.lv_plain.specs.declared.program.Program.{Program}
+use Rattle.lv_plain.specs.declared.program.Script.{Script}
 use Rattle.lv_plain.specs.Events.{Event, turn_of, fetch_of, install_of, release_of, mark_of, clean_up, item_events, is_turn_of, left_over, greatest, round, rounds, schedule}
 use Rattle.lv_plain.specs.Following.{IsItem, IsFollowable}
 use Rattle.lv_plain.specs.LegalTurns.{Turning, start, session_of, after_turn, after_turns}
@@ -56,16 +57,16 @@ count_turns s (x ∷ turns) = grind (arith, common_steps, count_turns s turns)
 
 -- the order's events
 count_item : (s : ℕ) (it : OrderItem) (es : List Event) → count_by (shows s) (item_events it ++ es) ≡ cond (is_turn_of s it) 1 0 + count_by (shows s) es
-count_item s (item.Turn session) es = refl
-count_item s (item.Fetch worker) es = refl
-count_item s (item.Install worker) es = refl
-count_item s (item.Work worker) es = refl
-count_item s (item.Mark view) es = refl
-count_item s (item.Clean) es = refl
+count_item s (item.Turn session) es = sum_by-cons (λ e. cond (shows s e) 1 0) (turn_of session) es
+count_item s (item.Fetch worker) es = omega arith
+count_item s (item.Install worker) es = omega arith
+count_item s (item.Work worker) es = omega arith
+count_item s (item.Mark view) es = omega arith
+count_item s (item.Clean) es = omega arith
 
 count_order : (s : ℕ) (order : List OrderItem) → count_by (shows s) (flat_map item_events order) ≡ count_by (is_turn_of s) order
 count_order s [] = refl
-count_order s (it ∷ order) = rw (count_item s it (flat_map item_events order), count_order s order) refl
+count_order s (it ∷ order) = rw (count_item s it (flat_map item_events order), count_order s order, sum_by-cons (λ x. cond (is_turn_of s x) 1 0) it order) refl
 
 -- none of them is of the setup
 not_setup : (it : OrderItem) → IsItem it → is_turn_of 0 it ≡ false
@@ -94,11 +95,18 @@ none_above q s a (suc n) above = grind (arith, common_steps, none_above q s (a +
 
 one_within : (q : ℕ → Bool) (s a n : ℕ) → a ≤ s → s < a + n → count_by (is_session s) (filter q (range_with_len a n)) ≡ cond (q s) 1 0
 one_within q s a zero low high = absurd (omega arith)
-one_within q s a (suc n) low high = by (a == s) refl
+one_within q s a (suc n) low high = by (a == s) refl (one_within q s (a + 1) n)
   where
-    by : (t : Bool) → (a == s) ≡ t → count_by (is_session s) (filter q (range_with_len a (suc n))) ≡ cond (q s) 1 0
-    by true is = let here : a ≡ s = grind arith in subst (λ (x : ℕ). count_by (is_session s) (filter q (range_with_len a (suc n))) ≡ cond (q x) 1 0) here (grind (arith, common_steps, none_below q s (a + 1) n (omega arith)))
-    by false is = let apart : a ≢ s = grind arith in grind (arith, common_steps, one_within q s (a + 1) n (omega arith) (omega arith))
+    by : (t : Bool) → (a == s) ≡ t → (a + 1 ≤ s → s < a + 1 + n → count_by (is_session s) (filter q (range_with_len (a + 1) n)) ≡ cond (q s) 1 0)
+        → count_by (is_session s) (filter q (range_with_len a (suc n))) ≡ cond (q s) 1 0
+    by true is later =
+        let here : a ≡ s = grind arith in
+        let none : count_by (is_session s) (filter q (range_with_len (a + 1) n)) ≡ 0 = none_below q s (a + 1) n (omega arith) in
+        grind (arith, common_steps, none, here)
+    by false is later =
+        let apart : a ≢ s = grind arith in
+        let rest = later (omega arith) (omega arith) in
+        grind (arith, common_steps, rest)
 
 -- rounds: in all of them no turn, or one in each of the first
 none_of_rounds : (s : ℕ) (f : ℕ → List Event) → ((k : ℕ) → count_by (shows s) (f k) ≡ 0) → (ks : List ℕ) → count_by (shows s) (flat_map f ks) ≡ 0
@@ -113,8 +121,62 @@ one_of_each s f l one b (suc m) =
 
 greatest_is : (f : ℕ → ℕ) (s a n : ℕ) → a ≤ s → s < a + n → f s ≤ greatest (map f (range_with_len a n))
 greatest_is f s a zero low high = absurd (omega arith)
-greatest_is f s a (suc n) low high = by (a == s) refl
+greatest_is f s a (suc n) low high = by (a == s) refl (greatest_is f s (a + 1) n)
   where
-    by : (t : Bool) → (a == s) ≡ t → f s ≤ greatest (map f (range_with_len a (suc n)))
-    by true is = let here : a ≡ s = grind arith in grind (arith, common_steps, here)
-    by false is = let apart : a ≢ s = grind arith in let rest = greatest_is f s (a + 1) n (omega arith) (omega arith) in grind (arith, common_steps, rest)
+    by : (t : Bool) → (a == s) ≡ t → (a + 1 ≤ s → s < a + 1 + n → f s ≤ greatest (map f (range_with_len (a + 1) n))) → f s ≤ greatest (map f (range_with_len a (suc n)))
+    by true is later = let here : a ≡ s = grind arith in grind (arith, common_steps, here)
+    by false is later = let apart : a ≢ s = grind arith in let rest = later (omega arith) (omega arith) in grind (arith, common_steps, rest)
+
+-- the rounds give each session of the range what is left of it, and no other anything
+rounds_within : (left : ℕ → ℕ) (s n : ℕ) → 1 ≤ s → s < 1 + n → count_by (shows s) (rounds (range_with_len 1 n) left) ≡ left s
+rounds_within left s n low high =
+    let most = greatest_is left s 1 n low high in
+    let each : (k : ℕ) → count_by (shows s) (round (range_with_len 1 n) left k) ≡ cond (nat_lt k (left s)) 1 0
+        = λ k. count_turns s (filter (λ x. nat_lt k (left x)) (range_with_len 1 n)) ∙ one_within (λ x. nat_lt k (left x)) s 1 n low high in
+    one_of_each s (round (range_with_len 1 n) left) (left s) each 0 (greatest (map left (range_with_len 1 n))) ∙ omega arith
+
+rounds_of_setup : (left : ℕ → ℕ) (n : ℕ) → count_by (shows 0) (rounds (range_with_len 1 n) left) ≡ 0
+rounds_of_setup left n =
+    none_of_rounds 0 (round (range_with_len 1 n) left)
+      (λ k. count_turns 0 (filter (λ x. nat_lt k (left x)) (range_with_len 1 n)) ∙ none_below (λ x. nat_lt k (left x)) 0 1 n (omega arith))
+      (range_with_len 0 (greatest (map left (range_with_len 1 n))))
+
+rounds_beyond : (left : ℕ → ℕ) (s n : ℕ) → 1 + n ≤ s → count_by (shows s) (rounds (range_with_len 1 n) left) ≡ 0
+rounds_beyond left s n above =
+    none_of_rounds s (round (range_with_len 1 n) left)
+      (λ k. count_turns s (filter (λ x. nat_lt k (left x)) (range_with_len 1 n)) ∙ none_above (λ x. nat_lt k (left x)) s 1 n above)
+      (range_with_len 0 (greatest (map left (range_with_len 1 n))))
+
+-- the schedule by its parts
+by_parts : (p : Program) (s : ℕ) → count_by (shows s) (schedule p)
+    ≡ length p.setup * cond (0 == s) 1 0 + (count_by (is_turn_of s) p.order + count_by (shows s) (rounds (range_with_len 1 (length p.sessions)) (left_over p)))
+by_parts p s =
+    let f : Event → ℕ = λ e. cond (shows s e) 1 0 in
+    let setup = replicate (length p.setup) (turn_of 0) in
+    let order = flat_map item_events p.order in
+    let rest = rounds (range_with_len 1 (length p.sessions)) (left_over p) in
+    let whole : count_by (shows s) (schedule p) ≡ count_by (shows s) (setup ++ order) + count_by (shows s) rest = sum_by-append f (setup ++ order) rest in
+    let parts : count_by (shows s) (setup ++ order) ≡ count_by (shows s) setup + count_by (shows s) order = sum_by-append f setup order in
+    let first : count_by (shows s) setup ≡ length p.setup * cond (0 == s) 1 0 = sum_by-replicate f (length p.setup) (turn_of 0) in
+    let second = count_order s p.order in
+    omega (arith, whole, parts, first, second)
+
+-- each session has as many turns as it has statements
+pub counted : (p : Program) → IsFollowable p → (s : ℕ) → count_by (shows s) (schedule p) ≡ length (lines_of p s)
+counted p followable zero =
+    let parts = by_parts p 0 in
+    let order = none_of_setup p.order followable.items in
+    let last = rounds_of_setup (left_over p) (length p.sessions) in
+    rw (parts, order, last) (omega arith)
+counted p followable (suc i) = by (nat_lt i (length p.sessions)) refl
+  where
+    most : count_by (is_turn_of (suc i)) p.order ≤ length (lines_of p (suc i))
+    most = followable.turns (suc i) (omega arith)
+    by : (t : Bool) → nat_lt i (length p.sessions) ≡ t → count_by (shows (suc i)) (schedule p) ≡ length (lines_of p (suc i))
+    by true is =
+        let last = rounds_within (left_over p) (suc i) (length p.sessions) (omega arith) (grind arith) in
+        rw (by_parts p (suc i), last) (grind (arith, most))
+    by false is =
+        let last = rounds_beyond (left_over p) (suc i) (length p.sessions) (grind arith) in
+        let none : length (lines_of p (suc i)) ≡ 0 = ap (λ (script : Script). length script.lines) (get_or_past p.sessions i no_script (grind arith)) in
+        rw (by_parts p (suc i), last) (grind (arith, most, none))

@@ -8,7 +8,6 @@ ghost use Rattle.lv_plain.specs.LegalTurns.{start, session_of, after_turns};
 ghost use Rattle.lv_plain.specs.Programs.{may_turn, all_answered};
 ghost use Rattle.lv_plain.specs.Turns.{Reading};
 ghost use Rattle.lv_order.specs.Places.{places_after};
-ghost use Rattle.lv_order.specs.Turns.{AreTurns};
 
 /// How many statements of each session are answered depends on whose turns they were, and on nothing else.
 pub fn places_after_turns()
@@ -17,12 +16,12 @@ pub fn places_after_turns()
 
 /// Each turn of an order that can be followed may come when it comes.
 pub fn each_turn_may_come()
-    ensures { (p : Program) (before : List ℕ) (session : ℕ) (behind : List ℕ) → IsFollowable p → AreTurns p.order
+    ensures { (p : Program) (before : List ℕ) (session : ℕ) (behind : List ℕ) → IsFollowable p
         → map turn_of (before ++ session ∷ behind) ≡ schedule p → may_turn p (places_after p before) session ≡ true }
 {}
 
 /// After all of them every statement is answered.
 pub fn all_is_answered()
-    ensures { (p : Program) (turns : List ℕ) → IsFollowable p → AreTurns p.order → map turn_of turns ≡ schedule p
+    ensures { (p : Program) (turns : List ℕ) → IsFollowable p → map turn_of turns ≡ schedule p
         → all_answered p (places_after p turns) ≡ true }
 {}
