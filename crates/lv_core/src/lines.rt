@@ -37,6 +37,8 @@ impl Whole {
         ensures reply { AreNamedStates (visible self.old) → IfOk result (IsNamedReply (length (visible self.old).tables)) }
         ensures whole { IsWhole self.new }
     {
+        let tables = self.schema.tables();
+        let _ = tables;
         let live = self.sessions[session].is_some();
         match read_line(alloc, &self.schema, session == 0, live, line) {
             Ok(bound) => self.answer(alloc, session, bound),
