@@ -1,6 +1,6 @@
 -- What the answer to a bound statement leaves.
 use Rattle.std.proofs.Common.{◌≡◌, ℕ, ◌+◌, ◌<◌, ◌≤◌, true, List, [], length, refl, sym, subst}
-use Rattle.std.specs.Prelude.{IfOk, OnOk, Result, Ok, Err, slice_index, slice_set}
+use Rattle.std.specs.Prelude.{IfOk, OnErr, OnOk, Result, Ok, Err, slice_index, slice_set}
 use Rattle.lv_schema.specs.declared.bound.Bound.{Bound}
 use Rattle.lv_schema.specs.declared.fault.Fault.{Fault}
 use Rattle.lv_schema.specs.declared.fault.Fault.TheVariants as fault
@@ -28,6 +28,10 @@ module _ {E : Type 0} (s next : Visible) (session : ℕ) (b : Bound) where
   small_answer (Ok reply) places a sound bound lt small =
       subst (λ v. AreSmallStates v (slice_set places session (slice_index places session + 1))) (sym a.1) (small_after session b s places lt (any_bound_is_small s.tables s.views b sound bound) small)
   small_answer (Err e) places a sound bound lt small = tt
+
+  pub kept_answer : (r : Result Reply E) → Answered r → OnErr r (next ≡ s)
+  kept_answer (Ok reply) a = tt
+  kept_answer (Err e) a = a
 
   pub tables_answer : (r : Result Reply E) → Answered r → OnOk r (length s.tables ≤ length next.tables)
   tables_answer (Ok reply) a = subst (λ v. length s.tables ≤ length v.tables) (sym a.1) (tables_grow session b s)

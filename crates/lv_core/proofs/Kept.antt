@@ -1,6 +1,6 @@
 -- What the core keeps gives what a turn needs, and a turn leaves it.
 use Rattle.std.proofs.Common.{◌≡◌, ℕ, zero, suc, ◌+◌, ◌<◌, ◌≤◌, Bool, true, false, ◌&&◌, List, [], ◌∷◌, ◌++◌, length, map, refl, sym, ap, ◌∙◌, subst, arith}
-use Rattle.std.specs.Prelude.{◌^◌, ◌-◌, ◌==◌, nat_lt, slice_get, slice_index, slice_index_or, slice_set, Option, Some, None, unwrap_or}
+use Rattle.std.specs.Prelude.{◌^◌, ◌-◌, ◌==◌, nat_lt, slice_get, slice_index, slice_index_or, slice_set, Option, Some, None, unwrap_or, Result, Ok, Err, OnErr}
 use Rattle.std.specs.List.{All, AllByRecursion, sum_by}
 use Rattle.std.proofs.lemmas.List.Elements.{All-head, All-tail}
 use Rattle.std.proofs.lemmas.List.Sums.{sum_by-cons}
@@ -206,3 +206,8 @@ module _ (program : Program) (whole : Whole) (places : Places) (entries : List E
 
   pub changes_few : (transaction session (visible whole)).changes < 2 ^ 32 - 1
   changes_few = changes_left program session (visible whole) places run.within may run.small
+
+pub kept_view : {A E : Type 0} (r : Result A E) (p : Program) (w next : Whole) (places : Places) (es later : List Entry) → visible next ≡ visible w → later ≡ es
+    → OnErr r (view_of p next places later ≡ view_of p w places es)
+kept_view (Ok a) p w next places es later same is = tt
+kept_view (Err e) p w next places es later same is = λ i. record { program = p; seen = same i; places = places; entries = is i }

@@ -1,7 +1,7 @@
 use Rattle.std.proofs.Common.{Err, ap, length, subst, sym}
 use Rattle.lv_core.specs.Named.{IsNamedFault}
 use Rattle.lv_core.specs.Seen.{visible}
-use Rattle.lv_core.proofs.AnsweredLines.{small_answer, tables_answer, named_answer, reply_answer, shown_named}
+use Rattle.lv_core.proofs.AnsweredLines.{kept_answer, small_answer, tables_answer, named_answer, reply_answer, shown_named}
 use Rattle.lv_core.proofs.whole.Whole.answer_line.Goals as goal
 
 pub returns-in-Ok-clause-small : goal.returns-in-Ok-clause-small
@@ -25,3 +25,6 @@ returns-in-Err-Stmt-clause-reply c named =
     let n = length c.args.self.now.schema.tables in
     let shown = c.in-Err-Stmt.ensures.shown c.in-Err-Stmt.fault (ap (λ e. Err e) c.in-Err-Stmt.field-0-is) in
     subst (IsNamedFault n) (sym c.in-Err-Stmt.fault-is) (shown_named n c.in-Err-Stmt.fault shown)
+
+pub returns-in-Ok-clause-kept : goal.returns-in-Ok-clause-kept
+returns-in-Ok-clause-kept c = kept_answer (visible c.args.self.now) (visible c.answer.new.self) c.args.session c.in-Ok.bound c.answer.result c.answer.ensures.answer
