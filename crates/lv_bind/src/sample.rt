@@ -1,9 +1,10 @@
 //! The tables and views that the tests bind against.
 ghost use Rattle.std.specs.Prelude.{◌≢◌, ◌<◌, IsTrue, length};
 ghost use Rattle.std.specs.List.{All};
+ghost use Rattle.lv_schema.specs.Bound.{IsBoundTable, IsBoundView};
 
 use crate::read_line;
-use lv_schema::{Bound, Schema};
+use lv_schema::{Bound, Schema, TableDef, ViewDef};
 use lv_values::{NoMemory, Text};
 use std::alloc::Global;
 use std::test::Fail;
@@ -29,6 +30,22 @@ fn is_one_line(bytes: &[u8]) -> bool
     true
 }
 
+fn add_table(alloc: Global, schema: &mut Schema, def: TableDef) -> Result<(), Fail>
+    requires { IsBoundTable schema.old.tables schema.old.views def }
+{
+    schema.reserve(alloc, &def.name)?;
+    schema.add_table(def);
+    Ok(())
+}
+
+fn add_view(alloc: Global, schema: &mut Schema, def: ViewDef) -> Result<(), Fail>
+    requires { IsBoundView schema.old.tables schema.old.views def }
+{
+    schema.reserve(alloc, &def.name)?;
+    schema.add_view(def);
+    Ok(())
+}
+
 /// Adds the table or view that a line makes.
 fn add(alloc: Global, schema: &mut Schema, line: &Text) -> Result<(), Fail>
     requires short { length line.now < 300 }
@@ -37,16 +54,8 @@ fn add(alloc: Global, schema: &mut Schema, line: &Text) -> Result<(), Fail>
         return Err(Fail::from(NoMemory));
     }
     match read_line(alloc, schema, true, false, line) {
-        Ok(Bound::Table(def)) => {
-            schema.reserve(alloc, &def.name)?;
-            schema.add_table(def);
-            Ok(())
-        }
-        Ok(Bound::View(def)) => {
-            schema.reserve(alloc, &def.name)?;
-            schema.add_view(def);
-            Ok(())
-        }
+        Ok(Bound::Table(def)) => add_table(alloc, schema, def),
+        Ok(Bound::View(def)) => add_view(alloc, schema, def),
         _ => Err(Fail::from(NoMemory)),
     }
 }
