@@ -1,5 +1,0 @@
-mod Ascii
-mod KeyOrder
-mod Loops
-mod OneAlias
-mod Pieces
