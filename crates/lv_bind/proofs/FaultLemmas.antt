@@ -18,6 +18,8 @@ use Rattle.lv_schema.specs.declared.table.TableDef.{TableDef}
 use Rattle.lv_schema.specs.declared.view.ViewDef.{ViewDef}
 use Rattle.lv_schema.specs.Catalog.{rel_named}
 use Rattle.lv_bind.specs.declared.limits.Measure.{Measure}
+use Rattle.lv_bind.specs.declared.statement.BindFault.{BindFault}
+use Rattle.lv_bind.specs.declared.statement.BindFault.TheVariants as refusal
 use Rattle.lv_bind.specs.declared.sources.Source.{Source}
 use Rattle.lv_bind.specs.Binding.{IsNarrow, IsSmallTable, IsSmallView, bound_among, table_number}
 use Rattle.lv_bind.specs.Faults.{lowest, reading_faults, profile_fault, later_faults, ok_unless, bound_of}
@@ -36,39 +38,54 @@ lowest_append (Some f ∷ xs) ys = refl
 lowest_behind : (xs ys : List (Option Fault)) → lowest xs ≡ None → lowest (xs ++ ys) ≡ lowest ys
 lowest_behind xs ys h = lowest_append xs ys ∙ ap (λ found. option_or found (lowest ys)) h
 
+-- the answer that refuses a statement with this fault, and the fault of an answer
+abbrev Refused : Fault → Result Bound BindFault
+Refused f = Err (refusal.Stmt f)
+
+abbrev fault_of : BindFault → Fault → Fault
+fault_of (refusal.Stmt f) d = f
+fault_of refusal.NoMemory d = d
+
+abbrev answered_fault : Result Bound BindFault → Fault → Fault
+answered_fault (Ok b) d = d
+answered_fault (Err e) d = fault_of e d
+
+same_fault : (g f : Fault) → Refused g ≡ Refused f → g ≡ f
+same_fault g f e = ap (λ r. answered_fault r g) e
+
 module _ (tables : List TableDef) (views : List ViewDef) (setup live : Bool) (s : Stmt) where
   -- a fault that is seen before anything is bound is the lowest
-  pub refused_reading : (f : Fault) → lowest (reading_faults tables views s) ≡ Some f → bound_of tables views setup live s ≡ Err f
-  unfolding bound_of
-  refused_reading f h =
-      let early : List (Option Fault) = reading_faults tables views s in
-      let late : List (Option Fault) = profile_fault tables views s ∷ later_faults tables views setup live s in
-      let b : Bound = bound_among tables views (sources_of tables views s) s in
-      ap (λ found. ok_unless found b) (lowest_append early late ∙ ap (λ found. option_or found (lowest late)) h)
-
-  -- where there is none of those, a later one is
-  pub refused_later : (f : Fault) → lowest (reading_faults tables views s) ≡ None → lowest (profile_fault tables views s ∷ later_faults tables views setup live s) ≡ Some f
+  pub refused_reading : (found : Option Fault) (g f : Fault) → found ≡ lowest (reading_faults tables views s) → found ≡ Some g → Refused g ≡ Refused f
       → bound_of tables views setup live s ≡ Err f
   unfolding bound_of
-  refused_later f none h =
+  refused_reading found g f is at same =
       let early : List (Option Fault) = reading_faults tables views s in
       let late : List (Option Fault) = profile_fault tables views s ∷ later_faults tables views setup live s in
       let b : Bound = bound_among tables views (sources_of tables views s) s in
-      ap (λ found. ok_unless found b) (lowest_behind early late none ∙ h)
+      ap (λ o. ok_unless o b) (lowest_append early late ∙ ap (λ o. option_or o (lowest late)) (sym is ∙ at)) ∙ ap (λ x. Err x) (same_fault g f same)
+
+  -- where there is none of those, a later one is
+  pub refused_later : (found : Option Fault) (g f : Fault) → lowest (reading_faults tables views s) ≡ None
+      → found ≡ lowest (profile_fault tables views s ∷ later_faults tables views setup live s) → found ≡ Some g → Refused g ≡ Refused f
+      → bound_of tables views setup live s ≡ Err f
+  unfolding bound_of
+  refused_later found g f none is at same =
+      let early : List (Option Fault) = reading_faults tables views s in
+      let late : List (Option Fault) = profile_fault tables views s ∷ later_faults tables views setup live s in
+      let b : Bound = bound_among tables views (sources_of tables views s) s in
+      ap (λ o. ok_unless o b) (lowest_behind early late none ∙ sym is ∙ at) ∙ ap (λ x. Err x) (same_fault g f same)
 
   -- a statement without faults is bound
-  pub bound_unrefused : (b : Bound) → b ≡ bound_among tables views (sources_of tables views s) s → lowest (reading_faults tables views s) ≡ None
-      → lowest (profile_fault tables views s ∷ later_faults tables views setup live s) ≡ None → bound_of tables views setup live s ≡ Ok b
+  pub bound_unrefused : (xs : List Alias) (b : Bound) (found : Option Fault) → xs ≡ sources_of tables views s → b ≡ bound_among tables views xs s
+      → lowest (reading_faults tables views s) ≡ None → found ≡ lowest (profile_fault tables views s ∷ later_faults tables views setup live s) → found ≡ None
+      → bound_of tables views setup live s ≡ Ok b
   unfolding bound_of
-  bound_unrefused b is none no_later =
+  bound_unrefused xs b found are is none no_later at =
       let early : List (Option Fault) = reading_faults tables views s in
       let late : List (Option Fault) = profile_fault tables views s ∷ later_faults tables views setup live s in
       let whole : Bound = bound_among tables views (sources_of tables views s) s in
-      ap (λ found. ok_unless found whole) (lowest_behind early late none ∙ no_later) ∙ ap (λ found. Ok found) (sym is)
-
-no_second : {A : Type 0} (a b : Option A) → option_or a b ≡ None → b ≡ None
-no_second None b h = h
-no_second (Some x) b h = absurd (cc)
+      ap (λ o. ok_unless o whole) (lowest_behind early late none ∙ sym no_later ∙ at)
+      ∙ ap (λ x. Ok x) (sym (is ∙ ap (λ ys. bound_among tables views ys s) are))
 
 -- a size within its limit
 within : (which : LimitKind) (most size : ℕ) → (measured which most (size ∷ [])).passed ≡ false → size ≤ most
@@ -91,13 +108,16 @@ none_passed (m ∷ all) h = by m.passed refl h (none_passed all)
     by true e h rest = absurd (cc)
     by false e h rest = (e, rest h)
 
-alone_none : {A : Type 0} (a : Option A) → option_or a None ≡ None → a ≡ None
-alone_none None h = refl
-alone_none (Some x) h = absurd (cc)
+-- there is none of a list whose lowest is none
+each_none : (xs : List (Option Fault)) → lowest xs ≡ None → AllByRecursion (λ found. found ≡ None) xs
+each_none [] h = tt
+each_none (None ∷ xs) h = (refl, each_none xs h)
+each_none (Some f ∷ xs) h = absurd (cc)
 
 module _ (tables : List TableDef) (views : List ViewDef) where
   no_limit : (s : Stmt) → lowest (reading_faults tables views s) ≡ None → AreKept (measures (length tables) (length views) (sources_of tables views s) (comparisons_in s) s)
-  no_limit s h = none_passed _ (alone_none _ (no_second _ _ (no_second _ _ (no_second _ _ (no_second _ _ h)))))
+  no_limit s h =
+      none_passed (measures (length tables) (length views) (sources_of tables views s) (comparisons_in s) s) (each_none (reading_faults tables views s) h).1.1.1.1.0
 
   few_refs : (refs : List RefTree) → (measured limit.Aliases 4 (length refs ∷ [])).passed ≡ false → length (map (source_of tables views) refs) ≤ 4
   few_refs refs h = rw (length-map refs (source_of tables views)) (within limit.Aliases 4 (length refs) h)

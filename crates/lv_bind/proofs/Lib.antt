@@ -1,6 +1,15 @@
 pub mod FaultLemmas
 pub mod NarrowLemmas
 pub mod SampleLemmas
+pub mod BoundChanges
+pub mod BoundQueries
+pub mod BoundStatements
+pub mod BoundTables
+pub mod BoundViews
+pub mod ColumnLemmas
+pub mod CondLemmas
+pub mod NameLemmas
+pub mod Pigeons
 pub mod SourceLemmas
 pub mod SpokenTerms
 pub mod SpokenRules
@@ -8,3 +17,5 @@ pub mod SpokenConds
 pub mod SpokenParts
 pub mod SpokenStmts
 pub mod LineFaults
+pub mod FoundFaults
+pub mod ReadLines

@@ -96,17 +96,37 @@ lowest_shown (Some g ∷ fs) all f e = subst IsShown e all.0
 all_shown : (tables : List TableDef) (views : List ViewDef) (setup live : Bool) (s : Stmt) → AllByRecursion IsShown (faults tables views setup live s)
 all_shown tables views setup live s = (
   made_shown fault.Unknown (λ a. refl) (first (unknown tables views s)),
-  made_shown fault.Ambiguous (λ a. refl) (first (ambiguous tables views s)),
-  made_shown fault.InUse (λ a. refl) (first (in_use tables views s)),
-  made_shown fault.Kinds (λ a. refl) (first (kinds tables views s)),
-  limits_shown (measures (length tables) (length views) (sources_of tables views s) (comparisons_in s) s),
-  made_shown fault.Profile (λ a. refl) (first (profile tables views s)),
-  outside_shown setup s,
-  inside_shown setup live s,
-  none_shown live s,
-  made_shown fault.KeyAssigned (λ a. refl) (first (assigned tables views s)),
-  made_shown fault.Range (λ a. refl) (first (ranges s)),
-  tt,
+  (
+    made_shown fault.Ambiguous (λ a. refl) (first (ambiguous tables views s)),
+    (
+      made_shown fault.InUse (λ a. refl) (first (in_use tables views s)),
+      (
+        made_shown fault.Kinds (λ a. refl) (first (kinds tables views s)),
+        (
+          limits_shown (measures (length tables) (length views) (sources_of tables views s) (comparisons_in s) s),
+          (
+            made_shown fault.Profile (λ a. refl) (first (profile tables views s)),
+            (
+              outside_shown setup s,
+              (
+                inside_shown setup live s,
+                (
+                  none_shown live s,
+                  (
+                    made_shown fault.KeyAssigned (λ a. refl) (first (assigned tables views s)),
+                    (
+                      made_shown fault.Range (λ a. refl) (first (ranges s)),
+                      tt,
+                    ),
+                  ),
+                ),
+              ),
+            ),
+          ),
+        ),
+      ),
+    ),
+  ),
 )
 
 pub refused_by_line : (tables : List TableDef) (views : List ViewDef) (setup live : Bool) (s : Stmt) (f : Fault) → bound_of tables views setup live s ≡ Err f → is_shown_by_line f ≡ true

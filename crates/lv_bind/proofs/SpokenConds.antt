@@ -1,6 +1,6 @@
 -- What every condition of a line keeps: its texts are in the line, its chains have two parts or more, and it nests
 -- only so deep.
-use Rattle.std.proofs.Common.{◌≡◌, ℕ, zero, suc, ◌+◌, ◌-◌, ◌<◌, ◌≤◌, max, Bool, true, ◌&&◌, nat_le, List, [], ◌∷◌, map, length, Option, Some, None, refl, sym, ap, ◌∙◌, rules, arith, le-leb, length-append}
+use Rattle.std.proofs.Common.{◌≡◌, ℕ, zero, suc, ◌+◌, ◌-◌, ◌<◌, ◌≤◌, max, Bool, true, ◌&&◌, nat_le, List, [], ◌∷◌, map, length, Option, Some, None, inl, inr, refl, sym, ap, ◌∙◌, rules, arith, le-leb, length-append}
 use Rattle.std.specs.List.{list_all}
 use Rattle.lv_lexer.specs.declared.terminals.Class.{Class}
 use Rattle.lv_lexer.specs.declared.terminals.Class.TheVariants as k
@@ -20,6 +20,7 @@ use Rattle.lv_parser.specs.Trees.{column_of, number_at, gathered, cond_or_true, 
 use Rattle.lv_schema.specs.Bound.{deepest}
 use Rattle.lv_bind.specs.Pieces.{joined, Sides, sides_step, sides_of}
 use Rattle.lv_bind.specs.Spoken.{is_spoken_name, value_in_line, side_in_line, cond_in_line, texts_step, is_chained, chains_step, nesting, nesting_step, IsSpokenCond}
+use Rattle.lv_bind.specs.Whole.{is_whole, whole_step}
 use Rattle.lv_bind.proofs.SpokenRules.{Keeps, token_keeps, pure_keeps, then_keeps, word_then, made_keeps, or_keeps, weaker, OnFound, optional_keeps, EachOf, many_keeps, SomeOf, separated_keeps, each_of}
 
 -- ---- two types that the parser has no public name for
@@ -112,6 +113,18 @@ chained-Or parts = ap is_chained (sym (rolls-Or parts)) ∙ fold-roll-CondTree B
 chained-Not : (part : CondTree) → is_chained (c.Not part) ≡ is_chained part
 chained-Not part = search (rules, the_lemmas)
 
+whole-Cmp : (op : Sign) (l r : OperandTree) → is_whole (c.Cmp op l r) ≡ true
+whole-Cmp op l r = search (rules, the_lemmas)
+
+whole-And : (parts : List CondTree) → is_whole (c.And parts) ≡ list_all (λ part. part) (map is_whole parts)
+whole-And parts = ap is_whole (sym (rolls-And parts)) ∙ fold-roll-CondTree Bool whole_step (CondTree-F.And parts)
+
+whole-Or : (parts : List CondTree) → is_whole (c.Or parts) ≡ list_all (λ part. part) (map is_whole parts)
+whole-Or parts = ap is_whole (sym (rolls-Or parts)) ∙ fold-roll-CondTree Bool whole_step (CondTree-F.Or parts)
+
+whole-Not : (part : CondTree) → is_whole (c.Not part) ≡ is_whole part
+whole-Not part = search (rules, the_lemmas)
+
 nesting-True : nesting c.True ≡ 0
 nesting-True = search (rules, the_lemmas)
 
@@ -163,9 +176,10 @@ pub record IsSound (levels nots : ℕ) (p : CondTree) : Type 0 where
   pub shallow : nesting p ≤ levels
   pub some : 0 < compared p
   pub few : nesting p < nots + compared p
+  pub whole : is_whole p ≡ true
 
 deeper_sound : (m n a b : ℕ) → m ≤ n → a ≤ b → (p : CondTree) → IsSound m a p → IsSound n b p
-deeper_sound m n a b le more p h = record { in_line = h.in_line; chained = h.chained; shallow = omega (arith, h.shallow); some = h.some; few = omega (arith, h.few) }
+deeper_sound m n a b le more p h = record { in_line = h.in_line; chained = h.chained; shallow = omega (arith, h.shallow); some = h.some; few = omega (arith, h.few); whole = h.whole }
 
 cmp_sound : (op : Sign) (l r : OperandTree) → side_in_line l ≡ true → side_in_line r ≡ true → IsSound 0 0 (c.Cmp op l r)
 cmp_sound op l r e f =
@@ -176,6 +190,7 @@ cmp_sound op l r e f =
       shallow = omega (arith, nesting-Cmp op l r);
       some = omega arith;
       few = omega (arith, nesting-Cmp op l r);
+      whole = whole-Cmp op l r;
     }
 
 not_sound : (n d : ℕ) (p : CondTree) → IsSound n d p → IsSound (suc n) (suc d) (c.Not p)
@@ -187,6 +202,7 @@ not_sound n d p h =
       shallow = omega (arith, nesting-Not p, h.shallow);
       some = omega (arith, h.some);
       few = omega (arith, nesting-Not p, h.few);
+      whole = whole-Not p ∙ h.whole;
     }
 
 all_map : (f : CondTree → Bool) (parts : List CondTree) → EachOf (λ p. f p ≡ true) parts → list_all (λ part. part) (map f parts) ≡ true
@@ -232,8 +248,9 @@ module _ (n d : ℕ) where
   IsChainSound node = (p q : CondTree) (more : List CondTree) → EachOf (IsSound n d) (p ∷ q ∷ more) → IsSound (suc n) d (node (p ∷ q ∷ more))
 
   chain_sound : (node : List CondTree → CondTree) → ((parts : List CondTree) → cond_in_line (node parts) ≡ list_all (λ part. part) (map cond_in_line parts)) → ((parts : List CondTree) → is_chained (node parts) ≡ chain_passes parts)
+      → ((parts : List CondTree) → is_whole (node parts) ≡ list_all (λ part. part) (map is_whole parts))
       → ((parts : List CondTree) → nesting (node parts) ≡ 1 + deepest (map nesting parts)) → ((parts : List CondTree) → sides_of (node parts) ≡ joined (map sides_of parts)) → IsChainSound node
-  chain_sound node texts chains nests sides p q more each =
+  chain_sound node texts chains wholes nests sides p q more each =
       let parts = p ∷ q ∷ more in
       let total : compared (node parts) ≡ all_compared parts = ap length (sides parts) in
       record {
@@ -242,13 +259,14 @@ module _ (n d : ℕ) where
         shallow = omega (arith, nests parts, deepest_small parts each);
         some = omega (arith, total, many_compared parts each);
         few = omega (arith, nests parts, total, deepest_few p (q ∷ more) each);
+        whole = wholes parts ∙ all_map is_whole parts (each_of (IsSound n d) (λ p. is_whole p ≡ true) (λ p h. h.whole) parts each);
       }
 
   and_sound : IsChainSound c.And
-  and_sound = chain_sound c.And in_line-And chained-And nesting-And sides-And
+  and_sound = chain_sound c.And in_line-And chained-And whole-And nesting-And sides-And
 
   or_sound : IsChainSound c.Or
-  or_sound = chain_sound c.Or in_line-Or chained-Or nesting-Or sides-Or
+  or_sound = chain_sound c.Or in_line-Or chained-Or whole-Or nesting-Or sides-Or
 
   -- one part alone, or a chain
   gathered_sound : (node : List CondTree → CondTree) → IsChainSound node → (parts : List CondTree) → SomeOf (IsSound n d) parts → IsSound (suc n) d (gathered node parts)
@@ -298,10 +316,10 @@ unfolding rule.filter
 filter_keeps within = optional_keeps (word_then k.Where (cond_keeps within))
 
 spoken_of : (p : CondTree) → IsSound 131 64 p → IsSpokenCond p
-spoken_of p h = record { in_line = h.in_line; chained = h.chained; shallow = h.shallow; compared = omega (arith, h.few) }
+spoken_of p h = record { in_line = h.in_line; chained = h.chained; shallow = h.shallow; compared = omega (arith, h.few); whole = inr h.whole }
 
 true_spoken : IsSpokenCond c.True
-true_spoken = record { in_line = in_line-True; chained = chained-True; shallow = omega (arith, nesting-True); compared = omega (arith, nesting-True) }
+true_spoken = record { in_line = in_line-True; chained = chained-True; shallow = omega (arith, nesting-True); compared = omega (arith, nesting-True); whole = inl refl }
 
 whole_spoken : (p : CondTree) → IsWhole p → IsSpokenCond p
 whole_spoken p h = spoken_of p (deeper_sound 130 131 64 64 (omega arith) (omega arith) p h)

@@ -18,6 +18,7 @@ use Rattle.lv_parser.specs.declared.tree.Stmt.{Stmt}
 use Rattle.lv_parser.specs.declared.tree.Stmt.TheVariants as stmt
 use Rattle.lv_parser.specs.declared.tree.Tuple.{Tuple}
 use Rattle.lv_schema.specs.Bound.{deepest}
+use Rattle.lv_bind.specs.Whole.{IsWhole}
 use Rattle.lv_schema.specs.Names.{begins_name, continues_name, has_name, keywords}
 use Rattle.lv_bind.specs.Pieces.{sides_of}
 
@@ -81,12 +82,13 @@ nesting = fold-CondTree ℕ nesting_step
 
 -- Parentheses and NOT nest at most 64 deep. Each level of parentheses can hold an Or of Ands, a whole condition one more,
 -- and the conditions after ON and WHERE are one And: 131 levels. Each And and Or has two parts, so each adds a
--- comparison, and beside them only NOT makes a level.
+-- comparison, and beside them only NOT makes a level. A part of a chain or of NOT is never missing.
 pub record IsSpokenCond (c : CondTree) : Type 0 where
   pub in_line : cond_in_line c ≡ true
   pub chained : is_chained c ≡ true
   pub shallow : nesting c ≤ 131
   pub compared : nesting c ≤ 64 + length (sides_of c)
+  pub whole : IsWhole c
 
 -- the name that an item of a view's list gets
 abbrev pub output_name : ItemTree → List ℕ

@@ -10,6 +10,7 @@ mod creating;
 mod entries;
 mod in_use;
 mod kinds;
+mod laws;
 mod limits;
 mod pieces;
 mod profile;
@@ -20,12 +21,11 @@ mod rights;
 #[cfg(test)]
 mod sample;
 mod sources;
-mod spoken;
 mod statement;
 #[cfg(test)]
 mod tests;
 mod unknown;
 
+pub use laws::{bound_statements_fit, lines_are_spoken};
 pub use reading::read_line;
-pub use spoken::lines_are_spoken;
 pub use statement::{BindFault, bind};

@@ -3,7 +3,7 @@ ghost use Rattle.std.specs.Prelude.{◌≡◌, ◌≢◌, ◌^◌, ◌-◌, ◌<
 ghost use Rattle.std.specs.List.{All};
 ghost use Rattle.lv_schema.specs.declared.fault.Fault.{Fault as AFault};
 ghost use Rattle.lv_schema.specs.Bound.{IsBound};
-ghost use Rattle.lv_bind.specs.Reads.{Reading, IsReading, is_shown_by_line};
+ghost use Rattle.lv_bind.specs.Reads.{Reading, IsReading, is_shown_by_line, refusal_of};
 
 use crate::statement::{BindFault, bind};
 use lv_parser::{ParseFault, parse};
@@ -11,8 +11,19 @@ use lv_schema::{Bound, Fault, Schema};
 use lv_values::Text;
 use std::alloc::Global;
 
+/// The refusal of a line that is no statement.
+fn refusal(fault: ParseFault) -> BindFault
+    ensures { result ≡ refusal_of fault }
+{
+    match fault {
+        ParseFault::Syntax { byte } => BindFault::Stmt(Fault::Syntax { byte }),
+        ParseFault::NoMemory => BindFault::NoMemory,
+    }
+}
+
 /// The bound statement of a line, in the setup or not, with a live transaction or without, or the lowest of its faults 1
 /// to 12. Cost: linear in the line, and that of binding.
+#[tactic(auto, using(crate::proofs::ReadLines::read_fits, crate::proofs::LineFaults::refused_by_line, crate::proofs::ReadLines::refused_parse, crate::proofs::ReadLines::shown_parse))]
 pub fn read_line(
     alloc: Global,
     schema: &Schema,
@@ -29,8 +40,10 @@ pub fn read_line(
     ensures bound { IfOk result (IsBound schema.now.tables schema.now.views) }
 {
     match parse(alloc, line) {
-        Ok(stmt) => bind(alloc, schema, setup, live, &stmt),
-        Err(ParseFault::Syntax { byte }) => Err(BindFault::Stmt(Fault::Syntax { byte })),
-        Err(ParseFault::NoMemory) => Err(BindFault::NoMemory),
+        Ok(stmt) => {
+            let _tables = schema.tables();
+            bind(alloc, schema, setup, live, &stmt)
+        }
+        Err(fault) => Err(refusal(fault)),
     }
 }

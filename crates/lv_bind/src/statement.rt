@@ -3,6 +3,8 @@ ghost use Rattle.std.specs.Prelude.{◌≡◌, ◌∷◌, map, IfOk, None, Ok, E
 ghost use Rattle.lv_bind.specs.Binding.{IsNarrow, IsSmallTable, IsSmallView, bound_among};
 ghost use Rattle.lv_bind.specs.Faults.{lowest, reading_faults, profile_fault, later_faults, bound_of};
 ghost use Rattle.lv_bind.specs.Seen.{alias_seen};
+ghost use Rattle.lv_bind.specs.Spoken.{IsSpoken};
+ghost use Rattle.lv_schema.specs.Bound.{IsBound};
 ghost use Rattle.lv_bind.specs.Sources.{AreNarrow, sources_of};
 ghost use Rattle.lv_schema.specs.declared.fault.Fault.{Fault};
 
@@ -149,7 +151,7 @@ fn late_fault(
 }
 
 /// Binds a statement with these aliases, which none of the faults 2 to 6 refuses.
-#[tactic(auto, using(crate::proofs::FaultLemmas::narrow_sources, crate::proofs::FaultLemmas::small_table, crate::proofs::FaultLemmas::small_view, crate::proofs::FaultLemmas::refused_later, crate::proofs::FaultLemmas::bound_unrefused))]
+#[tactic(auto, using(crate::proofs::FaultLemmas::small_table))]
 fn bind_readable(
     alloc: Global,
     schema: &Schema,
@@ -181,7 +183,7 @@ fn bind_readable(
 ///
 /// Cost: linear in the statement, but for a search of the aliases' columns for each column, and of the names before it
 /// for each name that may stand only once.
-#[tactic(auto, using(crate::proofs::FaultLemmas::refused_reading))]
+#[tactic(auto, using(crate::proofs::BoundStatements::spoken_fits))]
 pub fn bind(
     alloc: Global,
     schema: &Schema,
@@ -190,8 +192,11 @@ pub fn bind(
     stmt: &Stmt,
 ) -> Result<Bound, BindFault>
     ensures found { IfOk result (λ b. bound_of schema.now.tables schema.now.views setup live stmt.now ≡ Ok b) }
+    // What a line's statement is bound to fits the schema.
+    ensures bound { IsSpoken stmt.now → IfOk result (IsBound schema.now.tables schema.now.views) }
     ensures refused { (fault : Fault) → result ≡ Err (BindFault.Stmt fault) → bound_of schema.now.tables schema.now.views setup live stmt.now ≡ Err fault }
 {
+    let _tables = schema.tables();
     let found = sources(alloc, schema, stmt)?;
     match early_fault(alloc, schema, stmt, found.as_slice())? {
         Some(fault) => Err(BindFault::Stmt(fault)),

@@ -19,3 +19,4 @@ pub mod CreatedViews
 pub mod Answered
 pub mod SoundViews
 pub mod Runs
+pub mod Kept

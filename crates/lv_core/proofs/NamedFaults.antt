@@ -1,5 +1,5 @@
 -- The tables that faults and actions name.
-use Rattle.std.proofs.Common.{◌≡◌, ℕ, zero, suc, ◌+◌, ◌<◌, ◌≤◌, Bool, true, false, cond, List, [], ◌∷◌, map, length, filter, arith}
+use Rattle.std.proofs.Common.{ℕ, zero, suc, ◌+◌, ◌<◌, ◌≤◌, Bool, true, false, List, [], ◌∷◌, map, length, filter, arith}
 use Rattle.std.specs.Prelude.{nat_lt, Option, Some, None, option_map, slice_get}
 use Rattle.std.specs.List.{AllByRecursion, cons_option, filter_map, flat_map, range_with_len}
 use Rattle.std.specs.declared.cmp.Ordering.{Ordering}
@@ -14,7 +14,7 @@ use Rattle.lv_schema.specs.declared.open.Open.{Open}
 use Rattle.lv_schema.specs.declared.table.TableDef.{TableDef}
 use Rattle.lv_schema.specs.Bound.{IsBoundChange}
 use Rattle.lv_schema.specs.Cases.{numbered, with_number}
-use Rattle.lv_schema.specs.Commits.{Place, conflict_of, last_writer, merged, merged_full, place_cmp, place_conflict, written_place}
+use Rattle.lv_schema.specs.Commits.{conflict_of, last_writer, merged, merged_full, place_cmp, place_conflict, written_place}
 use Rattle.lv_schema.specs.Databases.{rows_of}
 use Rattle.lv_schema.specs.Effects.{change_actions, change_fault, changed_table, deletes, first_fault, first_taken, first_wide, fault_where, inserts, matching, option_fault, updated}
 use Rattle.lv_schema.specs.World.{Visible}
@@ -52,7 +52,7 @@ more_tables m n (reply.Began snapshot) le h = tt
 more_tables m n (reply.Committed number) le h = tt
 more_tables m n (reply.RolledBack) le h = tt
 more_tables m n (reply.Rows rows) le h = tt
-more_tables m n (reply.Tasks tasks) le h = tt
+more_tables m n (reply.Tasks tasks) le h = h
 more_tables m n (reply.Refused f) le h = fault_of_more m n f le h
 
 -- ---- a fault, if there is one

@@ -1,5 +1,5 @@
 -- Every statement names tables in use, and leaves transactions that act on such.
-use Rattle.std.proofs.Common.{◌≡◌, ℕ, zero, suc, ◌+◌, ◌<◌, ◌≤◌, Bool, true, false, cond, List, [], ◌∷◌, ◌++◌, length, get_or, set, sym, subst, arith}
+use Rattle.std.proofs.Common.{◌≡◌, ℕ, zero, suc, ◌+◌, ◌<◌, ◌≤◌, Bool, true, false, cond, List, [], ◌∷◌, ◌++◌, length, get_or, set, refl, sym, subst, arith}
 use Rattle.std.specs.Prelude.{if◌then◌else◌, ◌==◌, Option, Some, None, Result, Ok, Err, replicate, unwrap_or}
 use Rattle.lv_values.specs.declared.value.Value.{Value}
 use Rattle.lv_schema.specs.declared.action.Action.{Action}
@@ -179,7 +179,7 @@ named_turn session (bound.Begin) s is h = record { states = began_named session 
 named_turn session (bound.Commit) s is h =
     case_turn s Committed (committed always_written session s) (λ number. tt) (committed_keeps session s) (committed_named session s h)
 named_turn session (bound.Rollback) s is h = record { states = closed_named session s h; reply = tt }
-named_turn session (bound.Tasks) s is h = record { states = h; reply = tt }
+named_turn session (bound.Tasks) s is h = record { states = h; reply = refl }
 
 pub named_after : (session : ℕ) (statement : Bound) (s : Visible) → IsBound s.tables s.views statement → AreNamedStates s
     → AreNamedStates (bound_turn always_written [] session statement s).next

@@ -1,13 +1,14 @@
--- Each table that a reply names is in use.
-use Rattle.std.specs.Prelude.{◌<◌, ℕ, List, length, slice_index_or, Option, Some, None}
+-- Each table that a reply names is in use, and so is each session of an entry.
+use Rattle.std.specs.Prelude.{◌≡◌, ◌<◌, ℕ, List, [], length, slice_index_or, Option, Some, None}
 use Rattle.std.specs.List.{AllByRecursion}
-use Rattle.lv_schema.specs.declared.action.Action.{Action}
 use Rattle.lv_schema.specs.declared.fault.Fault.{Fault}
 use Rattle.lv_schema.specs.declared.fault.Fault.TheVariants.{Duplicate, TableFull, Conflict, MergedFull}
 use Rattle.lv_schema.specs.declared.open.Open.{Open}
 use Rattle.lv_schema.specs.World.{Visible}
+use Rattle.lv_plain.specs.declared.entry.Entry.{Entry}
+use Rattle.lv_plain.specs.declared.entry.Entry.TheVariants.{Session}
 use Rattle.lv_plain.specs.declared.entry.Reply.{Reply}
-use Rattle.lv_plain.specs.declared.entry.Reply.TheVariants.{Refused}
+use Rattle.lv_plain.specs.declared.entry.Reply.TheVariants.{Refused, Tasks}
 
 -- of so many tables
 abbrev pub IsNamedFault : ℕ → Fault → Type 0
@@ -19,7 +20,13 @@ IsNamedFault tables fault = Unit {0}
 
 abbrev pub IsNamedReply : ℕ → Reply → Type 0
 IsNamedReply tables (Refused fault) = IsNamedFault tables fault
+IsNamedReply tables (Tasks tasks) = tasks ≡ []
 IsNamedReply tables reply = Unit {0}
+
+-- an entry of one of so many sessions, which forced nothing
+abbrev pub IsNamedEntry : ℕ → ℕ → Entry → Type 0
+IsNamedEntry sessions tables (Session session place forced reply) = (session < sessions) × (forced ≡ []) × IsNamedReply tables reply
+IsNamedEntry sessions tables entry = ⊥
 
 -- a transaction, if there is one, acts on tables in use
 abbrev pub IsNamedOpen : ℕ → Option Open → Type 0

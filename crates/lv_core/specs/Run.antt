@@ -1,5 +1,6 @@
 -- What the core keeps of its run.
-use Rattle.std.specs.Prelude.{◌≡◌, ℕ, List, length}
+use Rattle.std.specs.Prelude.{◌≡◌, List, length}
+use Rattle.std.specs.List.{AllByRecursion}
 use Rattle.lv_schema.specs.World.{Visible}
 use Rattle.lv_plain.specs.declared.entry.Entry.{Entry}
 use Rattle.lv_plain.specs.declared.program.Program.{Program}
@@ -8,6 +9,7 @@ use Rattle.lv_plain.specs.LegalTurns.{Turning, start, LegalTurns, after_turns}
 use Rattle.lv_plain.specs.Programs.{Places, session_count}
 use Rattle.lv_plain.specs.Turns.{Reading}
 use Rattle.lv_bind.specs.Reads.{IsReading}
+use Rattle.lv_core.specs.Named.{AreNamedStates, IsNamedEntry}
 use Rattle.lv_core.specs.Small.{AreSmallStates}
 
 -- the program; what statements see, and how many of each session are answered; and what they were answered
@@ -29,4 +31,6 @@ pub record IsRun (c : CoreView) : Type 0 where
   pub within : IsWithinLimits c.program
   pub count : length c.places ≡ session_count c.program
   pub small : AreSmallStates c.seen c.places
+  pub named : AreNamedStates c.seen
+  pub entries_named : AllByRecursion (IsNamedEntry (session_count c.program) (length c.seen.tables)) c.entries
   pub run : (reading : Reading) → IsReading reading → IsRunOf reading c

@@ -176,12 +176,7 @@ impl Whole {
     }
 
     /// The reply to a bound statement. Want of memory leaves everything as it was. Cost: that of the statement.
-    pub fn answer(
-        &mut self,
-        alloc: Global,
-        session: usize,
-        bound: Bound,
-    ) -> Result<Reply, NoMemory>
+    pub fn answer(&mut self, alloc: Global, session: usize, bound: Bound) -> Result<Reply, NoMemory>
         requires whole { IsWhole self.old }
         requires session { session < SESSIONS }
         requires bound { IsBound (visible self.old).tables (visible self.old).views bound }

@@ -1,17 +1,17 @@
 //! The core: it answers the statements of a program one by one, and its type keeps the run.
-ghost use Rattle.std.specs.Prelude.{◌≡◌, ◌<◌, ◌++◌, ◌∷◌, [], true, OnOk, OnErr, IfOk, length, slice_get};
+ghost use Rattle.std.specs.Prelude.{◌≡◌, ◌<◌, ◌++◌, ◌∷◌, [], true, OnOk, OnErr, IfOk, ◌+◌, length, map, slice_get, slice_index, slice_set};
 ghost use Rattle.std.specs.Option.{option_map};
 ghost use Rattle.lv_plain.specs.Limits.{IsWithinLimits};
-ghost use Rattle.lv_plain.specs.LegalTurns.{turn_entry, after_turn, start};
+ghost use Rattle.lv_plain.specs.LegalTurns.{turn_entry, after_turn, session_of, start};
 ghost use Rattle.lv_plain.specs.Programs.{has_more, lines_of, may_turn};
 ghost use Rattle.lv_plain.specs.Turns.{Reading};
 ghost use Rattle.lv_bind.specs.Reads.{IsReading};
 ghost use Rattle.lv_core.specs.Run.{turning, IsRun};
 
 use crate::whole::Whole;
-use lv_plain::{Entry, Program};
+use lv_plain::{Entry, Program, Texts};
 use lv_schema::ForcedSteps;
-use lv_values::{NoMemory, Room, Text};
+use lv_values::{Copying, NoMemory, Room, Text};
 use std::alloc::Global;
 use std::marker::Model;
 
@@ -80,6 +80,36 @@ impl Ledger {
         })
     }
 
+    /// What the core keeps of its run: its entries are legal, from the first one to the last, and its state is the one
+    /// after them.
+    pub fn known(&self)
+        ensures { IsRun self.now }
+    {
+        let _ = &self.entries;
+    }
+
+    /// The names of the tables, by their numbers. Cost: a copy of them.
+    pub fn table_names(&self, alloc: Global) -> Result<Texts, NoMemory>
+        ensures { IfOk result (λ names. names ≡ map (λ t. t.name) self.now.seen.tables) }
+    {
+        let mut names = Texts::new(alloc);
+        for no in 0..self.whole.schema.tables() {
+            names.push(self.whole.schema.table(no).name.copy(alloc)?)?;
+        }
+        Ok(names)
+    }
+
+    /// The names of the views, by their numbers. Cost: a copy of them.
+    pub fn view_names(&self, alloc: Global) -> Result<Texts, NoMemory>
+        ensures { IfOk result (λ names. names ≡ map (λ v. v.name) self.now.seen.views) }
+    {
+        let mut names = Texts::new(alloc);
+        for no in 0..self.whole.schema.views() {
+            names.push(self.whole.schema.view(no).name.copy(alloc)?)?;
+        }
+        Ok(names)
+    }
+
     /// The program.
     pub fn program(&self) -> &Program
         ensures { result.now ≡ self.now.program }
@@ -110,6 +140,8 @@ impl Ledger {
     pub fn turn(&mut self, alloc: Global, session: u32) -> Result<(), NoMemory>
         requires may { may_turn self.old.program self.old.places session ≡ true }
         ensures program { self.new.program ≡ self.old.program }
+        ensures places { OnOk result (self.new.places ≡ slice_set self.old.places session (slice_index self.old.places session + 1)) }
+        ensures sessions { OnOk result (map session_of self.new.entries ≡ map session_of self.old.entries ++ session ∷ []) }
         ensures entries { (reading : Reading) → IsReading reading → OnOk result (self.new.entries ≡ self.old.entries ++ turn_entry reading self.old.program (turning self.old) session ∷ []) }
         ensures state { (reading : Reading) → IsReading reading → OnOk result (turning self.new ≡ after_turn reading self.old.program (turning self.old) session) }
         ensures kept { OnErr result (self.new ≡ self.old) }

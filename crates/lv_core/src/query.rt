@@ -21,11 +21,7 @@ use lv_views::rows_by_definition;
 use std::alloc::Global;
 
 /// The rows of each alias of a view. Cost: a copy of them.
-fn view_parts(
-    alloc: Global,
-    view: &ViewDef,
-    database: &Database,
-) -> Result<Items<Rows>, NoMemory>
+fn view_parts(alloc: Global, view: &ViewDef, database: &Database) -> Result<Items<Rows>, NoMemory>
     ensures { IfOk result (λ parts. parts ≡ parts_of view.now.tables database.now) }
 {
     let mut parts = Items::new(alloc);

@@ -132,20 +132,20 @@ rounds_within : (left : ℕ → ℕ) (s n : ℕ) → 1 ≤ s → s < 1 + n → c
 rounds_within left s n low high =
     let most = greatest_is left s 1 n low high in
     let each : (k : ℕ) → count_by (shows s) (round (range_with_len 1 n) left k) ≡ cond (nat_lt k (left s)) 1 0
-        = λ k. count_turns s (filter (λ x. nat_lt k (left x)) (range_with_len 1 n)) ∙ one_within (λ x. nat_lt k (left x)) s 1 n low high in
+    = λ k. count_turns s (filter (λ x. nat_lt k (left x)) (range_with_len 1 n)) ∙ one_within (λ x. nat_lt k (left x)) s 1 n low high in
     one_of_each s (round (range_with_len 1 n) left) (left s) each 0 (greatest (map left (range_with_len 1 n))) ∙ omega arith
 
 rounds_of_setup : (left : ℕ → ℕ) (n : ℕ) → count_by (shows 0) (rounds (range_with_len 1 n) left) ≡ 0
 rounds_of_setup left n =
     none_of_rounds 0 (round (range_with_len 1 n) left)
-      (λ k. count_turns 0 (filter (λ x. nat_lt k (left x)) (range_with_len 1 n)) ∙ none_below (λ x. nat_lt k (left x)) 0 1 n (omega arith))
-      (range_with_len 0 (greatest (map left (range_with_len 1 n))))
+    (λ k. count_turns 0 (filter (λ x. nat_lt k (left x)) (range_with_len 1 n)) ∙ none_below (λ x. nat_lt k (left x)) 0 1 n (omega arith))
+    (range_with_len 0 (greatest (map left (range_with_len 1 n))))
 
 rounds_beyond : (left : ℕ → ℕ) (s n : ℕ) → 1 + n ≤ s → count_by (shows s) (rounds (range_with_len 1 n) left) ≡ 0
 rounds_beyond left s n above =
     none_of_rounds s (round (range_with_len 1 n) left)
-      (λ k. count_turns s (filter (λ x. nat_lt k (left x)) (range_with_len 1 n)) ∙ none_above (λ x. nat_lt k (left x)) s 1 n above)
-      (range_with_len 0 (greatest (map left (range_with_len 1 n))))
+    (λ k. count_turns s (filter (λ x. nat_lt k (left x)) (range_with_len 1 n)) ∙ none_above (λ x. nat_lt k (left x)) s 1 n above)
+    (range_with_len 0 (greatest (map left (range_with_len 1 n))))
 
 -- the schedule by its parts
 by_parts : (p : Program) (s : ℕ) → count_by (shows s) (schedule p)
@@ -172,6 +172,7 @@ counted p followable (suc i) = by (nat_lt i (length p.sessions)) refl
   where
     most : count_by (is_turn_of (suc i)) p.order ≤ length (lines_of p (suc i))
     most = followable.turns (suc i) (omega arith)
+
     by : (t : Bool) → nat_lt i (length p.sessions) ≡ t → count_by (shows (suc i)) (schedule p) ≡ length (lines_of p (suc i))
     by true is =
         let last = rounds_within (left_over p) (suc i) (length p.sessions) (omega arith) (grind arith) in

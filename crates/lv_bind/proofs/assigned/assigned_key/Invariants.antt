@@ -1,4 +1,4 @@
-use Rattle.std.proofs.Common.{◌≡◌, ◌++◌, map, drop, take, [], nat_eq, ◌+◌, ◌≤◌}
+use Rattle.std.proofs.Common.{◌≡◌, map, drop}
 use Rattle.lv_bind.specs.Assigned.{assigned_keys}
 use Rattle.lv_bind.specs.Seen.{alias_seen}
 use Rattle.lv_bind.specs.Sources.{first}

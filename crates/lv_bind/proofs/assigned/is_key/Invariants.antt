@@ -1,4 +1,4 @@
-use Rattle.std.proofs.Common.{◌≡◌, ◌++◌, map, drop, take, [], nat_eq, ◌+◌, ◌≤◌}
+use Rattle.std.proofs.Common.{◌≡◌, drop, nat_eq}
 use Rattle.std.specs.List.{list_any}
 use Rattle.lv_bind.proofs.assigned.is_key.Given as goal
 

@@ -1,4 +1,4 @@
-use Rattle.std.proofs.Common.{◌≡◌, ◌++◌, map, drop, take, [], nat_lt, ◌+◌, ◌≤◌}
+use Rattle.std.proofs.Common.{◌≡◌, map, take}
 use Rattle.lv_bind.proofs.binding.bound_row.Given as goal
 
 abbrev pub invariant-loop-literal : goal.invariant-loop-literal

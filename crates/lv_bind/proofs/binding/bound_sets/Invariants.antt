@@ -1,5 +1,5 @@
-use Rattle.std.proofs.Common.{◌≡◌, ◌++◌, map, drop, take, [], nat_lt, ◌+◌, ◌≤◌}
-use Rattle.lv_bind.specs.Binding.{bound_rows, bound_set, bound_col, bound_order, bound_rels, columns_from}
+use Rattle.std.proofs.Common.{◌≡◌, map, take}
+use Rattle.lv_bind.specs.Binding.{bound_set}
 use Rattle.lv_bind.specs.Seen.{alias_seen}
 use Rattle.lv_bind.proofs.binding.bound_sets.Given as goal
 

@@ -1,5 +1,5 @@
-use Rattle.std.proofs.Common.{◌≡◌, map, drop, take}
-use Rattle.lv_bind.specs.Binding.{bound_column, key_place, bound_item, table_numbers}
+use Rattle.std.proofs.Common.{◌≡◌, map, take}
+use Rattle.lv_bind.specs.Binding.{bound_column}
 use Rattle.lv_bind.proofs.creating.bound_columns.Given as goal
 
 abbrev pub invariant-loop-column : goal.invariant-loop-column

@@ -1,5 +1,5 @@
-use Rattle.std.proofs.Common.{◌≡◌, map, drop, take}
-use Rattle.lv_bind.specs.Binding.{bound_column, key_place, bound_item, table_numbers}
+use Rattle.std.proofs.Common.{◌≡◌, map, take}
+use Rattle.lv_bind.specs.Binding.{key_place}
 use Rattle.lv_bind.proofs.creating.bound_key.Given as goal
 
 abbrev pub invariant-loop-column : goal.invariant-loop-column

@@ -1,5 +1,5 @@
-use Rattle.std.proofs.Common.{◌≡◌, map, drop, take}
-use Rattle.lv_bind.specs.Binding.{bound_column, key_place, bound_item, table_numbers}
+use Rattle.std.proofs.Common.{◌≡◌, take}
+use Rattle.lv_bind.specs.Binding.{table_numbers}
 use Rattle.lv_bind.proofs.creating.table_numbers.Given as goal
 
 abbrev pub invariant-loop-table : goal.invariant-loop-table

@@ -1,4 +1,4 @@
-use Rattle.std.proofs.Common.{◌≡◌, map, drop, take, []}
+use Rattle.std.proofs.Common.{◌≡◌, drop}
 use Rattle.std.specs.List.{list_any}
 use Rattle.lv_bind.specs.InUse.{same_place}
 use Rattle.lv_bind.proofs.in_use.is_before.Given as goal

@@ -1,4 +1,4 @@
-use Rattle.std.proofs.Common.{◌≡◌, map, drop, take, []}
+use Rattle.std.proofs.Common.{◌≡◌, map, drop}
 use Rattle.lv_bind.specs.Kinds.{compared_kinds}
 use Rattle.lv_bind.specs.Seen.{alias_seen, sides_seen}
 use Rattle.lv_bind.specs.Sources.{first}

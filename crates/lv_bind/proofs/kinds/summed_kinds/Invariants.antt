@@ -1,4 +1,4 @@
-use Rattle.std.proofs.Common.{◌≡◌, map, drop, take, []}
+use Rattle.std.proofs.Common.{◌≡◌, map, drop}
 use Rattle.std.specs.List.{flat_map}
 use Rattle.lv_bind.specs.Kinds.{item_kinds}
 use Rattle.lv_bind.specs.Seen.{alias_seen}

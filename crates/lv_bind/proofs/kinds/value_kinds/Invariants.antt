@@ -1,4 +1,4 @@
-use Rattle.std.proofs.Common.{◌≡◌, map, drop, take, []}
+use Rattle.std.proofs.Common.{◌≡◌, drop}
 use Rattle.lv_bind.specs.Kinds.{value_kinds}
 use Rattle.lv_bind.specs.Sources.{first}
 use Rattle.lv_bind.proofs.kinds.value_kinds.Given as goal

@@ -1,6 +1,6 @@
-use Rattle.std.proofs.Common.{◌≡◌, map, drop, take, [], nat_lt, ◌+◌, ◌≤◌}
-use Rattle.std.specs.List.{list_any, flat_map}
-use Rattle.lv_bind.specs.Limits.{lengths, value_texts, tuple_texts, compared_texts, assign_texts, column_total}
+use Rattle.std.proofs.Common.{◌≡◌, map, drop, nat_lt}
+use Rattle.std.specs.List.{list_any}
+use Rattle.lv_bind.specs.Limits.{lengths, compared_texts}
 use Rattle.lv_bind.specs.Seen.{sides_seen}
 use Rattle.lv_bind.proofs.limits.has_long_side.Given as goal
 

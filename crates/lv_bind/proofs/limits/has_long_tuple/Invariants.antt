@@ -1,6 +1,6 @@
-use Rattle.std.proofs.Common.{◌≡◌, map, drop, take, [], nat_lt, ◌+◌, ◌≤◌}
+use Rattle.std.proofs.Common.{◌≡◌, drop, nat_lt}
 use Rattle.std.specs.List.{list_any, flat_map}
-use Rattle.lv_bind.specs.Limits.{lengths, value_texts, tuple_texts, compared_texts, assign_texts, column_total}
+use Rattle.lv_bind.specs.Limits.{lengths, tuple_texts}
 use Rattle.lv_bind.proofs.limits.has_long_tuple.Given as goal
 
 abbrev pub invariant-loop-tuple : goal.invariant-loop-tuple

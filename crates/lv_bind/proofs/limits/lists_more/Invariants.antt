@@ -1,6 +1,5 @@
-use Rattle.std.proofs.Common.{◌≡◌, map, drop, take, [], nat_lt, ◌+◌, ◌≤◌}
-use Rattle.std.specs.List.{list_any, flat_map}
-use Rattle.lv_bind.specs.Limits.{lengths, value_texts, tuple_texts, compared_texts, assign_texts, column_total}
+use Rattle.std.proofs.Common.{◌≡◌, map, drop, nat_lt}
+use Rattle.lv_bind.specs.Limits.{column_total}
 use Rattle.lv_bind.specs.Seen.{alias_seen}
 use Rattle.lv_bind.proofs.limits.lists_more.Given as goal
 

@@ -1,4 +1,4 @@
-use Rattle.std.proofs.Common.{◌≡◌, map, drop, take}
+use Rattle.std.proofs.Common.{◌≡◌, drop}
 use Rattle.lv_bind.specs.Profile.{names_view}
 use Rattle.lv_bind.proofs.profile.names_view.Given as goal
 

@@ -1,6 +1,6 @@
-use Rattle.std.proofs.Common.{◌≡◌, ◌++◌, map, drop, take, [], nat_eq, ◌+◌, ◌≤◌}
+use Rattle.std.proofs.Common.{◌≡◌, drop}
 use Rattle.std.specs.List.{flat_map}
-use Rattle.lv_bind.specs.Ranges.{wide_value, wide_tuple, wide_assign}
+use Rattle.lv_bind.specs.Ranges.{wide_assign}
 use Rattle.lv_bind.specs.Sources.{first}
 use Rattle.lv_bind.proofs.ranges.wide_set.Given as goal
 

@@ -1,4 +1,4 @@
-use Rattle.std.proofs.Common.{◌≡◌, map, drop, true, false}
+use Rattle.std.proofs.Common.{◌≡◌, map, drop}
 use Rattle.lv_bind.specs.Seen.{alias_seen, column_seen}
 use Rattle.lv_bind.specs.Sources.{first}
 use Rattle.lv_bind.specs.Unknown.{unknown_columns}

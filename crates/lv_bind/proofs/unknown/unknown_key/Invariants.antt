@@ -1,4 +1,4 @@
-use Rattle.std.proofs.Common.{◌≡◌, map, drop, true, false}
+use Rattle.std.proofs.Common.{◌≡◌, drop}
 use Rattle.lv_bind.specs.Sources.{first}
 use Rattle.lv_bind.specs.Unknown.{unknown_key}
 use Rattle.lv_bind.proofs.unknown.unknown_key.Given as goal

@@ -1,5 +1,5 @@
 use Rattle.lv_bind.proofs.SpokenStmts as stmts
-use Rattle.lv_bind.proofs.spoken.lines_are_spoken.Goals as goal
+use Rattle.lv_bind.proofs.laws.lines_are_spoken.Goals as goal
 
 pub returns : goal.returns
 returns c = stmts.lines_are_spoken
