@@ -1,0 +1,2 @@
+pub mod Unbuilt
+pub mod NoTasks
