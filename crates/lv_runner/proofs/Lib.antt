@@ -1,2 +1,4 @@
 pub mod Unbuilt
 pub mod NoTasks
+pub mod FollowTurns
+pub mod Written
