@@ -20,3 +20,4 @@ pub mod Answered
 pub mod SoundViews
 pub mod Runs
 pub mod Kept
+pub mod AnsweredLines

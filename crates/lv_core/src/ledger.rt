@@ -1,17 +1,16 @@
 //! The core: it answers the statements of a program one by one, and its type keeps the run.
-ghost use Rattle.std.specs.Prelude.{◌≡◌, ◌<◌, ◌++◌, ◌∷◌, [], true, OnOk, OnErr, IfOk, ◌+◌, length, map, slice_get, slice_index, slice_set};
+ghost use Rattle.std.specs.Prelude.{◌≡◌, ◌<◌, [], true, OnOk, OnErr, IfOk, length, map, slice_get, slice_index, slice_index_or};
 ghost use Rattle.std.specs.Option.{option_map};
-ghost use Rattle.lv_plain.specs.Limits.{IsWithinLimits};
-ghost use Rattle.lv_plain.specs.LegalTurns.{turn_entry, after_turn, session_of, start};
+ghost use Rattle.lv_plain.specs.Limits.{IsStatementLine, IsWithinLimits};
+ghost use Rattle.lv_plain.specs.LegalTurns.{start};
 ghost use Rattle.lv_plain.specs.Programs.{has_more, lines_of, may_turn};
-ghost use Rattle.lv_plain.specs.Turns.{Reading};
-ghost use Rattle.lv_bind.specs.Reads.{IsReading};
-ghost use Rattle.lv_core.specs.Run.{turning, IsRun};
+ghost use Rattle.lv_core.specs.Run.{turning, view_of, IsRun, TookTurn};
+ghost use Rattle.lv_core.specs.Seen.{IsWhole};
 
 use crate::whole::Whole;
 use lv_plain::{Entry, Program, Texts};
 use lv_schema::ForcedSteps;
-use lv_values::{Copying, NoMemory, Room, Text};
+use lv_values::{Copying, Items, NoMemory, Room, Text};
 use std::alloc::Global;
 use std::marker::Model;
 
@@ -20,24 +19,29 @@ use std::marker::Model;
 pub struct Ledger {
     whole: Whole,
     program: Program,
-    places: Vec<u32>,
+    places: Items<u32>,
     entries: Room<Entry>,
 }
 
 impl Model for Ledger {
-    ghost use Rattle.lv_core.specs.Run.{CoreView, IsRun};
-    ghost use Rattle.lv_core.specs.Seen.{visible, IsWhole};
+    ghost use Rattle.lv_core.specs.Run.{CoreView, IsRun, view_of};
+    ghost use Rattle.lv_core.specs.Seen.{IsWhole};
 
     ghost Value = { CoreView };
 
-    ghost view = { λ l. record { program = l.program; seen = visible l.whole; places = l.places.items; entries = l.entries.list } };
+    ghost use Rattle.lv_schema.specs.contracts.cond.Cond as cond;
+    ghost use Rattle.std.specs.Coded.{codes};
 
-    ghost invariant = { λ l. IsWhole l.whole × IsRun (record { program = l.program; seen = visible l.whole; places = l.places.items; entries = l.entries.list }) };
+    ghost coded = { Prim.hlevel (codes, cond.the_row.coded) };
+
+    ghost view = { λ l. view_of l.program l.whole l.places l.entries.list };
+
+    ghost invariant = { λ l. IsWhole l.whole × IsRun (view_of l.program l.whole l.places l.entries.list) };
 }
 
 /// The statement of a session at a place, from 0; the setup is session 0.
 fn line_at(program: &Program, session: usize, place: usize) -> Option<&Text>
-    ensures { option_map (λ line. line.now) result.entry ≡ slice_get (lines_of program.now session) place }
+    ensures { option_map (λ line. line.now) result ≡ slice_get (lines_of program.now session) place }
 {
     if session == 0 {
         return program.setup.as_slice().get(place);
@@ -68,7 +72,7 @@ impl Ledger {
         ensures entries { IfOk result (λ l. l.entries ≡ []) }
     {
         let whole = Whole::new(alloc)?;
-        let mut places = Vec::new(alloc);
+        let mut places = Items::new(alloc);
         for _ in 0..program.sessions.len() + 1 {
             places.push(0)?;
         }
@@ -129,37 +133,82 @@ impl Ledger {
         ensures { result ≡ has_more self.now.program self.now.places session }
     {
         let session = session as usize;
-        match self.places.get(session) {
-            Some(place) => (*place as usize) < line_count(&self.program, session),
-            None => 0 < line_count(&self.program, session),
-        }
+        let place = match self.places.as_slice().get(session) {
+            Some(place) => *place,
+            None => 0,
+        };
+        (place as usize) < line_count(&self.program, session)
     }
 
     /// Answers the next statement of a session, and keeps the entry. Want of memory changes nothing.
     /// Cost: that of the statement.
     pub fn turn(&mut self, alloc: Global, session: u32) -> Result<(), NoMemory>
         requires may { may_turn self.old.program self.old.places session ≡ true }
-        ensures program { self.new.program ≡ self.old.program }
-        ensures places { OnOk result (self.new.places ≡ slice_set self.old.places session (slice_index self.old.places session + 1)) }
-        ensures sessions { OnOk result (map session_of self.new.entries ≡ map session_of self.old.entries ++ session ∷ []) }
-        ensures entries { (reading : Reading) → IsReading reading → OnOk result (self.new.entries ≡ self.old.entries ++ turn_entry reading self.old.program (turning self.old) session ∷ []) }
-        ensures state { (reading : Reading) → IsReading reading → OnOk result (turning self.new ≡ after_turn reading self.old.program (turning self.old) session) }
+        ensures done { OnOk result (TookTurn session self.old self.new) }
         ensures kept { OnErr result (self.new ≡ self.old) }
     {
-        self.entries.reserve(1)?;
-        let at = session as usize;
-        let place = self.places[at];
-        let Some(line) = line_at(&self.program, at, place as usize) else {
-            unreachable!()
-        };
-        let reply = self.whole.answer_line(alloc, at, line)?;
-        self.entries.push(Entry::Session {
+        take_turn(
+            alloc,
+            &mut self.whole,
+            &self.program,
+            &mut self.places,
+            &mut self.entries,
             session,
-            place: place + 1,
-            forced: ForcedSteps::new(alloc),
-            reply,
-        });
-        self.places[at] = place + 1;
-        Ok(())
+        )
     }
+}
+
+/// How many statements of a session are answered.
+fn place_of(places: &[u32], session: usize) -> u32
+    requires { session < length places.now }
+    ensures { result ≡ slice_index places.now session }
+{
+    places[session]
+}
+
+/// The statement of a session at a place that it has.
+#[tactic(auto, using(crate::proofs::Kept::statement_line, crate::proofs::Kept::line_there))]
+fn line_left(program: &Program, session: usize, place: usize) -> &Text
+    requires within { IsWithinLimits program.now }
+    requires there { place < length (lines_of program.now session) }
+    ensures line { result.now ≡ slice_index_or (lines_of program.now session) place [] }
+    ensures statement { IsStatementLine result.now }
+{
+    let Some(line) = line_at(program, session, place) else {
+        unreachable!()
+    };
+    line
+}
+
+/// Answers the next statement of a session of a run.
+#[tactic(auto, using(crate::proofs::Kept::place_there, crate::proofs::Kept::session_few, crate::proofs::Kept::place_left, crate::proofs::Kept::small_read, crate::proofs::Kept::changes_few))]
+fn take_turn(
+    alloc: Global,
+    whole: &mut Whole,
+    program: &Program,
+    places: &mut Items<u32>,
+    entries: &mut Room<Entry>,
+    session: u32,
+) -> Result<(), NoMemory>
+    requires whole { IsWhole whole.old }
+    requires run { IsRun (view_of program.now whole.old places.old entries.old.list) }
+    requires may { may_turn program.now places.old session ≡ true }
+    ensures whole { IsWhole whole.new }
+    ensures done { OnOk result (TookTurn session (view_of program.now whole.old places.old entries.old.list) (view_of program.now whole.new places.new entries.new.list)) }
+    ensures kept { OnErr result (view_of program.now whole.new places.new entries.new.list ≡ view_of program.now whole.old places.old entries.old.list) }
+{
+    entries.reserve(1)?;
+    let at = session as usize;
+    let place = place_of(places.as_slice(), at);
+    let line = line_left(program, at, place as usize);
+    let reply = whole.answer_line(alloc, at, line)?;
+    let forced = ForcedSteps::new(alloc);
+    entries.push(Entry::Session {
+        session,
+        place: place + 1,
+        forced,
+        reply,
+    });
+    places.set(at, place + 1);
+    Ok(())
 }

@@ -1,5 +1,5 @@
 //! The reply to a line.
-ghost use Rattle.std.specs.Prelude.{◌≡◌, ◌<◌, ◌≤◌, ◌+◌, ◌^◌, ◌-◌, ℕ, [], List, OnOk, IfOk, length, slice_index, slice_set};
+ghost use Rattle.std.specs.Prelude.{◌≡◌, ◌<◌, ◌≤◌, ◌+◌, ◌^◌, ◌-◌, ℕ, [], List, OnOk, OnErr, IfOk, length, slice_index, slice_set};
 ghost use Rattle.lv_schema.specs.World.{transaction};
 ghost use Rattle.lv_plain.specs.Limits.{IsStatementLine};
 ghost use Rattle.lv_plain.specs.LegalTurns.{always_written};
@@ -30,6 +30,7 @@ impl Whole {
         requires small { IsSmallDb (transaction session (visible self.old)).own }
         requires changes { (transaction session (visible self.old)).changes < 2 ^ 32 - 1 }
         ensures answer { (reading : Reading) → IsReading reading → Answers (visible self.old) (visible self.new) result (turn reading always_written [] session line.now (visible self.old)) }
+        ensures kept { OnErr result (visible self.new ≡ visible self.old) }
         ensures small { (places : List ℕ) → session < length places → AreSmallStates (visible self.old) places
             → OnOk result (AreSmallStates (visible self.new) (slice_set places session (slice_index places session + 1))) }
         ensures tables { OnOk result (length (visible self.old).tables ≤ length (visible self.new).tables) }
@@ -37,6 +38,8 @@ impl Whole {
         ensures reply { AreNamedStates (visible self.old) → IfOk result (IsNamedReply (length (visible self.old).tables)) }
         ensures whole { IsWhole self.new }
     {
+        let tables = self.schema.tables();
+        let _ = tables;
         let live = self.sessions[session].is_some();
         match read_line(alloc, &self.schema, session == 0, live, line) {
             Ok(bound) => self.answer(alloc, session, bound),
