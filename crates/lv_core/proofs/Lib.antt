@@ -21,3 +21,4 @@ pub mod SoundViews
 pub mod Runs
 pub mod Kept
 pub mod AnsweredLines
+pub mod Begins
