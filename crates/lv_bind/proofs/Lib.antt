@@ -1,6 +1,5 @@
 pub mod FaultLemmas
 pub mod NarrowLemmas
-pub mod SampleLemmas
 pub mod BoundChanges
 pub mod BoundQueries
 pub mod BoundStatements

@@ -9,7 +9,6 @@ pub mod Pieces
 pub mod Profile
 pub mod Ranges
 pub mod Rights
-pub mod Sample
 pub mod Seen
 pub mod Sources
 pub mod Unknown

@@ -16,3 +16,5 @@ mod places;
 mod query;
 mod stop;
 mod whole;
+
+pub use ledger::Ledger;
