@@ -15,10 +15,13 @@ split [] i x lt is = absurd (omega arith)
 split (y ∷ ys) zero x lt is = ap (λ z. z ∷ ys) is
 split (y ∷ ys) (suc i) x lt is = ap (λ zs. y ∷ zs) (split ys i x (omega arith) is)
 
+take_suc : (xs : List ℕ) (i x : ℕ) → i < length xs → x ≡ get_or xs i x → take (suc i) xs ≡ take i xs ++ x ∷ []
+take_suc [] i x lt is = absurd (omega arith)
+take_suc (y ∷ ys) zero x lt is = ap (λ z. z ∷ []) (sym is)
+take_suc (y ∷ ys) (suc i) x lt is = ap (λ zs. y ∷ zs) (take_suc ys i x (omega arith) is)
+
 pub take_more : (xs : List ℕ) (i x : ℕ) → i < length xs → x ≡ get_or xs i x → take (i + 1) xs ≡ take i xs ++ x ∷ []
-take_more [] i x lt is = absurd (omega arith)
-take_more (y ∷ ys) zero x lt is = ap (λ z. z ∷ []) (sym is)
-take_more (y ∷ ys) (suc i) x lt is = ap (λ zs. y ∷ zs) (take_more ys i x (omega arith) is)
+take_more xs i x lt is = let e : i + 1 ≡ suc i = omega arith in ap (λ (n : ℕ). take n xs) e ∙ take_suc xs i x lt is
 
 fold_more : (f : Places → ℕ → Places) (a : Places) (xs : List ℕ) (x : ℕ) → fold f a (xs ++ x ∷ []) ≡ f (fold f a xs) x
 fold_more f a [] x = refl

@@ -29,14 +29,14 @@ no_tasks_read line p stmt false is reads only differs = λ tasks. by (only ShowT
     by (inr e) = cc
 
 pub no_tasks_unread : {E : Type 0} (line : List ℕ) (p : Result Stmt ParseFault) (fault : ParseFault) (r : Result Bool E) → p ≡ Err fault → Only line p → IsUnread fault r
-    → IfOk r (λ no. MatchBool no (IsNoTasks line) (IsNoTasks line → ⊥))
+    → IfOk r (λ b. MatchBool b (IsNoTasks line) (IsNoTasks line → ⊥))
 no_tasks_unread {E} line p (stop.Syntax byte) r is only said =
-    subst (λ (q : Result Bool E). IfOk q (λ no. MatchBool no (IsNoTasks line) (IsNoTasks line → ⊥))) (sym said) (λ tasks. by (only ShowTasks tasks))
+    subst (λ (q : Result Bool E). IfOk q (λ b. MatchBool b (IsNoTasks line) (IsNoTasks line → ⊥))) (sym said) (λ tasks. by (only ShowTasks tasks))
   where
     by : (p ≡ Ok ShowTasks) ⊎ (p ≡ Err stop.NoMemory) → ⊥
     by (inl e) = cc
     by (inr e) = cc
-no_tasks_unread line p stop.NoMemory (Ok no) is only said = absurd said
+no_tasks_unread line p stop.NoMemory (Ok quiet) is only said = absurd said
 no_tasks_unread line p stop.NoMemory (Err e) is only said = tt
 
 pub built_when : (p : Program) (a b c d : Bool) → MatchBool a (AreTurns p.order) (AreTurns p.order → ⊥)

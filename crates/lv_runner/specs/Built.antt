@@ -38,5 +38,5 @@ pub record IsFirstUnbuilt (bytes : List ℕ) (line : ℕ) : Type 0 where
 -- what is said of a line that is no statement: it is not SHOW TASKS
 abbrev pub IsUnread : {E : Type 0} → ParseFault → Result Bool E → Type 0
 IsUnread (Syntax byte) r = r ≡ Ok true
-IsUnread NoMemory (Ok no) = ⊥
+IsUnread NoMemory (Ok quiet) = ⊥
 IsUnread NoMemory (Err e) = Unit {0}
