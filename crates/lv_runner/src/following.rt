@@ -16,6 +16,7 @@ use lv_values::NoMemory;
 use std::alloc::Global;
 
 /// Answers a statement of each of these sessions, one after another, from the begin of the program.
+#[tactic(auto, using(crate::proofs::FollowTurns::may_next, crate::proofs::FollowTurns::places_next, crate::proofs::FollowTurns::take_more))]
 fn follow(alloc: Global, ledger: &mut Ledger, turns: &[u32]) -> Result<(), NoMemory>
     requires fresh { ledger.old.entries ≡ [] }
     requires start { turning ledger.old ≡ start ledger.old.program }
@@ -30,6 +31,7 @@ fn follow(alloc: Global, ledger: &mut Ledger, turns: &[u32]) -> Result<(), NoMem
 }
 
 /// The run of a whole program: each statement is answered, in the order of the schedule.
+#[tactic(auto, using(crate::proofs::FollowTurns::may_follow, crate::proofs::FollowTurns::events_are))]
 pub(crate) fn run_program(alloc: Global, program: Program) -> Result<Ledger, NoMemory>
     requires within { IsWithinLimits program }
     requires followable { IsFollowable program }

@@ -1,8 +1,10 @@
 //! What is written for the bytes of a script.
-ghost use Rattle.std.specs.Prelude.{◌≡◌, ◌≤◌, ℕ, Err, IfOk, length};
+ghost use Rattle.std.specs.Prelude.{◌≡◌, ◌≤◌, ℕ, Ok, Err, IfOk, List, ◌∷◌, codes, length};
 ghost use Rattle.lv_plain.specs.Following.{IsFollowable};
 ghost use Rattle.lv_plain.specs.Limits.{IsWithinLimits};
 ghost use Rattle.lv_lines.specs.Script.{script_of};
+ghost use Rattle.lv_lines.specs.Transcript.{text_of};
+ghost use Rattle.lv_plain.specs.SessionNames.{session_names};
 ghost use Rattle.lv_runner.specs.Built.{IsBuilt};
 ghost use Rattle.lv_runner.specs.Output.{limit, names_of, IsOutput, IsRefused};
 
@@ -58,6 +60,7 @@ fn names_of(alloc: Global, ledger: &Ledger) -> Result<Names, NoMemory>
 }
 
 /// The text of a run's entries.
+#[tactic(auto, using(crate::proofs::Written::run_has_names))]
 fn text_of(alloc: Global, ledger: &Ledger) -> Result<Bytes, NoMemory>
     ensures { IfOk result (λ text. text ≡ text_of (names_of ledger.now.program ledger.now.seen) ledger.now.entries) }
 {
@@ -67,6 +70,7 @@ fn text_of(alloc: Global, ledger: &Ledger) -> Result<Bytes, NoMemory>
 }
 
 /// The text for a program that is run.
+#[tactic(auto, using(crate::proofs::Written::output_is))]
 fn output_of(alloc: Global, program: Program) -> Result<Bytes, NoMemory>
     requires within { IsWithinLimits program }
     requires followable { IsFollowable program }
