@@ -67,6 +67,60 @@ fn each_call_fails(rt: HostRuntime) -> Result<(), Fail> {
     Ok(())
 }
 
+/// Scripts, each with what it prints or the line and the kind that refuse it.
+struct Case {
+    script: &'static str,
+    status: Status,
+    printed: &'static str,
+}
+
+const CASES: &[Case] = &[
+    // two sessions in turn: the first committer of a key wins
+    Case {
+        script: "@setup\ncreate table item (id int, price int, primary key (id))\n@session a\nbegin\ninsert into item values (1, 10)\ncommit\n@session b\nbegin\ninsert into item values (1, 11)\ncommit\nselect * from item\n@order a b a b a b b\n",
+        status: Status::Done,
+        printed: "setup 1 ok\na 1 begin 0\nb 1 begin 0\na 2 ok 1\nb 2 ok 1\na 3 commit 1\nb 3 fault 15 write conflict item (1) commit 1\nb 4 rows 1\n| 1 | 10\n",
+    },
+    // write skew is let through, own writes are seen, others' uncommitted ones are not
+    Case {
+        script: "@setup\ncreate table t (k int, primary key (k))\n@session a\nbegin\nselect * from t\ninsert into t values (1)\nselect * from t\ncommit\n@session b\nbegin\nselect * from t\ninsert into t values (2)\nselect * from t\ncommit\nselect * from t\n",
+        status: Status::Done,
+        printed: "setup 1 ok\na 1 begin 0\nb 1 begin 0\na 2 rows 0\nb 2 rows 0\na 3 ok 1\nb 3 ok 1\na 4 rows 1\n| 1\nb 4 rows 1\n| 2\na 5 commit 1\nb 5 commit 2\nb 6 rows 2\n| 1\n| 2\n",
+    },
+    // what is not built yet, at its line, and a fault of the script before it
+    Case {
+        script: "@setup\n@session a\nbegin\nshow tasks\n",
+        status: Status::Script { line: 4, kind: 0 },
+        printed: "",
+    },
+    Case {
+        script: "@session a\nbegin\n@order clean\n@order z\n",
+        status: Status::Script { line: 4, kind: 10 },
+        printed: "",
+    },
+    // no statement, and no script
+    Case {
+        script: "",
+        status: Status::Done,
+        printed: "",
+    },
+    Case {
+        script: "select * from t\n",
+        status: Status::Script { line: 1, kind: 5 },
+        printed: "",
+    },
+];
+
+#[test]
+fn scripts_run(rt: HostRuntime) -> Result<(), Fail> {
+    for case in CASES {
+        let (status, sink) = run_on(&rt, case.script.as_bytes(), &[], &[])?;
+        assert_eq!(rt; status, case.status);
+        assert_eq!(rt; sink.written(), case.printed.as_bytes());
+    }
+    Ok(())
+}
+
 #[test]
 fn words_are_refused(rt: HostRuntime) -> Result<(), Fail> {
     let alloc = rt.alloc();
