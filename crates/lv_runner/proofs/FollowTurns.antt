@@ -1,6 +1,7 @@
 -- Turns that are taken one after another.
 use Rattle.std.proofs.Common.{◌≡◌, ℕ, zero, suc, ◌+◌, ◌<◌, true, List, [], ◌∷◌, ◌++◌, map, length, get_or, take, drop, refl, sym, ap, ◌∙◌, subst, arith}
 use Rattle.std.specs.List.{fold}
+use Rattle.std.proofs.lemmas.List.{take_more}
 use Rattle.lv_plain.specs.declared.entry.Entry.{Entry}
 use Rattle.lv_plain.specs.declared.program.Program.{Program}
 use Rattle.lv_plain.specs.Events.{Event, schedule, turn_of}
@@ -10,30 +11,23 @@ use Rattle.lv_plain.specs.Programs.{Places, first_places, may_turn}
 use Rattle.lv_order.specs.Places.{one_more, places_after}
 use Rattle.lv_runner.specs.Following.{MayFollow}
 
-split : (xs : List ℕ) (i x : ℕ) → i < length xs → x ≡ get_or xs i x → take i xs ++ x ∷ drop (suc i) xs ≡ xs
-split [] i x lt is = absurd (omega arith)
-split (y ∷ ys) zero x lt is = ap (λ z. z ∷ ys) is
-split (y ∷ ys) (suc i) x lt is = ap (λ zs. y ∷ zs) (split ys i x (omega arith) is)
-
-take_suc : (xs : List ℕ) (i x : ℕ) → i < length xs → x ≡ get_or xs i x → take (suc i) xs ≡ take i xs ++ x ∷ []
-take_suc [] i x lt is = absurd (omega arith)
-take_suc (y ∷ ys) zero x lt is = ap (λ z. z ∷ []) (sym is)
-take_suc (y ∷ ys) (suc i) x lt is = ap (λ zs. y ∷ zs) (take_suc ys i x (omega arith) is)
-
-pub take_more : (xs : List ℕ) (i x : ℕ) → i < length xs → x ≡ get_or xs i x → take (i + 1) xs ≡ take i xs ++ x ∷ []
-take_more xs i x lt is = let e : i + 1 ≡ suc i = omega arith in ap (λ (n : ℕ). take n xs) e ∙ take_suc xs i x lt is
+split : (xs : List ℕ) (i : ℕ) → i < length xs → take i xs ++ get_or xs i 0 ∷ drop (suc i) xs ≡ xs
+split [] i lt = absurd (omega arith)
+split (y ∷ ys) zero lt = refl
+split (y ∷ ys) (suc i) lt = ap (λ zs. y ∷ zs) (split ys i (omega arith))
 
 fold_more : (f : Places → ℕ → Places) (a : Places) (xs : List ℕ) (x : ℕ) → fold f a (xs ++ x ∷ []) ≡ f (fold f a xs) x
 fold_more f a [] x = refl
 fold_more f a (y ∷ ys) x = fold_more f (f a y) ys x
 
-pub may_next : (p : Program) (turns : List ℕ) (i session : ℕ) → MayFollow p turns → i < length turns → session ≡ get_or turns i session
-    → may_turn p (places_after p (take i turns)) session ≡ true
-may_next p turns i session may lt is = may (take i turns) session (drop (suc i) turns) (split turns i session lt is)
+pub may_next : (p q : Program) (places : Places) (turns : List ℕ) (i : ℕ) → MayFollow p turns → q ≡ p → places ≡ places_after q (take i turns) → i < length turns
+    → may_turn q places (get_or turns i 0) ≡ true
+may_next p q places turns i may is at lt =
+    rw (at, is) (may (take i turns) (get_or turns i 0) (drop (suc i) turns) (split turns i lt))
 
-pub places_next : (p : Program) (turns : List ℕ) (i session : ℕ) → i < length turns → session ≡ get_or turns i session
-    → places_after p (take (i + 1) turns) ≡ one_more (places_after p (take i turns)) session
-places_next p turns i session lt is = ap (places_after p) (take_more turns i session lt is) ∙ fold_more one_more (first_places p) (take i turns) session
+pub places_next : (p : Program) (turns : List ℕ) (i : ℕ) → i < length turns
+    → places_after p (take (i + 1) turns) ≡ one_more (places_after p (take i turns)) (get_or turns i 0)
+places_next p turns i lt = ap (places_after p) (take_more 0 i turns lt) ∙ fold_more one_more (first_places p) (take i turns) (get_or turns i 0)
 
 -- each turn of a schedule may come when it comes
 pub may_follow : (p : Program) (turns : List ℕ)

@@ -1,6 +1,7 @@
 -- The text of a run is the output of its script.
-use Rattle.std.proofs.Common.{◌≡◌, ℕ, suc, ◌+◌, ◌<◌, true, List, [], ◌∷◌, map, length, refl, sym, ap, ◌∙◌, subst, arith}
-use Rattle.std.specs.Prelude.{Ok, codes}
+use Rattle.std.proofs.Common.{◌≡◌, ℕ, suc, ◌+◌, ◌<◌, true, List, [], ◌∷◌, map, length, refl, sym, ap, ◌∙◌, subst, arith, inl, inr}
+use Rattle.std.specs.Prelude.{Result, Ok, Err, IfOk, Option, codes, ◌⊎◌}
+use Rattle.std.specs.Io.KnownBytes.{Consumes}
 use Rattle.std.specs.List.{AllByRecursion}
 use Rattle.std.proofs.lemmas.List.{length-map}
 use Rattle.lv_bind.specs.Reads.{IsReading}
@@ -8,7 +9,9 @@ use Rattle.lv_core.specs.Named.{IsNamedEntry, IsNamedFault, IsNamedReply}
 use Rattle.lv_core.specs.Run.{CoreView, IsRun, turning}
 use Rattle.lv_lines.specs.declared.names.Names.{Names}
 use Rattle.lv_lines.specs.Entries.{FaultHasNames, HasNames, HaveNames, ReplyHasNames}
-use Rattle.lv_lines.specs.Script.{script_of}
+use Rattle.lv_lines.specs.declared.script_fault.ScriptFault.TheVariants.{Bad}
+use Rattle.lv_lines.specs.declared.script_fault.ScriptFaultKind.TheVariants.{ScriptTooLong}
+use Rattle.lv_lines.specs.Script.{script_of, script_from, start as first_part, lines_of}
 use Rattle.lv_lines.specs.Transcript.{text_of}
 use Rattle.lv_order.specs.Places.{places_after}
 use Rattle.lv_plain.specs.declared.entry.Entry.{Entry}
@@ -27,7 +30,10 @@ use Rattle.lv_schema.specs.declared.fault.Fault.{Fault}
 use Rattle.lv_schema.specs.declared.fault.Fault.TheVariants as fault
 use Rattle.lv_schema.specs.World.{Visible}
 use Rattle.lv_runner.specs.Built.{IsBuilt}
-use Rattle.lv_runner.specs.Output.{IsOutput, names_of}
+use Rattle.lv_runner.specs.declared.status.Status.{Status}
+use Rattle.lv_runner.specs.declared.status.Status.TheVariants as status
+use Rattle.lv_runner.specs.Output.{IsBad, IsOutput, limit, names_of}
+use Rattle.lv_runner.specs.Run.{Refused}
 use Rattle.lv_runner.proofs.FollowTurns.{events_shown}
 
 -- ---- names
@@ -50,7 +56,7 @@ fault_has names n (fault.TableFull table) e h = omega (arith, e, h)
 fault_has names n (fault.Conflict table key commit) e h = omega (arith, e, h)
 fault_has names n (fault.MergedFull table) e h = omega (arith, e, h)
 fault_has names n fault.Store e h = tt
-fault_has names n (fault.JournalFull need limit) e h = tt
+fault_has names n (fault.JournalFull need most) e h = tt
 
 reply_has : (names : Names) (n : ℕ) (r : Reply) → n ≡ length names.tables → IsNamedReply n r → ReplyHasNames names r
 reply_has names n reply.Made e h = tt
@@ -120,3 +126,35 @@ pub output_is : (bytes text : List ℕ) (p : Program) (l : CoreView) → PlacesL
     → script_of bytes ≡ Ok p → text ≡ text_of (names_of l.program l.seen) l.entries → IsOutput bytes text
 output_is bytes text p l places answered run is followable built events script said =
     output_here bytes text l places answered run (subst IsFollowable (sym is) followable) (subst IsBuilt (sym is) built) (events ∙ ap schedule (sym is)) (script ∙ ap (λ q. Ok q) (sym is)) said
+
+pub each_output_is : {E : Type 0} (r : Result (List ℕ) E) (p : Program) (l : CoreView) → PlacesLaw → AnsweredLaw → IsRun l → l.program ≡ p → IsFollowable p → IsBuilt p → map event_shown l.entries ≡ schedule p
+    → IfOk r (λ text. text ≡ text_of (names_of l.program l.seen) l.entries) → (bytes : List ℕ) → script_of bytes ≡ Ok p → IfOk r (λ text. IsOutput bytes text)
+each_output_is (Ok text) p l places answered run is followable built events said bytes script = output_is bytes text p l places answered run is followable built events script said
+each_output_is (Err e) p l places answered run is followable built events said bytes script = tt
+
+-- ---- a script that is too long
+
+too_long : (bytes : List ℕ) → limit < length bytes → script_of bytes ≡ Err (Bad 0 ScriptTooLong)
+too_long bytes long = rw (long) refl
+
+line_of : ℕ → Status → ℕ
+line_of other (status.Script line kind) = line
+line_of other s = other
+
+kind_of : ℕ → Status → ℕ
+kind_of other (status.Script line kind) = kind
+kind_of other s = other
+
+refused_here : (left0 left1 : Option (List ℕ)) (bytes : List ℕ) → Consumes left0 left1 bytes → limit < length bytes → Refused left0 left1 0 2
+refused_here left0 left1 bytes consumed long = record {
+  bytes = bytes;
+  consumed = consumed;
+  ended = inr long;
+  refused = inl (record { which = ScriptTooLong; script = too_long bytes long; number = refl });
+}
+
+pub past_limit : (left0 left1 : Option (List ℕ)) (bytes : List ℕ) → Consumes left0 left1 bytes → limit < length bytes
+    → (line kind : ℕ) → status.Script 0 2 ≡ status.Script line kind → Refused left0 left1 line kind
+unfolding kind_of line_of
+past_limit left0 left1 bytes consumed long line kind is =
+    subst (λ (n : ℕ). Refused left0 left1 n kind) (ap (line_of 0) is) (subst (λ (n : ℕ). Refused left0 left1 0 n) (ap (kind_of 0) is) (refused_here left0 left1 bytes consumed long))

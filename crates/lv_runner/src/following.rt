@@ -16,7 +16,7 @@ use lv_values::NoMemory;
 use std::alloc::Global;
 
 /// Answers a statement of each of these sessions, one after another, from the begin of the program.
-#[tactic(auto, using(crate::proofs::FollowTurns::may_next, crate::proofs::FollowTurns::places_next, crate::proofs::FollowTurns::take_more))]
+#[tactic(auto, using(crate::proofs::FollowTurns::places_next))]
 fn follow(alloc: Global, ledger: &mut Ledger, turns: &[u32]) -> Result<(), NoMemory>
     requires fresh { ledger.old.entries ≡ [] }
     requires start { turning ledger.old ≡ start ledger.old.program }

@@ -70,7 +70,6 @@ fn text_of(alloc: Global, ledger: &Ledger) -> Result<Bytes, NoMemory>
 }
 
 /// The text for a program that is run.
-#[tactic(auto, using(crate::proofs::Written::output_is))]
 fn output_of(alloc: Global, program: Program) -> Result<Bytes, NoMemory>
     requires within { IsWithinLimits program }
     requires followable { IsFollowable program }

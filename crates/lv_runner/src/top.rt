@@ -19,6 +19,7 @@ const LIMIT: usize = 16777216;
 /// the snapshot at its start with its own writes, and each view by its definition over the snapshot that a query reads.
 /// The whole text stands before the first write, so want of memory writes nothing. Cost: linear in the script, and what
 /// each statement takes.
+#[tactic(auto, using(crate::proofs::Written::past_limit))]
 pub fn run<S: Source, K: Sink>(
     alloc: Global,
     words: &[Text],
@@ -39,14 +40,12 @@ pub fn run<S: Source, K: Sink>(
     if !words.is_empty() {
         return Status::Words;
     }
-    let (bytes, ended) = match read_whole(alloc, source, LIMIT) {
-        Ok(read) => read,
+    let bytes = match read_whole(alloc, source, LIMIT) {
+        Ok((bytes, Ended::AtEnd)) => bytes,
+        Ok((_, Ended::PastLimit)) => return Status::Script { line: 0, kind: 2 },
         Err(ReadFault::Failed) => return Status::SourceFault,
         Err(ReadFault::NoMemory) => return Status::NoMemory,
     };
-    if ended == Ended::PastLimit {
-        return Status::Script { line: 0, kind: 2 };
-    }
     let text = match output(alloc, bytes.as_slice()) {
         Ok(text) => text,
         Err(OutputFault::Script { line, kind }) => return Status::Script { line, kind },
