@@ -2,7 +2,7 @@
 
 use crate::{Status, run};
 use lv_outside::{MemSink, MemSource};
-use lv_values::{Bytes, Items, Text};
+use lv_values::{Bytes, Items, Text, print_natural};
 use std::test::Fail;
 
 const SCRIPT: &[u8] = b"@setup
@@ -194,5 +194,41 @@ fn a_script_too_long(rt: HostRuntime) -> Result<(), Fail> {
         let (status, _) = run_on(&rt, script.as_slice(), &[], &[])?;
         assert_eq!(rt; status, Status::Script { line, kind }, "{len} bytes");
     }
+    Ok(())
+}
+
+/// Adds 33 lines with this head and end, numbered in between, and what the setup answers: the 33rd passes a limit.
+fn past_a_limit(
+    lines: (&str, &str),
+    before: u64,
+    refused: &str,
+    script: &mut Bytes,
+    printed: &mut Bytes,
+) -> Result<(), Fail> {
+    for number in 1..34 {
+        script.extend_from_slice(lines.0.as_bytes())?;
+        print_natural(number, script)?;
+        script.extend_from_slice(lines.1.as_bytes())?;
+        printed.extend_from_slice(b"setup ")?;
+        print_natural(before + number, printed)?;
+        let answer = if number < 33 { " ok\n" } else { refused };
+        printed.extend_from_slice(answer.as_bytes())?;
+    }
+    Ok(())
+}
+
+#[test]
+fn limits_of_the_schema(rt: HostRuntime) -> Result<(), Fail> {
+    let mut script = Bytes::from_slice(rt.alloc(), b"@setup\n")?;
+    let mut printed = Bytes::new(rt.alloc());
+    let table = ("create table t", " (k int, primary key (k))\n");
+    let refused = " fault 6 limit tables 32\n";
+    past_a_limit(table, 0, refused, &mut script, &mut printed)?;
+    let view = ("create view v", " as select k from t1\n");
+    let refused = " fault 6 limit views 32\n";
+    past_a_limit(view, 33, refused, &mut script, &mut printed)?;
+    let (status, sink) = run_on(&rt, script.as_slice(), &[], &[])?;
+    assert_eq!(rt; status, Status::Done);
+    assert_eq!(rt; sink.written(), printed.as_slice());
     Ok(())
 }
