@@ -12,3 +12,4 @@ pub mod Small
 pub mod Answering
 pub mod Named
 pub mod Run
+pub mod Cores

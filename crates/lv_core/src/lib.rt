@@ -11,10 +11,11 @@ mod creating;
 mod effects;
 mod ledger;
 mod lines;
+mod machine;
 mod merging;
 mod places;
 mod query;
 mod stop;
 mod whole;
 
-pub use ledger::Ledger;
+pub use machine::Core;

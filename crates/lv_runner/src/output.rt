@@ -1,5 +1,6 @@
 //! What is written for the bytes of a script.
 ghost use Rattle.std.specs.Prelude.{◌≡◌, ◌≤◌, ℕ, Ok, Err, IfOk, List, ◌∷◌, codes, length};
+ghost use Rattle.lv_core.specs.Cores.{run_of};
 ghost use Rattle.lv_plain.specs.Following.{IsFollowable};
 ghost use Rattle.lv_plain.specs.Limits.{IsWithinLimits};
 ghost use Rattle.lv_lines.specs.Script.{script_of};
@@ -10,7 +11,7 @@ ghost use Rattle.lv_runner.specs.Output.{limit, names_of, IsOutput, IsRefused};
 
 use crate::built::{first_unbuilt, is_built};
 use crate::following::run_program;
-use lv_core::Ledger;
+use lv_core::Core;
 use lv_lines::{Names, ScriptFault, print_entries, read_script};
 use lv_order::{all_is_answered, places_after_turns};
 use lv_plain::{Program, Texts};
@@ -49,24 +50,24 @@ fn session_names(alloc: Global, program: &Program) -> Result<Texts, NoMemory>
 }
 
 /// The names that a transcript uses.
-fn names_of(alloc: Global, ledger: &Ledger) -> Result<Names, NoMemory>
-    ensures { IfOk result (λ names. names ≡ names_of ledger.now.program ledger.now.seen) }
+fn names_of(alloc: Global, core: &Core) -> Result<Names, NoMemory>
+    ensures { IfOk result (λ names. names ≡ names_of (run_of core.now).program (run_of core.now).seen) }
 {
     Ok(Names {
-        sessions: session_names(alloc, ledger.program())?,
-        tables: ledger.table_names(alloc)?,
-        views: ledger.view_names(alloc)?,
+        sessions: session_names(alloc, core.program())?,
+        tables: core.table_names(alloc)?,
+        views: core.view_names(alloc)?,
     })
 }
 
 /// The text of a run's entries.
 #[tactic(auto, using(crate::proofs::Written::run_has_names))]
-fn text_of(alloc: Global, ledger: &Ledger) -> Result<Bytes, NoMemory>
-    ensures { IfOk result (λ text. text ≡ text_of (names_of ledger.now.program ledger.now.seen) ledger.now.entries) }
+fn text_of(alloc: Global, core: &Core) -> Result<Bytes, NoMemory>
+    ensures { IfOk result (λ text. text ≡ text_of (names_of (run_of core.now).program (run_of core.now).seen) (run_of core.now).entries) }
 {
-    ledger.known();
-    let names = names_of(alloc, ledger)?;
-    print_entries(alloc, &names, ledger.entries())
+    core.known();
+    let names = names_of(alloc, core)?;
+    print_entries(alloc, &names, core.entries())
 }
 
 /// The text for a program that is run.
@@ -78,9 +79,9 @@ fn output_of(alloc: Global, program: Program) -> Result<Bytes, NoMemory>
 {
     places_after_turns();
     all_is_answered();
-    let ledger = run_program(alloc, program)?;
-    ledger.known();
-    text_of(alloc, &ledger)
+    let core = run_program(alloc, program)?;
+    core.known();
+    text_of(alloc, &core)
 }
 
 /// The text that is written for the bytes of a script, or the line that refuses it. Cost: linear in the script, and what

@@ -232,3 +232,38 @@ fn limits_of_the_schema(rt: HostRuntime) -> Result<(), Fail> {
     assert_eq!(rt; sink.written(), printed.as_slice());
     Ok(())
 }
+
+/// Adds an INSERT of this many keys, from the first one on.
+fn insert_keys(first: u64, keys: u64, script: &mut Bytes) -> Result<(), Fail> {
+    script.extend_from_slice(b"insert into big values (")?;
+    print_natural(first, script)?;
+    for more in 1..keys {
+        script.extend_from_slice(b"), (")?;
+        print_natural(first + more, script)?;
+    }
+    script.extend_from_slice(b")\n")?;
+    Ok(())
+}
+
+/// Two transactions insert one row each where the table has room for one more row: the second commit is refused.
+#[test]
+fn the_last_row_of_a_table(rt: HostRuntime) -> Result<(), Fail> {
+    let setup = b"@setup\ncreate table big (k int, primary key (k))\n@session fill\n";
+    let mut script = Bytes::from_slice(rt.alloc(), setup)?;
+    for thousand in 0..65 {
+        insert_keys(1000 * thousand, 1000, &mut script)?;
+    }
+    insert_keys(65000, 534, &mut script)?;
+    script.extend_from_slice(b"@session a\nbegin\ninsert into big values (70000)\ncommit\n")?;
+    script.extend_from_slice(b"@session b\nbegin\ninsert into big values (-1)\ncommit\n")?;
+    script.extend_from_slice(b"@order")?;
+    for _ in 0..66 {
+        script.extend_from_slice(b" fill")?;
+    }
+    let (status, sink) = run_on(&rt, script.as_slice(), &[], &[])?;
+    let end = b"fill 66 ok 534 commit 66\na 1 begin 66\nb 1 begin 66\na 2 ok 1\nb 2 ok 1\n\
+        a 3 commit 67\nb 3 fault 16 table full at commit big\n";
+    assert_eq!(rt; status, Status::Done);
+    assert!(rt; sink.written().ends_with(end));
+    Ok(())
+}

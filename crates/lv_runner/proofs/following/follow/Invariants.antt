@@ -5,7 +5,7 @@ use Rattle.lv_runner.proofs.following.follow.Given as goal
 
 abbrev pub invariant-loop-session : goal.invariant-loop-session
 invariant-loop-session l = record {
-  program : l.ledger.program ≡ l.initial.ledger.program;
-  places : l.ledger.places ≡ places_after l.ledger.program (take l.session-index l.turns);
-  sessions : map session_of l.ledger.entries ≡ take l.session-index l.turns;
+  program : l.core.ledger.program ≡ l.initial.core.ledger.program;
+  places : l.core.ledger.places ≡ places_after l.core.ledger.program (take l.session-index l.turns);
+  sessions : map session_of l.core.ledger.entries ≡ take l.session-index l.turns;
 }
