@@ -87,6 +87,24 @@ const CASES: &[Case] = &[
         status: Status::Done,
         printed: "setup 1 ok\na 1 begin 0\nb 1 begin 0\na 2 rows 0\nb 2 rows 0\na 3 ok 1\nb 3 ok 1\na 4 rows 1\n| 1\nb 4 rows 1\n| 2\na 5 commit 1\nb 5 commit 2\nb 6 rows 2\n| 1\n| 2\n",
     },
+    // dirty read: what is written and not committed is not seen, and what is rolled back is gone
+    Case {
+        script: "@setup\ncreate table t (k int, primary key (k))\n@session a\nbegin\ninsert into t values (1)\nrollback\n@session b\nselect * from t\nselect * from t\n@order a a b a b\n",
+        status: Status::Done,
+        printed: "setup 1 ok\na 1 begin 0\na 2 ok 1\nb 1 rows 0\na 3 rollback\nb 2 rows 0\n",
+    },
+    // fuzzy read and phantom: what is committed meanwhile is seen by key and by condition only after the transaction
+    Case {
+        script: "@setup\ncreate table t (k int, primary key (k))\n@session a\nbegin\nselect * from t where k = 2\nselect * from t where k > 0\nselect * from t where k = 2\nselect * from t where k > 0\ncommit\nselect * from t where k > 0\n@session b\ninsert into t values (2), (1)\n@order a a a b a a a a\n",
+        status: Status::Done,
+        printed: "setup 1 ok\na 1 begin 0\na 2 rows 0\na 3 rows 0\nb 1 ok 2 commit 1\na 4 rows 0\na 5 rows 0\na 6 commit\na 7 rows 2\n| 1\n| 2\n",
+    },
+    // a snapshot begins with BEGIN, not with the first read
+    Case {
+        script: "@setup\ncreate table t (k int, primary key (k))\n@session a\nbegin\nselect * from t\n@session b\ninsert into t values (1)\n@order a b a\n",
+        status: Status::Done,
+        printed: "setup 1 ok\na 1 begin 0\nb 1 ok 1 commit 1\na 2 rows 0\n",
+    },
     // what is not built yet, at its line, and a fault of the script before it
     Case {
         script: "@setup\n@session a\nbegin\nshow tasks\n",
