@@ -10,6 +10,7 @@ use Rattle.lv_plain.specs.Programs.{Places, first_places, session_count}
 use Rattle.lv_core.specs.declared.whole.Whole.{Whole}
 use Rattle.lv_core.specs.Run.{CoreView, IsRun, view_of}
 use Rattle.lv_core.specs.Seen.{visible}
+use Rattle.lv_core.proofs.KeyOrderSteps.{ordered_at_start}
 use Rattle.lv_core.proofs.NamedSteps.{named_at_start}
 use Rattle.lv_core.proofs.SmallSteps.{small_at_start}
 
@@ -18,6 +19,7 @@ fresh p within = record {
   within = within;
   count = length-replicate (session_count p) 0;
   small = small_at_start p;
+  ordered = ordered_at_start p;
   named = named_at_start p;
   entries_named = tt;
   run = λ reading known. record { legal = tt; state = refl };

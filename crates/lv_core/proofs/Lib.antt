@@ -10,6 +10,8 @@ pub mod SmallChanges
 pub mod SmallTuples
 pub mod SmallRows
 pub mod SmallSteps
+pub mod KeyOrderRows
+pub mod KeyOrderSteps
 pub mod NamedFaults
 pub mod NamedTables
 pub mod NamedSteps

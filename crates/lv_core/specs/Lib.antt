@@ -1,4 +1,5 @@
 pub mod Sums
+pub mod KeyOrder
 pub mod TableActions
 pub mod Stops
 pub mod Databases

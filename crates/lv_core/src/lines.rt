@@ -6,6 +6,7 @@ ghost use Rattle.lv_plain.specs.LegalTurns.{always_written};
 ghost use Rattle.lv_plain.specs.Turns.{Reading, turn};
 ghost use Rattle.lv_bind.specs.Reads.{IsReading};
 ghost use Rattle.lv_core.specs.Answering.{Answers};
+ghost use Rattle.lv_core.specs.KeyOrder.{AreKeyOrdered};
 ghost use Rattle.lv_core.specs.Named.{AreNamedStates, IsNamedReply};
 ghost use Rattle.lv_core.specs.Seen.{visible, IsWhole};
 ghost use Rattle.lv_core.specs.Small.{AreSmallStates, IsSmallDb};
@@ -33,6 +34,7 @@ impl Whole {
         ensures kept { OnErr result (visible self.new ≡ visible self.old) }
         ensures small { (places : List ℕ) → session < length places → AreSmallStates (visible self.old) places
             → OnOk result (AreSmallStates (visible self.new) (slice_set places session (slice_index places session + 1))) }
+        ensures ordered { AreKeyOrdered (visible self.old) → OnOk result (AreKeyOrdered (visible self.new)) }
         ensures tables { OnOk result (length (visible self.old).tables ≤ length (visible self.new).tables) }
         ensures named { AreNamedStates (visible self.old) → OnOk result (AreNamedStates (visible self.new)) }
         ensures reply { AreNamedStates (visible self.old) → IfOk result (IsNamedReply (length (visible self.old).tables)) }
