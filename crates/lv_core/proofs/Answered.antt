@@ -18,9 +18,12 @@ use Rattle.lv_schema.specs.Databases.{rows_of}
 use Rattle.lv_schema.specs.Effects.{changed_table, first_fault}
 use Rattle.lv_schema.specs.declared.open.Open.{Open}
 use Rattle.lv_schema.specs.World.{Visible, opened, table_at, transaction}
+use Rattle.lv_core.specs.KeyOrder.{AreKeyOrdered}
 use Rattle.lv_core.specs.Seen.{MayChange}
 use Rattle.lv_core.specs.Small.{IsSmallDb}
 use Rattle.lv_core.specs.Sums.{has_short_amount, has_short_amounts}
+use Rattle.lv_core.proofs.KeyOrderRows.{rows_ordered}
+use Rattle.lv_core.proofs.KeyOrderSteps.{transaction_ordered}
 use Rattle.lv_core.proofs.SmallRows.{rows_small}
 
 -- COMMIT without a transaction
@@ -71,10 +74,11 @@ bound_in_use tables (Update table sets c) is = is.0
 bound_in_use tables (Delete table c) is = is.0
 
 pub may_change : (session : ℕ) (s : Visible) (change : Change) → IsBoundChange s.tables change → IsSmallDb (transaction session s).own
-    → (transaction session s).changes < 2 ^ 32 - 1 → MayChange s session change
-may_change session s change is small changes = record {
+    → AreKeyOrdered s → (transaction session s).changes < 2 ^ 32 - 1 → MayChange s session change
+may_change session s change is small ordered changes = record {
   table = bound_in_use s.tables change is;
   amounts = short_change s.tables change is;
   rows = rows_small (transaction session s).own (changed_table change) small;
+  order = rows_ordered s.tables (transaction session s).own (changed_table change) (transaction_ordered session s ordered);
   changes = changes;
 }

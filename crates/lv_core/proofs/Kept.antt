@@ -206,6 +206,9 @@ module _ (program : Program) (whole : Whole) (places : Places) (entries : List E
   pub small_read : IsSmallDb (transaction session (visible whole)).own
   small_read = small_own session (visible whole) places run.small
 
+  pub ordered_read : AreKeyOrdered (visible whole)
+  ordered_read = run.ordered
+
   pub changes_few : (transaction session (visible whole)).changes < 2 ^ 32 - 1
   changes_few = changes_left program session (visible whole) places run.within may run.small
 

@@ -59,7 +59,7 @@ filter_ordered key p (r ∷ rows) h = by (p r) (filter_ordered key p rows h.1)
     by true more = (all_filter (UpTo key r) p rows h.0, more)
     by false more = more
 
-acted_rows_ordered : (key : List ℕ) (k : ActionKind) (row : List Value) (rows : List (List Value)) → AreInKeyOrder key rows → AreInKeyOrder key (acted_rows key k row rows)
+pub acted_rows_ordered : (key : List ℕ) (k : ActionKind) (row : List Value) (rows : List (List Value)) → AreInKeyOrder key rows → AreInKeyOrder key (acted_rows key k row rows)
 acted_rows_ordered key (kind.Insert) row rows h = placed_ordered key row rows h
 acted_rows_ordered key (kind.Delete) row rows h = filter_ordered key (λ r. not (same_key key row r)) rows h
 
@@ -96,7 +96,7 @@ acted_ordered tables db (a ∷ actions) h =
     (set_ordered tables db a.table (acted_rows key a.kind a.row (rows_of db a.table)) h (acted_rows_ordered key a.kind a.row (rows_of db a.table) (rows_ordered tables db a.table h)))
 
 -- ---- a commit
-with_rows_ordered : (key : List ℕ) (own others : List (List Value)) → AreInKeyOrder key others → AreInKeyOrder key (with_rows key own others)
+pub with_rows_ordered : (key : List ℕ) (own others : List (List Value)) → AreInKeyOrder key others → AreInKeyOrder key (with_rows key own others)
 with_rows_ordered key [] others h = h
 with_rows_ordered key (row ∷ own) others h = with_rows_ordered key own (placed (key_cmp key) row others) (placed_ordered key row others h)
 

@@ -11,6 +11,9 @@ pub mod SmallTuples
 pub mod SmallRows
 pub mod SmallSteps
 pub mod KeyOrderRows
+pub mod KeySearch
+pub mod PreparedOrder
+pub mod PutRows
 pub mod KeyOrderSteps
 pub mod NamedFaults
 pub mod NamedTables

@@ -29,6 +29,11 @@ IsCut p zero xs = AllByRecursion (λ x. p x ≡ false) xs
 IsCut p (suc n) [] = ⊥
 IsCut p (suc n) (x ∷ xs) = (p x ≡ true) × IsCut p n xs
 
+-- whether an element, if there is one, passes a test
+abbrev pub passes : {X : Type 0} → (X → Bool) → Option X → Bool
+passes test None = false
+passes test (Some x) = test x
+
 -- the rows of each table, at the place of its number
 abbrev pub IsKeyOrderedDb : List TableDef → Db → Type 0
 IsKeyOrderedDb tables [] = Unit {0}

@@ -8,9 +8,11 @@ ghost use Rattle.lv_values.specs.Rows.{value_in, values_at};
 ghost use Rattle.lv_schema.specs.Effects.{has_key, first_taken, matching, set_value, with_sets, updated, wide_number, first_wide, change_fault, effect_on};
 ghost use Rattle.lv_schema.specs.Truth.{holds};
 ghost use Rattle.lv_core.specs.Sums.{SumFits, RowSumsFit, SumsFit, ChangeSumsFit};
+ghost use Rattle.lv_core.specs.KeyOrder.{AreInKeyOrder};
 ghost use Rattle.lv_core.specs.Stops.{GivesEffect, insert_fault};
 ghost use Rattle.std.specs.Prelude.{◌+◌, nat_lt};
 
+use crate::searching::contains_key;
 use crate::stop::{MOST_ROWS, Stop};
 use lv_schema::{Action, ActionKind, Actions, Change, Cond, Fault, Set, SetValue, TableDef, holds};
 use lv_values::{Copying, NoMemory, Row, Value, compare_keys};
@@ -40,11 +42,13 @@ fn has_key(key: &[u8], row: &Row, rows: &[Row]) -> bool
         .any(|other| compare_keys(key, row, other).is_eq())
 }
 
-/// Whether the row's key is taken, by an earlier row or by one of the table. Cost: a pass over both.
+/// Whether the row's key is taken, by an earlier row or by one of the table. Cost: a pass over the earlier rows, and a
+/// binary search.
 fn is_taken(key: &[u8], row: &Row, earlier: &[Row], rows: &[Row]) -> bool
+    requires { AreInKeyOrder key.now rows.now }
     ensures { result ≡ (has_key key.now row.now earlier.now || has_key key.now row.now rows.now) }
 {
-    has_key(key, row, earlier) || has_key(key, row, rows)
+    has_key(key, row, earlier) || contains_key(key, row, rows)
 }
 
 /// The key of the first new row whose key is taken.
@@ -54,6 +58,7 @@ fn first_taken(
     rows: &[Row],
     new: &[Row],
 ) -> Result<Option<Row>, NoMemory>
+    requires { AreInKeyOrder key.now rows.now }
     ensures { IfOk result (λ taken. taken ≡ first_taken key.now rows.now new.now) }
 {
     for (i, row) in new.iter().enumerate() {
@@ -279,6 +284,7 @@ fn insert_fault(
     new: &[Row],
     rows: &[Row],
 ) -> Result<Option<Fault>, NoMemory>
+    requires { AreInKeyOrder def.now.key rows.now }
     ensures { IfOk result (λ fault. fault ≡ insert_fault table def.now new.now rows.now) }
 {
     if let Some(key) = first_taken(alloc, def.key.as_slice(), rows, new)? {
@@ -292,14 +298,15 @@ fn insert_fault(
 
 /// What a change does to a table with these rows: the number of rows that it inserts, updates or deletes, and its
 /// actions, not numbered yet. Refused with a number out of range, a duplicate key or a full table, in this order.
-/// Cost: a pass over the table, for each row of an INSERT.
+/// Cost: an UPDATE or DELETE tries every row, an INSERT searches for each of its rows.
 pub fn effect(
     alloc: Global,
     def: &TableDef,
     change: &Change,
     rows: &[Row],
 ) -> Result<(u64, Actions), Stop>
-    requires { ChangeSumsFit change.now rows.now }
+    requires sums { ChangeSumsFit change.now rows.now }
+    requires order { AreInKeyOrder def.now.key rows.now }
     ensures { GivesEffect result (effect_on def.now change.now rows.now) }
 {
     match change {

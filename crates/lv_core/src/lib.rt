@@ -14,6 +14,7 @@ mod lines;
 mod merging;
 mod places;
 mod query;
+mod searching;
 mod stop;
 mod whole;
 

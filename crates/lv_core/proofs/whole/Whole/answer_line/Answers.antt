@@ -10,8 +10,8 @@ returns-in-Ok-clause-small c places lt small =
     c.tables-tables.ensures.sound c.in-Ok.ensures.bound lt small
 
 pub returns-in-Ok-clause-ordered : goal.returns-in-Ok-clause-ordered
-returns-in-Ok-clause-ordered c ordered =
-    ordered_answer (visible c.args.self.now) (visible c.answer.new.self) c.args.session c.in-Ok.bound c.answer.result c.answer.ensures.answer ordered
+returns-in-Ok-clause-ordered c =
+    ordered_answer (visible c.args.self.now) (visible c.answer.new.self) c.args.session c.in-Ok.bound c.answer.result c.answer.ensures.answer c.requires.ordered
 
 pub returns-in-Ok-clause-tables : goal.returns-in-Ok-clause-tables
 returns-in-Ok-clause-tables c = tables_answer (visible c.args.self.now) (visible c.answer.new.self) c.args.session c.in-Ok.bound c.answer.result c.answer.ensures.answer
