@@ -1,7 +1,7 @@
 -- What answers rest on.
 use Rattle.std.proofs.Common.{◌≡◌, ℕ, ◌<◌, Bool, true, false, ◌&&◌, not, List, [], ◌∷◌, length, refl}
 use Rattle.std.specs.Prelude.{◌^◌, ◌-◌, ◌==◌, if◌then◌else◌, nat_lt, nat_abs, Option, Some, None, slice_get, slice_index_or, unwrap_or}
-use Rattle.std.specs.List.{list_all, list_any}
+use Rattle.std.specs.List.{list_all}
 use Rattle.lv_schema.specs.declared.change.Change.{Change}
 use Rattle.lv_schema.specs.declared.change.Change.TheVariants.{Insert, Update, Delete}
 use Rattle.lv_schema.specs.declared.change.Set.{Set}
@@ -14,9 +14,7 @@ use Rattle.lv_schema.specs.declared.table.TableDef.{TableDef}
 use Rattle.lv_schema.specs.Bound.{IsBoundChange, column_set, has_kind, is_bound_set, is_text, set_fits}
 use Rattle.lv_schema.specs.Cases.{Outcome, answered, closed, committed, committed_unless}
 use Rattle.lv_schema.specs.Commits.{conflict_of, merged_full}
-use Rattle.lv_schema.specs.Databases.{rows_of}
 use Rattle.lv_schema.specs.Effects.{changed_table, first_fault}
-use Rattle.lv_schema.specs.declared.open.Open.{Open}
 use Rattle.lv_schema.specs.World.{Visible, opened, table_at, transaction}
 use Rattle.lv_core.specs.KeyOrder.{AreKeyOrdered}
 use Rattle.lv_core.specs.Seen.{MayChange}

@@ -1,13 +1,13 @@
 -- What the core keeps gives what a turn needs, and a turn leaves it.
 use Rattle.std.proofs.Common.{◌≡◌, ℕ, zero, suc, ◌+◌, ◌<◌, ◌≤◌, Bool, true, false, ◌&&◌, List, [], ◌∷◌, ◌++◌, length, map, refl, sym, ap, ◌∙◌, subst, arith}
-use Rattle.std.specs.Prelude.{◌^◌, ◌-◌, ◌==◌, nat_lt, slice_get, slice_index, slice_index_or, slice_set, Option, Some, None, unwrap_or, Result, Ok, Err, OnErr}
+use Rattle.std.specs.Prelude.{◌^◌, ◌-◌, nat_lt, slice_get, slice_index, slice_index_or, slice_set, Option, Some, None, unwrap_or, Result, Ok, Err, OnErr}
 use Rattle.std.specs.List.{All, AllByRecursion, sum_by}
 use Rattle.std.proofs.lemmas.List.Elements.{All-head, All-tail}
 use Rattle.std.proofs.lemmas.List.Sums.{sum_by-cons}
 use Rattle.std.proofs.lemmas.Bool.Decides.{nat_tests}
 use Rattle.lv_schema.specs.declared.forced.Forced.{Forced}
 use Rattle.lv_schema.specs.declared.open.Open.{Open}
-use Rattle.lv_schema.specs.World.{Visible, last, opened, snap, transaction}
+use Rattle.lv_schema.specs.World.{Visible, last, opened, transaction}
 use Rattle.lv_bind.specs.Reads.{IsReading}
 use Rattle.lv_plain.specs.declared.entry.Entry.{Entry}
 use Rattle.lv_plain.specs.declared.entry.Entry.TheVariants as entry

@@ -1,5 +1,5 @@
 -- Every action, and a commit, leave the rows of each table in the order of their keys.
-use Rattle.std.proofs.Common.{◌≡◌, ℕ, zero, suc, ◌+◌, Bool, true, false, cond, List, [], ◌∷◌, ◌++◌, length, map, set, get_or, filter, refl, ap, ◌∙◌, subst, arith}
+use Rattle.std.proofs.Common.{◌≡◌, ℕ, zero, suc, ◌+◌, Bool, true, false, cond, List, [], ◌∷◌, ◌++◌, length, map, set, filter, refl, ap, ◌∙◌, subst, arith}
 use Rattle.std.specs.Prelude.{not}
 use Rattle.std.specs.List.{AllByRecursion, range_with_len}
 use Rattle.std.specs.Ordering.{is_gt, ordering_reverse}
@@ -19,7 +19,7 @@ use Rattle.lv_schema.specs.declared.table.TableDef.{TableDef}
 use Rattle.lv_schema.specs.Commits.{merged, merged_table, with_rows, writes}
 use Rattle.lv_schema.specs.Databases.{Db, rows_of}
 use Rattle.lv_schema.specs.Effects.{acted, acted_all, acted_rows, same_key}
-use Rattle.lv_schema.specs.World.{Visible, last, no_table, snap, table_at}
+use Rattle.lv_schema.specs.World.{Visible, last, snap, table_at}
 use Rattle.lv_core.specs.KeyOrder.{AreInKeyOrder, IsKeyOrderedDb}
 use Rattle.lv_core.proofs.SmallLists.{all_filter, all_placed, all_weaker}
 

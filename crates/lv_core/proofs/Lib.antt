@@ -12,6 +12,8 @@ pub mod SmallRows
 pub mod SmallSteps
 pub mod KeyOrderRows
 pub mod KeySearch
+pub mod FixedKeys
+pub mod TriedRows
 pub mod PreparedOrder
 pub mod PutRows
 pub mod KeyOrderSteps

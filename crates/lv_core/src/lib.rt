@@ -9,6 +9,7 @@ mod committing;
 mod conflicts;
 mod creating;
 mod effects;
+mod fixing;
 mod ledger;
 mod lines;
 mod merging;

@@ -1,12 +1,13 @@
 //! Searches among rows that stand in the order of their keys.
-ghost use Rattle.std.specs.Prelude.{◌≡◌, ◌≤◌, length, filter, not, slice_get};
+ghost use Rattle.std.specs.Prelude.{◌≡◌, ℕ, ◌≤◌, Bool, true, List, length, filter, not, take, drop, slice_get};
 ghost use Rattle.std.specs.List.{insert};
+ghost use Rattle.lv_values.specs.declared.value.Value.{Value as AValue};
 ghost use Rattle.lv_values.specs.Ascending.{placed};
 ghost use Rattle.lv_values.specs.Rows.{key_cmp, values_at};
 ghost use Rattle.lv_schema.specs.Effects.{has_key, same_key};
 ghost use Rattle.lv_core.specs.KeyOrder.{AreInKeyOrder, IsCut, is_below, passes};
 
-use lv_values::{Row, Rows, compare_keys};
+use lv_values::{Row, Rows, compare_keys, compare_to_key};
 
 /// How many rows have a key below the row's: where the row belongs among the others. Cost: a binary search.
 pub fn place_of(key: &[u8], row: &Row, rows: &[Row]) -> usize
@@ -46,4 +47,16 @@ pub fn take_out(key: &[u8], row: &Row, rows: &mut Rows)
     while has_key_at(key, row, rows.as_slice(), at) {
         rows.remove(at);
     }
+}
+
+/// The rows with a key. Cost: two binary searches.
+pub fn rows_with_key<'a>(positions: &[u8], key: &Row, rows: &'a [Row]) -> &'a [Row]
+    requires { AreInKeyOrder positions.now rows.now }
+    ensures all { (test : List AValue → Bool) → ((row : List AValue) → test row ≡ true → values_at positions.now row ≡ key.now) → filter test result.now ≡ filter test rows.now }
+    ensures part { (first : ℕ) × (count : ℕ) × (result.now ≡ take count (drop first rows.now)) }
+{
+    let first = rows.partition_point(|row| compare_to_key(positions, row, key).is_lt());
+    let rest = &rows[first..];
+    let count = rest.partition_point(|row| compare_to_key(positions, row, key).is_le());
+    &rest[..count]
 }

@@ -1,4 +1,4 @@
-use Rattle.std.proofs.Common.{◌≡◌, ℕ, List, ◌∙◌, ap, sym, map, subst}
+use Rattle.std.proofs.Common.{ℕ, List, sym, subst}
 use Rattle.lv_core.specs.KeyOrder.{AreInKeyOrder}
 use Rattle.lv_core.proofs.OneTable.{prepared_is}
 use Rattle.lv_core.proofs.PreparedOrder.{order_read}

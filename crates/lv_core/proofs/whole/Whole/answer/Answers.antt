@@ -1,4 +1,4 @@
-use Rattle.std.proofs.Common.{◌≡◌, subst}
+use Rattle.std.proofs.Common.{subst}
 use Rattle.lv_schema.specs.Bound.{IsBound}
 use Rattle.lv_core.specs.Seen.{visible}
 use Rattle.lv_core.proofs.Answered.{may_change}
