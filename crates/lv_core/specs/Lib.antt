@@ -1,4 +1,6 @@
 pub mod Sums
+pub mod KeyOrder
+pub mod FixedKeys
 pub mod TableActions
 pub mod Stops
 pub mod Databases

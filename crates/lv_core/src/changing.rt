@@ -5,6 +5,8 @@ ghost use Rattle.lv_core.specs.Seen.{visible, IsWhole, MayChange};
 ghost use Rattle.lv_core.specs.Stops.{Meets};
 ghost use Rattle.lv_schema.specs.Databases.{rows_of};
 ghost use Rattle.lv_schema.specs.Effects.{changed_table};
+ghost use Rattle.lv_schema.specs.World.{table_at};
+ghost use Rattle.lv_core.specs.KeyOrder.{AreInKeyOrder};
 ghost use Rattle.lv_core.specs.Preparing.{GivesPrepared, with_prepared};
 ghost use Rattle.lv_core.specs.Small.{AreSmallRows};
 ghost use Rattle.lv_core.specs.Sums.{has_short_amounts};
@@ -65,6 +67,7 @@ pub fn prepare(
     requires table { changed_table change.now < length schema.now.tables }
     requires amounts { has_short_amounts change.now ≡ true }
     requires rows { AreSmallRows (rows_of transaction.now.own (changed_table change.now)) }
+    requires order { AreInKeyOrder (table_at schema.now.tables (changed_table change.now)).key (rows_of transaction.now.own (changed_table change.now)) }
     requires changes { transaction.now.changes < 2 ^ 32 - 1 }
     ensures { GivesPrepared schema.now.tables change.now transaction.now result }
 {

@@ -1,8 +1,9 @@
 //! What a commit makes of the last state: the rows that the transaction wrote are as it has them.
-ghost use Rattle.std.specs.Prelude.{◌≡◌, length, map, filter, not, ◌++◌, IfOk, OnOk};
+ghost use Rattle.std.specs.Prelude.{◌≡◌, length, map, filter, not, ◌++◌, ◌∷◌, [], IfOk, OnOk};
 ghost use Rattle.std.specs.List.{range_with_len};
 ghost use Rattle.lv_schema.specs.Databases.{rows_of};
 ghost use Rattle.lv_schema.specs.Commits.{merged_rows, with_rows};
+ghost use Rattle.lv_core.specs.KeyOrder.{AreInKeyOrder, IsKeyOrderedDb};
 ghost use Rattle.lv_core.specs.Merging.{is_written, merged_with, first_full};
 
 use crate::applying::put;
@@ -47,6 +48,24 @@ fn keep_others(
     Ok(())
 }
 
+/// Puts a row among the others, where the actions write its key.
+fn put_where_written(
+    alloc: Global,
+    actions: &[Action],
+    table: u32,
+    key: &[u8],
+    row: &Row,
+    rows: &mut Rows,
+) -> Result<(), NoMemory>
+    requires { AreInKeyOrder key.now rows.old }
+    ensures { OnOk result (rows.new ≡ with_rows key.now (filter (is_written actions.now table key.now) (row.now ∷ [])) rows.old) }
+{
+    if is_written(actions, table, key, row) {
+        return put(key, row.copy(alloc)?, rows);
+    }
+    Ok(())
+}
+
 /// Puts the rows whose keys the actions write among the others.
 fn put_own(
     alloc: Global,
@@ -56,12 +75,11 @@ fn put_own(
     own: &[Row],
     rows: &mut Rows,
 ) -> Result<(), NoMemory>
+    requires { AreInKeyOrder key.now rows.old }
     ensures { OnOk result (rows.new ≡ with_rows key.now (filter (is_written actions.now table key.now) own.now) rows.old) }
 {
     for row in own {
-        if is_written(actions, table, key, row) {
-            put(key, row.copy(alloc)?, rows)?;
-        }
+        put_where_written(alloc, actions, table, key, row, rows)?;
     }
     Ok(())
 }
@@ -76,6 +94,7 @@ fn merged_table(
     own: &[Row],
     others: &[Row],
 ) -> Result<Rows, NoMemory>
+    requires { AreInKeyOrder key.now others.now }
     ensures { IfOk result (λ rows. rows ≡ merged_rows key.now (is_written actions.now table key.now) own.now others.now) }
 {
     let mut rows = Rows::new(alloc);
@@ -92,6 +111,7 @@ pub fn merged(
     own: &Database,
     others: &Database,
 ) -> Result<Database, NoMemory>
+    requires { IsKeyOrderedDb schema.now.tables others.now }
     ensures { IfOk result (λ db. db ≡ map (merged_with schema.now.tables actions.now own.now others.now) (range_with_len 0 (length schema.now.tables))) }
 {
     let mut database = Database::new(alloc);

@@ -1,7 +1,19 @@
-use Rattle.std.proofs.Common.{◌≡◌, length, arith}
+use Rattle.std.proofs.Common.{◌≡◌, ℕ, List, length, sym, ap, ◌∙◌, subst, arith}
+use Rattle.lv_schema.specs.declared.table.TableDef.{TableDef}
+use Rattle.lv_schema.specs.World.{table_at}
+use Rattle.lv_core.specs.KeyOrder.{AreInKeyOrder}
 use Rattle.lv_core.specs.Merging.{merged_with}
+use Rattle.lv_core.proofs.KeyOrderRows.{rows_ordered}
 use Rattle.lv_core.proofs.Ranges.{map_range_more}
 use Rattle.lv_core.proofs.merging.merged.Goals as goal
+
+pub merged_table-requires : goal.merged_table-requires
+merged_table-requires c =
+    let tables = c.args.schema.now.tables in
+    let table = c.loop-table.table in
+    let key : c.as_slice-key.result.now ≡ (table_at tables table).key = c.as_slice-key.ensures ∙ ap (λ (d : TableDef). d.key) c.table.ensures in
+    subst (λ (k : List ℕ). AreInKeyOrder k c.rows_of-in-loop-table.result.now) (sym key)
+    (subst (AreInKeyOrder (table_at tables table).key) (sym c.rows_of-in-loop-table.ensures) (rows_ordered tables c.args.others.now table c.requires))
 
 pub loop-table-preserved : goal.loop-table-preserved
 loop-table-preserved c =

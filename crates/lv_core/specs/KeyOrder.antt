@@ -1,0 +1,50 @@
+-- What the snapshots and transactions keep: the rows of each table stand in the order of their keys, so that a row is
+-- found by a search. No database has rows of a table that is not made yet.
+use Rattle.std.specs.Prelude.{◌≡◌, ℕ, zero, suc, Bool, true, false, List, [], ◌∷◌, slice_index_or, Option, Some, None}
+use Rattle.std.specs.List.{AllByRecursion}
+use Rattle.std.specs.Ordering.{is_gt, is_le, is_lt}
+use Rattle.lv_values.specs.declared.value.Value.{Value}
+use Rattle.lv_values.specs.Order.{row_cmp}
+use Rattle.lv_values.specs.Rows.{key_cmp, values_at}
+use Rattle.lv_schema.specs.declared.open.Open.{Open}
+use Rattle.lv_schema.specs.declared.table.TableDef.{TableDef}
+use Rattle.lv_schema.specs.Databases.{Db}
+use Rattle.lv_schema.specs.World.{Visible}
+
+-- no row's key is above that of a later row
+abbrev pub AreInKeyOrder : List ℕ → List (List Value) → Type 0
+AreInKeyOrder key [] = Unit {0}
+AreInKeyOrder key (row ∷ rows) = AllByRecursion (λ later. is_gt (key_cmp key row later) ≡ false) rows × AreInKeyOrder key rows
+
+-- whether a row's key is below a key, and whether it is not above it
+abbrev pub is_below : List ℕ → List Value → List Value → Bool
+is_below key k row = is_lt (row_cmp (values_at key row) k)
+
+abbrev pub is_not_above : List ℕ → List Value → List Value → Bool
+is_not_above key k row = is_le (row_cmp (values_at key row) k)
+
+-- the first so many elements pass a test, and no later one does
+abbrev pub IsCut : {X : Type 0} → (X → Bool) → ℕ → List X → Type 0
+IsCut p zero xs = AllByRecursion (λ x. p x ≡ false) xs
+IsCut p (suc n) [] = ⊥
+IsCut p (suc n) (x ∷ xs) = (p x ≡ true) × IsCut p n xs
+
+-- whether an element, if there is one, passes a test
+abbrev pub passes : {X : Type 0} → (X → Bool) → Option X → Bool
+passes test None = false
+passes test (Some x) = test x
+
+-- the rows of each table, at the place of its number
+abbrev pub IsKeyOrderedDb : List TableDef → Db → Type 0
+IsKeyOrderedDb tables [] = Unit {0}
+IsKeyOrderedDb [] (rows ∷ db) = ⊥
+IsKeyOrderedDb (def ∷ tables) (rows ∷ db) = AreInKeyOrder def.key rows × IsKeyOrderedDb tables db
+
+-- those of a session's transaction, if it has one
+abbrev pub IsKeyOrderedOpen : List TableDef → Option Open → Type 0
+IsKeyOrderedOpen tables None = Unit {0}
+IsKeyOrderedOpen tables (Some o) = IsKeyOrderedDb tables o.own
+
+pub record AreKeyOrdered (s : Visible) : Type 0 where
+  pub snaps : AllByRecursion (IsKeyOrderedDb s.tables) s.snaps
+  pub opens : (session : ℕ) → IsKeyOrderedOpen s.tables (slice_index_or s.sessions session None)
