@@ -1,7 +1,7 @@
 -- Turns that are taken one after another.
 use Rattle.std.proofs.Common.{◌≡◌, ℕ, zero, suc, ◌+◌, ◌<◌, true, List, [], ◌∷◌, ◌++◌, map, length, get_or, take, drop, refl, sym, ap, ◌∙◌, subst, arith}
 use Rattle.std.specs.List.{fold}
-use Rattle.std.proofs.lemmas.List.{take_more}
+use Rattle.std.proofs.lemmas.List.Sums.{fold_more}
 use Rattle.lv_plain.specs.declared.entry.Entry.{Entry}
 use Rattle.lv_plain.specs.declared.program.Program.{Program}
 use Rattle.lv_plain.specs.Events.{Event, schedule, turn_of}
@@ -16,10 +16,6 @@ split [] i lt = absurd (omega arith)
 split (y ∷ ys) zero lt = refl
 split (y ∷ ys) (suc i) lt = ap (λ zs. y ∷ zs) (split ys i (omega arith))
 
-fold_more : (f : Places → ℕ → Places) (a : Places) (xs : List ℕ) (x : ℕ) → fold f a (xs ++ x ∷ []) ≡ f (fold f a xs) x
-fold_more f a [] x = refl
-fold_more f a (y ∷ ys) x = fold_more f (f a y) ys x
-
 pub may_next : (p q : Program) (places : Places) (turns : List ℕ) (i : ℕ) → MayFollow p turns → q ≡ p → places ≡ places_after q (take i turns) → i < length turns
     → may_turn q places (get_or turns i 0) ≡ true
 may_next p q places turns i may is at lt =
@@ -27,7 +23,7 @@ may_next p q places turns i may is at lt =
 
 pub places_next : (p : Program) (turns : List ℕ) (i : ℕ) → i < length turns
     → places_after p (take (i + 1) turns) ≡ one_more (places_after p (take i turns)) (get_or turns i 0)
-places_next p turns i lt = ap (places_after p) (take_more 0 i turns lt) ∙ fold_more one_more (first_places p) (take i turns) (get_or turns i 0)
+places_next p turns i lt = fold_more one_more (first_places p) turns i 0 lt
 
 -- each turn of a schedule may come when it comes
 pub may_follow : (p : Program) (turns : List ℕ)

@@ -1,6 +1,7 @@
 -- The text of a run is the output of its script.
-use Rattle.std.proofs.Common.{◌≡◌, ℕ, suc, ◌+◌, ◌<◌, true, List, [], ◌∷◌, map, length, refl, sym, ap, ◌∙◌, subst, arith, inl, inr}
-use Rattle.std.specs.Prelude.{Result, Ok, Err, IfOk, Option, codes, ◌⊎◌}
+use Rattle.std.proofs.Common.{◌≡◌, ℕ, suc, ◌+◌, ◌<◌, Bool, true, List, [], ◌∷◌, map, length, refl, sym, ap, ◌∙◌, subst, arith, inl, inr}
+use Rattle.std.specs.Prelude.{Result, Ok, Err, IfOk, Option, codes, nat_lt, if◌then◌else◌, ◌⊎◌}
+use Rattle.std.proofs.lemmas.Bool.Decides.{nat_tests}
 use Rattle.std.specs.Io.KnownBytes.{Consumes}
 use Rattle.std.specs.List.{AllByRecursion}
 use Rattle.std.proofs.lemmas.List.{length-map}
@@ -11,7 +12,8 @@ use Rattle.lv_lines.specs.declared.names.Names.{Names}
 use Rattle.lv_lines.specs.Entries.{FaultHasNames, HasNames, HaveNames, ReplyHasNames}
 use Rattle.lv_lines.specs.declared.script_fault.ScriptFault.TheVariants.{Bad}
 use Rattle.lv_lines.specs.declared.script_fault.ScriptFaultKind.TheVariants.{ScriptTooLong}
-use Rattle.lv_lines.specs.Script.{script_of, script_from, start as first_part, lines_of}
+use Rattle.lv_lines.specs.Script.{script_of, script_from, start as first_part}
+use Rattle.lv_lines.specs.ScriptLine.{lines_of}
 use Rattle.lv_lines.specs.Transcript.{text_of}
 use Rattle.lv_order.specs.Places.{places_after}
 use Rattle.lv_plain.specs.declared.entry.Entry.{Entry}
@@ -135,7 +137,9 @@ each_output_is (Err e) p l places answered run is followable built events said b
 -- ---- a script that is too long
 
 too_long : (bytes : List ℕ) → limit < length bytes → script_of bytes ≡ Err (Bad 0 ScriptTooLong)
-too_long bytes long = rw (long) refl
+too_long bytes long =
+    let over : nat_lt 16777216 (length bytes) ≡ true = grind (arith, nat_tests, long) in
+    ap (λ (b : Bool). if b then Err (Bad 0 ScriptTooLong) else script_from first_part 1 (lines_of bytes)) over
 
 line_of : ℕ → Status → ℕ
 line_of other (status.Script line kind) = line
