@@ -18,5 +18,6 @@ mod query;
 mod searching;
 mod stop;
 mod whole;
+mod written;
 
 pub use ledger::Ledger;
