@@ -4,7 +4,7 @@ use Rattle.std.specs.Prelude.{not}
 use Rattle.std.specs.List.{AllByRecursion, range_with_len}
 use Rattle.std.specs.Ordering.{is_gt, ordering_reverse}
 use Rattle.std.specs.Cmp.{IsTotalOrder}
-use Rattle.std.proofs.lemmas.Cmp.{on_total, upto}
+use Rattle.std.proofs.lemmas.Cmp.{on_total}
 use Rattle.std.specs.declared.cmp.Ordering.{Ordering}
 use Rattle.std.specs.declared.cmp.Ordering.TheVariants.{Less, Equal, Greater}
 use Rattle.lv_values.specs.declared.value.Value.{Value}
@@ -21,7 +21,7 @@ use Rattle.lv_schema.specs.Databases.{Db, rows_of}
 use Rattle.lv_schema.specs.Effects.{acted, acted_all, acted_rows, same_key}
 use Rattle.lv_schema.specs.World.{Visible, last, snap, table_at}
 use Rattle.lv_core.specs.KeyOrder.{AreInKeyOrder, IsKeyOrderedDb}
-use Rattle.lv_core.proofs.SmallLists.{all_filter, all_placed, all_weaker}
+use Rattle.lv_core.proofs.Orders.{filter_in_order, placed_in_order}
 
 pub key_total : (key : List ℕ) → IsTotalOrder (key_cmp key)
 key_total key = on_total (values_at key) row_total
@@ -31,33 +31,11 @@ key_total key = on_total (values_at key) row_total
 abbrev pub UpTo : List ℕ → List Value → List Value → Type 0
 UpTo key a b = is_gt (key_cmp key a b) ≡ false
 
-above_turned : (o : Ordering) → is_gt o ≡ true → is_gt (ordering_reverse o) ≡ false
-above_turned Less h = cc
-above_turned Equal h = refl
-above_turned Greater h = refl
-
-pub not_above : (key : List ℕ) (a b : List Value) → is_gt (key_cmp key a b) ≡ true → UpTo key b a
-not_above key a b h = ap is_gt ((key_total key).antisymm b a) ∙ above_turned (key_cmp key a b) h
-
--- a row below the first one is below all
-pub below_all : (key : List ℕ) (row first : List Value) (rows : List (List Value)) → UpTo key row first → AllByRecursion (UpTo key first) rows → AllByRecursion (UpTo key row) rows
-below_all key row first rows h all = all_weaker (UpTo key first) (UpTo key row) (λ later g. upto (key_total key) row first later h g) rows all
-
 pub placed_ordered : (key : List ℕ) (row : List Value) (rows : List (List Value)) → AreInKeyOrder key rows → AreInKeyOrder key (placed (key_cmp key) row rows)
-placed_ordered key row [] h = (tt, tt)
-placed_ordered key row (r ∷ rows) h = by (is_gt (key_cmp key row r)) refl (placed_ordered key row rows h.1)
-  where
-    by : (b : Bool) → is_gt (key_cmp key row r) ≡ b → AreInKeyOrder key (placed (key_cmp key) row rows) → AreInKeyOrder key (cond b (r ∷ placed (key_cmp key) row rows) (row ∷ r ∷ rows))
-    by true e more = (all_placed (key_cmp key) (UpTo key r) row rows (not_above key row r e) h.0, more)
-    by false e more = ((e, below_all key row r rows e h.0), h)
+placed_ordered key row rows h = placed_in_order (key_cmp key) (key_total key) row rows h
 
 pub filter_ordered : (key : List ℕ) (p : List Value → Bool) (rows : List (List Value)) → AreInKeyOrder key rows → AreInKeyOrder key (filter p rows)
-filter_ordered key p [] h = tt
-filter_ordered key p (r ∷ rows) h = by (p r) (filter_ordered key p rows h.1)
-  where
-    by : (b : Bool) → AreInKeyOrder key (filter p rows) → AreInKeyOrder key (cond b (r ∷ filter p rows) (filter p rows))
-    by true more = (all_filter (UpTo key r) p rows h.0, more)
-    by false more = more
+filter_ordered key p rows h = filter_in_order (key_cmp key) (key_total key) p rows h
 
 pub acted_rows_ordered : (key : List ℕ) (k : ActionKind) (row : List Value) (rows : List (List Value)) → AreInKeyOrder key rows → AreInKeyOrder key (acted_rows key k row rows)
 acted_rows_ordered key (kind.Insert) row rows h = placed_ordered key row rows h
@@ -117,5 +95,5 @@ merged_table_ordered s o others table =
 pub merged_ordered : (s : Visible) (o : Open) → IsKeyOrderedDb s.tables (snap s (last s)) → IsKeyOrderedDb s.tables (merged s o)
 merged_ordered s o others =
     made_ordered s.tables (merged_table s o) 0 (λ table at e.
-      let same : table ≡ at = omega (arith, e) in
-      subst (λ n. AreInKeyOrder (table_at s.tables table).key (merged_table s o n)) same (merged_table_ordered s o others table))
+    let same : table ≡ at = omega (arith, e) in
+    subst (λ n. AreInKeyOrder (table_at s.tables table).key (merged_table s o n)) same (merged_table_ordered s o others table))

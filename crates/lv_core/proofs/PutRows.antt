@@ -1,5 +1,5 @@
 -- Rows that are put among others one by one.
-use Rattle.std.proofs.Common.{◌≡◌, ℕ, ◌+◌, ◌<◌, Bool, true, false, cond, List, [], ◌∷◌, length, drop, get_or, filter, refl, sym, ap, ◌∙◌}
+use Rattle.std.proofs.Common.{◌≡◌, ℕ, ◌+◌, ◌<◌, Bool, true, false, cond, List, [], ◌∷◌, ◌++◌, length, drop, get_or, filter, refl, sym, ap, ◌∙◌}
 use Rattle.std.proofs.lemmas.List.{drop_more}
 use Rattle.lv_values.specs.declared.value.Value.{Value}
 use Rattle.lv_schema.specs.Commits.{with_rows}
@@ -9,6 +9,13 @@ one_first : (key : List ℕ) (p : List Value → Bool) (x : List Value) (xs rows
 one_first key p x xs rows = by (p x)
   where
     by : (b : Bool) → with_rows key (cond b (x ∷ filter p xs) (filter p xs)) rows ≡ with_rows key (filter p xs) (with_rows key (cond b (x ∷ []) []) rows)
+    by true = refl
+    by false = refl
+
+pub filter_split : {X : Type 0} (p : X → Bool) (x : X) (xs : List X) → filter p (x ∷ xs) ≡ filter p (x ∷ []) ++ filter p xs
+filter_split p x xs = by (p x)
+  where
+    by : (b : Bool) → cond b (x ∷ filter p xs) (filter p xs) ≡ cond b (x ∷ []) [] ++ filter p xs
     by true = refl
     by false = refl
 

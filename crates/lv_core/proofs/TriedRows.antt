@@ -28,7 +28,7 @@ pub update_tried : (def : TableDef) (change : Change) (table : ℕ) (sets seen :
     → GivesEffect r (effect_on def change rows)
 update_tried def change table sets seen c tried rows r is same all given =
     subst (GivesEffect r) (
-      ap (λ s. effect_on def (Update table s c) tried) same ∙ ap (update_of table sets) all ∙ ap (λ ch. effect_on def ch rows) (sym is)
+    ap (λ s. effect_on def (Update table s c) tried) same ∙ ap (update_of table sets) all ∙ ap (λ ch. effect_on def ch rows) (sym is)
     ) given
 
 pub delete_tried : (def : TableDef) (change : Change) (table : ℕ) (c : Cond) (tried rows : List (List Value)) (r : Result (ℕ × List Action) Stop)

@@ -3,6 +3,7 @@
 use Rattle.std.specs.Prelude.{◌≡◌, ℕ, zero, suc, Bool, true, false, List, [], ◌∷◌, slice_index_or, Option, Some, None}
 use Rattle.std.specs.List.{AllByRecursion}
 use Rattle.std.specs.Ordering.{is_gt, is_le, is_lt}
+use Rattle.std.specs.declared.cmp.Ordering.{Ordering}
 use Rattle.lv_values.specs.declared.value.Value.{Value}
 use Rattle.lv_values.specs.Order.{row_cmp}
 use Rattle.lv_values.specs.Rows.{key_cmp, values_at}
@@ -11,10 +12,14 @@ use Rattle.lv_schema.specs.declared.table.TableDef.{TableDef}
 use Rattle.lv_schema.specs.Databases.{Db}
 use Rattle.lv_schema.specs.World.{Visible}
 
+-- no element is above a later one
+abbrev pub AreInOrder : {X : Type 0} → (X → X → Ordering) → List X → Type 0
+AreInOrder R [] = Unit {0}
+AreInOrder R (x ∷ xs) = AllByRecursion (λ later. is_gt (R x later) ≡ false) xs × AreInOrder R xs
+
 -- no row's key is above that of a later row
 abbrev pub AreInKeyOrder : List ℕ → List (List Value) → Type 0
-AreInKeyOrder key [] = Unit {0}
-AreInKeyOrder key (row ∷ rows) = AllByRecursion (λ later. is_gt (key_cmp key row later) ≡ false) rows × AreInKeyOrder key rows
+AreInKeyOrder key rows = AreInOrder (key_cmp key) rows
 
 -- whether a row's key is below a key, and whether it is not above it
 abbrev pub is_below : List ℕ → List Value → List Value → Bool

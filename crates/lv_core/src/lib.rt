@@ -19,5 +19,6 @@ mod query;
 mod searching;
 mod stop;
 mod whole;
+mod written;
 
 pub use machine::Core;

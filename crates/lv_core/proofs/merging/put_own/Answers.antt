@@ -1,6 +1,6 @@
 use Rattle.std.proofs.Common.{◌∷◌, [], filter, sym, subst}
 use Rattle.lv_core.specs.KeyOrder.{AreInKeyOrder}
-use Rattle.lv_core.specs.Merging.{is_written}
+use Rattle.lv_core.specs.Merging.{has_place}
 use Rattle.lv_core.proofs.KeyOrderRows.{with_rows_ordered}
 use Rattle.lv_core.proofs.PutRows.{put_more}
 use Rattle.lv_core.proofs.merging.put_own.Goals as goal
@@ -8,7 +8,7 @@ use Rattle.lv_core.proofs.merging.put_own.Goals as goal
 pub loop-row-preserved : goal.loop-row-preserved
 loop-row-preserved c =
     let key = c.args.key.now in
-    let p = is_written c.args.actions.now c.args.table key in
+    let p = has_place c.args.places.now c.args.table key in
     let row = c.row-item.result in
     let put = c.in_ok-put_where_written.ensures in
     record {
