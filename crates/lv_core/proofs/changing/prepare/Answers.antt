@@ -15,8 +15,8 @@ effect-requires-clause-order c =
     order_read c.args.schema.now.tables c.args.change.now c.args.transaction.now c.table_of-table.result c.table-def.result.now c.rows_of-rows.result.now
     c.table_of-table.ensures c.table-def.ensures c.rows_of-rows.ensures c.requires.order
 
-pub after_actions-requires : goal.after_actions-requires
-after_actions-requires c =
+pub changed_rows-requires : goal.changed_rows-requires
+changed_rows-requires c =
     subst (λ (key : List ℕ). AreInKeyOrder key c.rows_of-rows.result.now) (sym c.as_slice.ensures)
     (order_read c.args.schema.now.tables c.args.change.now c.args.transaction.now c.table_of-table.result c.table-def.result.now c.rows_of-rows.result.now
     c.table_of-table.ensures c.table-def.ensures c.rows_of-rows.ensures c.requires.order)
@@ -26,4 +26,4 @@ returns c =
     prepared_is c.args.schema.now.tables c.args.change.now c.args.transaction.now c.table_of-table.result c.table-def.result.now c.rows_of-rows.result.now
     c.in_ok-rows.rows c.in_ok-count.count c.in_ok-count.actions c.edit_each.new.self
     c.table_of-table.ensures c.table-def.ensures c.rows_of-rows.ensures c.in_ok-count.ensures
-    (cc (c.in_ok-rows.ensures, c.as_slice.ensures, c.as_slice-2.ensures)) c.edit_each.ensures
+    (rw (c.as_slice.ensures, c.as_slice-2.ensures) at c.in_ok-rows.ensures) c.edit_each.ensures
