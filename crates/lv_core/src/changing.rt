@@ -56,8 +56,8 @@ pub struct Prepared {
     actions: Actions,
 }
 
-/// What a change makes of a transaction, or why it is refused. Nothing is changed yet. Cost: as the change's effect, and
-/// a copy of the table.
+/// What a change makes of a transaction, or why it is refused. Nothing is changed yet. Cost: as the change's effect, a
+/// copy of the table, and for each action a binary search and a move of the rows behind.
 pub fn prepare(
     alloc: Global,
     schema: &Schema,
