@@ -1,5 +1,5 @@
 -- What the snapshots and transactions keep: the rows of each table stand in the order of their keys, so that a row is
--- found by a search. No database has rows of a table that is not made yet.
+-- found by a binary search. No database has a table beyond those that are made.
 use Rattle.std.specs.Prelude.{◌≡◌, ℕ, zero, suc, Bool, true, false, List, [], ◌∷◌, slice_index_or, Option, Some, None}
 use Rattle.std.specs.List.{AllByRecursion}
 use Rattle.std.specs.Ordering.{is_gt, is_le, is_lt}

@@ -75,8 +75,8 @@ fn changed_rows(
     Ok(Some(after_actions(alloc, key, actions, rows)?))
 }
 
-/// What a change makes of a transaction, or why it is refused. Nothing is changed yet. Cost: as the change's effect, and
-/// a copy of the table where a row changes.
+/// What a change makes of a transaction, or why it is refused. Nothing is changed yet. Cost: as the change's effect; and
+/// where there is an action a copy of the table, and for each action a binary search and a move of the rows behind.
 pub fn prepare(
     alloc: Global,
     schema: &Schema,

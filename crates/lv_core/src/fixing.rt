@@ -46,6 +46,7 @@ fn compared_with<'a>(column: u8, left: &'a Operand, right: &'a Operand) -> Optio
     }
 }
 
+/// The literal that a column has in every row that all parts keep, where one of them says so.
 #[cycle(fixed)]
 fn fixed_by_parts(column: u8, parts: &[Cond]) -> Option<&Operand>
     ensures { MatchOption result (Unit {0}) (λ literal. PartsFix column parts.now (literal_value literal.now)) }
@@ -100,8 +101,8 @@ fn fixed_key(alloc: Global, positions: &[u8], cond: &Cond) -> Result<Option<Row>
     Ok(Some(key))
 }
 
-/// The rows to try: those with the key that the condition fixes, or all where it fixes none.
-/// Cost: two binary searches.
+/// The rows to try: those with the key that the condition fixes, or all where it fixes none. Cost: that of finding the
+/// key in the condition, and two binary searches.
 pub fn rows_to_try<'a>(
     alloc: Global,
     positions: &[u8],
