@@ -1,5 +1,5 @@
 -- A search among the places that actions write, in their order, tells whether the actions write a row's key.
-use Rattle.std.proofs.Common.{◌≡◌, ℕ, ◌==◌, ◌<◌, ◌≤◌, Bool, true, false, ◌&&◌, cond, List, [], ◌∷◌, length, map, Ok, Err, Result, refl, sym, ap, ◌∙◌, subst, inl, inr, arith}
+use Rattle.std.proofs.Common.{◌≡◌, ℕ, ◌==◌, Bool, true, false, ◌&&◌, cond, List, [], ◌∷◌, length, map, Ok, Err, Result, refl, sym, ap, ◌∙◌, subst, inl, inr, arith}
 use Rattle.std.specs.Prelude.{◌||◌, is_ok}
 use Rattle.std.specs.List.{list_any}
 use Rattle.std.specs.List.Sorted.{IsBinarySearchResult, IsNonDecreasingBy, IsSearchInRange}
@@ -20,7 +20,7 @@ use Rattle.lv_values.specs.Rows.{values_at}
 use Rattle.lv_schema.specs.declared.action.Action.{Action}
 use Rattle.lv_schema.specs.declared.table.TableDef.{TableDef}
 use Rattle.lv_schema.specs.Databases.{Db, rows_of}
-use Rattle.lv_schema.specs.Commits.{Place, merged_rows, place_cmp, same_place, writes, written_place}
+use Rattle.lv_schema.specs.Commits.{Place, merged_rows, place_cmp, same_place, written_place}
 use Rattle.lv_schema.specs.World.{table_at}
 use Rattle.lv_core.specs.KeyOrder.{AreInOrder}
 use Rattle.lv_core.specs.Merging.{has_place, is_written, merged_with}

@@ -56,8 +56,8 @@ pub struct Prepared {
     actions: Actions,
 }
 
-/// What a change makes of a transaction, or why it is refused. Nothing is changed yet. Cost: as the change's effect, and
-/// a copy of the table.
+/// What a change makes of a transaction, or why it is refused. Nothing is changed yet. Cost: as the change's effect, a
+/// copy of the table, and for each action a binary search and a move of the rows behind.
 pub fn prepare(
     alloc: Global,
     schema: &Schema,
@@ -67,7 +67,8 @@ pub fn prepare(
     requires table { changed_table change.now < length schema.now.tables }
     requires amounts { has_short_amounts change.now ≡ true }
     requires rows { AreSmallRows (rows_of transaction.now.own (changed_table change.now)) }
-    requires order { AreInKeyOrder (table_at schema.now.tables (changed_table change.now)).key (rows_of transaction.now.own (changed_table change.now)) }
+    requires order { AreInKeyOrder (table_at schema.now.tables (changed_table change.now)).key
+        (rows_of transaction.now.own (changed_table change.now)) }
     requires changes { transaction.now.changes < 2 ^ 32 - 1 }
     ensures { GivesPrepared schema.now.tables change.now transaction.now result }
 {

@@ -1,12 +1,12 @@
 //! Conditions that fix a table's key.
-ghost use Rattle.std.specs.Prelude.{◌≡◌, ℕ, ◌∷◌, [], true, List, IfOk, MatchOption, filter, take, drop};
+ghost use Rattle.std.specs.Prelude.{◌≡◌, ◌∷◌, [], true, List, IfOk, MatchOption};
 ghost use Rattle.lv_values.specs.declared.value.Value.{Value as AValue};
 ghost use Rattle.lv_values.specs.Rows.{value_in};
 ghost use Rattle.lv_schema.specs.Effects.{matching};
 ghost use Rattle.lv_schema.specs.Truth.{operand_value};
 ghost use Rattle.lv_schema.specs.Tuples.{Tuple};
 ghost use Rattle.lv_core.specs.FixedKeys.{Fixes, PartsFix, SidesFix, FixesKey, literal_value};
-ghost use Rattle.lv_core.specs.KeyOrder.{AreInKeyOrder};
+ghost use Rattle.lv_core.specs.KeyOrder.{AreInKeyOrder, IsPart};
 
 use crate::searching::rows_with_key;
 use lv_schema::{Cond, Op, Operand};
@@ -35,7 +35,7 @@ fn is_literal(operand: &Operand) -> bool
 
 /// The literal that a column is compared with, on either side.
 fn compared_with<'a>(column: u8, left: &'a Operand, right: &'a Operand) -> Option<&'a Operand>
-    ensures { MatchOption result (Unit {0}) (λ literal. SidesFix column left.now right.now (literal_value literal.now)) }
+    ensures { MatchOption result (Unit {0}) (λ it. SidesFix column left.now right.now (literal_value it.now)) }
 {
     if is_column(left, column) && is_literal(right) {
         Some(right)
@@ -46,9 +46,10 @@ fn compared_with<'a>(column: u8, left: &'a Operand, right: &'a Operand) -> Optio
     }
 }
 
+/// The literal that a column has in every row that all parts keep, where one of them says so.
 #[cycle(fixed)]
 fn fixed_by_parts(column: u8, parts: &[Cond]) -> Option<&Operand>
-    ensures { MatchOption result (Unit {0}) (λ literal. PartsFix column parts.now (literal_value literal.now)) }
+    ensures { MatchOption result (Unit {0}) (λ it. PartsFix column parts.now (literal_value it.now)) }
 {
     for part in parts {
         if let Some(literal) = fixed_by(column, part) {
@@ -61,7 +62,7 @@ fn fixed_by_parts(column: u8, parts: &[Cond]) -> Option<&Operand>
 /// The literal that a column has in every row that the condition keeps, where one of the parts that all hold says so.
 #[cycle(fixed)]
 fn fixed_by(column: u8, cond: &Cond) -> Option<&Operand>
-    ensures { MatchOption result (Unit {0}) (λ literal. Fixes column cond.now (literal_value literal.now)) }
+    ensures { MatchOption result (Unit {0}) (λ it. Fixes column cond.now (literal_value it.now)) }
 {
     match cond {
         Cond::Cmp {
@@ -100,8 +101,8 @@ fn fixed_key(alloc: Global, positions: &[u8], cond: &Cond) -> Result<Option<Row>
     Ok(Some(key))
 }
 
-/// The rows to try: those with the key that the condition fixes, or all where it fixes none.
-/// Cost: two binary searches.
+/// The rows to try: those with the key that the condition fixes, or all where it fixes none. Cost: that of finding the
+/// key in the condition, and two binary searches.
 pub fn rows_to_try<'a>(
     alloc: Global,
     positions: &[u8],
@@ -110,7 +111,7 @@ pub fn rows_to_try<'a>(
 ) -> Result<&'a [Row], NoMemory>
     requires { AreInKeyOrder positions.now rows.now }
     ensures all { IfOk result (λ tried. matching cond.now tried.now ≡ matching cond.now rows.now) }
-    ensures part { IfOk result (λ tried. (first : ℕ) × (count : ℕ) × (tried.now ≡ take count (drop first rows.now))) }
+    ensures part { IfOk result (λ tried. IsPart tried.now rows.now) }
 {
     match fixed_key(alloc, positions, cond)? {
         Some(key) => Ok(rows_with_key(positions, &key, rows)),
