@@ -4,6 +4,7 @@ ghost use Rattle.std.specs.List.{insert};
 ghost use Rattle.lv_values.specs.Ascending.{placed};
 ghost use Rattle.lv_values.specs.Rows.{key_cmp, values_at};
 ghost use Rattle.lv_schema.specs.Effects.{has_key, same_key};
+ghost use Rattle.lv_core.specs.FixedKeys.{HaveKey};
 ghost use Rattle.lv_core.specs.KeyOrder.{AreInKeyOrder, HasAllWithKey, IsCut, IsPart, is_below, passes};
 
 use lv_values::{Row, Rows, compare_keys, compare_to_key};
@@ -52,6 +53,7 @@ pub fn take_out(key: &[u8], row: &Row, rows: &mut Rows)
 pub fn rows_with_key<'a>(positions: &[u8], key: &Row, rows: &'a [Row]) -> &'a [Row]
     requires { AreInKeyOrder positions.now rows.now }
     ensures all { HasAllWithKey positions.now key.now result.now rows.now }
+    ensures only { HaveKey positions.now key.now result.now }
     ensures part { IsPart result.now rows.now }
 {
     let first = rows.partition_point(|row| compare_to_key(positions, row, key).is_lt());
