@@ -1,8 +1,8 @@
 -- A condition fixes what one of its parts fixes, where all of them have to hold.
 use Rattle.std.proofs.Common.{◌≡◌, ℕ, ◌<◌, zero, suc, Bool, true, false, cond, ◌&&◌, List, [], ◌∷◌, length, map, get_or, refl, sym, ap, ◌∙◌, subst, arith}
-use Rattle.std.specs.Prelude.{MatchOption, Option, Some, None}
+use Rattle.std.specs.Prelude.{◌||◌, MatchOption, Option, Some, None}
 use denote.Ref.{Bor}
-use Rattle.std.specs.List.{list_all}
+use Rattle.std.specs.List.{list_all, list_any}
 use Rattle.std.specs.Ordering.{is_eq}
 use Rattle.std.specs.declared.cmp.Ordering.{Ordering}
 use Rattle.std.specs.declared.cmp.Ordering.TheVariants.{Less, Equal, Greater}
@@ -11,7 +11,9 @@ use Rattle.lv_values.specs.Order.{value_cmp, value_eq}
 use Rattle.lv_values.specs.OrderLaws.{value_exact}
 use Rattle.lv_values.specs.Rows.{value_in}
 use Rattle.lv_schema.specs.declared.cond.Cond.{Cond}
-use Rattle.lv_schema.specs.declared.cond.Cond.TheVariants.{And, Cmp}
+use Rattle.lv_schema.specs.declared.cond.Cond.TheVariants.{And, Cmp, rolls-And}
+use Rattle.lv_schema.specs.declared.cond.Cond.TheOpen.{Cond-F}
+use Rattle.lv_schema.specs.declared.cond.Cond.TheFolds.{fold-roll-Cond}
 use Rattle.lv_schema.specs.declared.cond.Op.TheVariants.{Eq}
 use Rattle.lv_schema.specs.declared.cond.Operand.{Operand}
 use Rattle.lv_schema.specs.declared.logic.Truth.{Truth}
@@ -19,7 +21,7 @@ use Rattle.lv_schema.specs.declared.logic.Truth.TheVariants.{No, Unknown, Yes}
 use Rattle.lv_schema.specs.Truth.{all_of, both, holds, is_yes, operand_value, truth}
 use Rattle.lv_schema.specs.Tuples.{Tuple}
 use Rattle.lv_schema.proofs.TruthLaws.{truth-And, truth-Cmp}
-use Rattle.lv_core.specs.FixedKeys.{Fixes, PartsFix, SidesFix, literal_value}
+use Rattle.lv_core.specs.FixedKeys.{Fixes, PartsFix, SidesFix, literal_value, says_column, says_step}
 use Rattle.lv_core.proofs.SmallLists.{both_hold}
 
 -- ---- a comparison
@@ -79,3 +81,11 @@ all_parts_fix column seen parts cond None same is h = tt
 all_parts_fix column seen parts cond (Some literal) same is h =
     subst (λ c. Fixes column c (literal_value literal.now)) (sym is)
     (parts_fix column parts (literal_value literal.now) (subst (λ ps. PartsFix column ps (literal_value literal.now)) same h))
+
+-- ---- what a condition says
+any_said : (column : ℕ) (parts : List Cond) → list_any (λ b. b) (map (λ c. says_column c column) parts) ≡ list_any (λ part. says_column part column) parts
+any_said column [] = refl
+any_said column (part ∷ parts) = ap (λ b. says_column part column || b) (any_said column parts)
+
+pub says-And : (column : ℕ) (parts : List Cond) → says_column (And parts) column ≡ list_any (λ part. says_column part column) parts
+says-And column parts = ap (λ c. says_column c column) (sym (rolls-And parts)) ∙ fold-roll-Cond Bool (says_step column) (Cond-F.And parts) ∙ any_said column parts

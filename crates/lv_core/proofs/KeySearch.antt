@@ -12,10 +12,12 @@ use Rattle.std.specs.declared.cmp.Ordering.TheVariants.{Less, Equal, Greater}
 use Rattle.lv_values.specs.declared.value.Value.{Value}
 use Rattle.lv_values.specs.Ascending.{placed}
 use Rattle.lv_values.specs.Order.{row_cmp}
-use Rattle.lv_values.specs.OrderLaws.{row_total}
+use Rattle.lv_values.specs.OrderLaws.{row_exact, row_total}
 use Rattle.lv_values.specs.Rows.{key_cmp, values_at}
 use Rattle.lv_schema.specs.Effects.{has_key, same_key}
+use Rattle.lv_core.specs.FixedKeys.{HaveKey}
 use Rattle.lv_core.specs.KeyOrder.{AreInKeyOrder, IsCut, is_below, is_not_above, passes}
+use Rattle.lv_core.proofs.SmallLists.{all_weaker}
 use Rattle.lv_core.proofs.KeyOrderRows.{UpTo, key_total}
 
 -- ---- orders
@@ -254,3 +256,26 @@ range_all key k rows first count below up_to test fixed =
         by : (t : Bool) → test row ≡ t → t ≡ false
         by false h = refl
         by true h = absurd (differ c (sym e ∙ differs (fixed row h)))
+
+-- and they alone
+back_all : {X : Type 0} (p : X → Bool) (xs : List X) (n : ℕ) → IsCut p n xs → AllByRecursion (λ x. p x ≡ false) (drop n xs)
+back_all p xs zero h = h
+back_all p [] (suc n) h = absurd h
+back_all p (x ∷ xs) (suc n) h = back_all p xs n h.1
+
+front_both : {X : Type 0} (p q : X → Bool) (xs : List X) (n : ℕ) → IsCut p n xs → AllByRecursion (λ x. q x ≡ false) xs → AllByRecursion (λ x. (p x ≡ true) × (q x ≡ false)) (take n xs)
+front_both p q xs zero h a = tt
+front_both p q [] (suc n) h a = absurd h
+front_both p q (x ∷ xs) (suc n) h a = ((h.0, a.0), front_both p q xs n h.1 a.1)
+
+ties_of : (o : Ordering) → is_le o ≡ true → is_lt o ≡ false → o ≡ Equal
+ties_of Less h k = cc
+ties_of Equal h k = refl
+ties_of Greater h k = cc
+
+pub range_only : (key : List ℕ) (k : List Value) (rows : List (List Value)) (first count : ℕ) → IsCut (is_below key k) first rows → IsCut (is_not_above key k) count (drop first rows)
+    → HaveKey key k (take count (drop first rows))
+range_only key k rows first count below up_to =
+    all_weaker (λ row. (is_not_above key k row ≡ true) × (is_below key k row ≡ false)) (λ row. values_at key row ≡ k)
+    (λ row h. row_exact (values_at key row) k (ties_of (row_cmp (values_at key row) k) h.0 h.1)) (take count (drop first rows))
+    (front_both (is_not_above key k) (is_below key k) (drop first rows) count up_to (back_all (is_below key k) rows first below))

@@ -1,6 +1,6 @@
 -- What the snapshots and transactions keep: the rows of each table stand in the order of their keys, so that a row is
 -- found by a binary search. No database has a table beyond those that are made.
-use Rattle.std.specs.Prelude.{◌≡◌, ℕ, zero, suc, Bool, true, false, List, [], ◌∷◌, slice_index_or, Option, Some, None}
+use Rattle.std.specs.Prelude.{◌≡◌, ℕ, zero, suc, Bool, true, false, List, [], ◌∷◌, drop, filter, slice_index_or, take, Option, Some, None}
 use Rattle.std.specs.List.{AllByRecursion}
 use Rattle.std.specs.Ordering.{is_gt, is_le, is_lt}
 use Rattle.std.specs.declared.cmp.Ordering.{Ordering}
@@ -33,6 +33,14 @@ abbrev pub IsCut : {X : Type 0} → (X → Bool) → ℕ → List X → Type 0
 IsCut p zero xs = AllByRecursion (λ x. p x ≡ false) xs
 IsCut p (suc n) [] = ⊥
 IsCut p (suc n) (x ∷ xs) = (p x ≡ true) × IsCut p n xs
+
+-- elements that stand one behind the other in a list
+abbrev pub IsPart : {X : Type 0} → List X → List X → Type 0
+IsPart part xs = (first : ℕ) × (count : ℕ) × (part ≡ take count (drop first xs))
+
+-- the part has every row of the list with the key: a test that no other row passes keeps the same of both
+abbrev pub HasAllWithKey : List ℕ → List Value → List (List Value) → List (List Value) → Type 0
+HasAllWithKey positions key part rows = (test : List Value → Bool) → ((row : List Value) → test row ≡ true → values_at positions row ≡ key) → filter test part ≡ filter test rows
 
 -- whether an element, if there is one, passes a test
 abbrev pub passes : {X : Type 0} → (X → Bool) → Option X → Bool

@@ -22,8 +22,8 @@ pub fn put(key: &[u8], row: Row, rows: &mut Rows) -> Result<(), NoMemory>
     rows.insert(at, row)
 }
 
-/// Does an action: an inserted row is put at its place, a deleted row goes. Cost: a binary search, and a move of the rows
-/// behind.
+/// Does an action: an inserted row is put at its place, a deleted row goes. Cost: a binary search, and a move of the
+/// rows behind.
 fn act(alloc: Global, key: &[u8], action: &Action, rows: &mut Rows) -> Result<(), NoMemory>
     requires { AreInKeyOrder key.now rows.old }
     ensures { OnOk result (rows.new ≡ acted_rows key.now action.now.kind action.now.row rows.old) }

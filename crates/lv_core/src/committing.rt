@@ -41,9 +41,9 @@ impl Whole {
         )
     }
 
-    /// The last state, with each key that the transaction wrote as the transaction has it. Cost: a copy of that state, a
-    /// binary search for each row among the places that the actions write, and a move of the rows behind each row that
-    /// they write.
+    /// The last state, with each key that the transaction wrote as the transaction has it. Cost: a copy of that state,
+    /// a binary search for each row among the places that the actions write, and a move of the rows behind each row
+    /// that they write.
     fn merged_of(&self, alloc: Global, transaction: &Open) -> Result<Database, NoMemory>
         requires whole { IsWhole self.now }
         requires ordered { AreKeyOrdered (visible self.now) }

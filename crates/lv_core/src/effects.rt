@@ -347,8 +347,8 @@ fn delete_effect(
 
 /// What a change does to a table with these rows: the number of rows that it inserts, updates or deletes, and its
 /// actions, not numbered yet. Refused with a number out of range, a duplicate key or a full table, in this order.
-/// Cost: an UPDATE or DELETE whose condition fixes every key column finds its rows by a binary search; another one tries
-/// every row. An INSERT searches the table for each of its rows, and passes over its rows before that one.
+/// Cost: an UPDATE or DELETE whose condition fixes every key column finds its rows by a binary search; another one
+/// tries every row. An INSERT searches the table for each of its rows, and passes over its rows before that one.
 pub fn effect(
     alloc: Global,
     def: &TableDef,

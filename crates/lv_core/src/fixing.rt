@@ -1,12 +1,13 @@
 //! Conditions that fix a table's key.
-ghost use Rattle.std.specs.Prelude.{◌≡◌, ℕ, ◌∷◌, [], true, List, IfOk, MatchOption, filter, take, drop};
+ghost use Rattle.std.specs.Prelude.{◌≡◌, ◌∷◌, [], true, List, IfOk, MatchOption, is_some};
+ghost use Rattle.std.specs.List.{list_any};
 ghost use Rattle.lv_values.specs.declared.value.Value.{Value as AValue};
 ghost use Rattle.lv_values.specs.Rows.{value_in};
 ghost use Rattle.lv_schema.specs.Effects.{matching};
 ghost use Rattle.lv_schema.specs.Truth.{operand_value};
 ghost use Rattle.lv_schema.specs.Tuples.{Tuple};
-ghost use Rattle.lv_core.specs.FixedKeys.{Fixes, PartsFix, SidesFix, FixesKey, literal_value};
-ghost use Rattle.lv_core.specs.KeyOrder.{AreInKeyOrder};
+ghost use Rattle.lv_core.specs.FixedKeys.{Fixes, FixesKey, HaveOneKey, PartsFix, SidesFix, compares, is_column, is_literal, literal_value, says_column, says_key};
+ghost use Rattle.lv_core.specs.KeyOrder.{AreInKeyOrder, IsPart};
 
 use crate::searching::rows_with_key;
 use lv_schema::{Cond, Op, Operand};
@@ -15,7 +16,8 @@ use std::alloc::Global;
 
 /// Whether an operand is this column of the table.
 fn is_column(operand: &Operand, column: u8) -> bool
-    ensures { result ≡ true → (row : List AValue) → operand_value (row ∷ []) operand.now ≡ value_in row column }
+    ensures is { result ≡ is_column column operand.now }
+    ensures value { result ≡ true → (row : List AValue) → operand_value (row ∷ []) operand.now ≡ value_in row column }
 {
     match operand {
         Operand::Column(col) => col.alias == 0 && col.column == column,
@@ -25,7 +27,8 @@ fn is_column(operand: &Operand, column: u8) -> bool
 
 /// Whether an operand is a literal.
 fn is_literal(operand: &Operand) -> bool
-    ensures { result ≡ true → (tuple : Tuple) → operand_value tuple operand.now ≡ literal_value operand.now }
+    ensures is { result ≡ is_literal operand.now }
+    ensures value { result ≡ true → (tuple : Tuple) → operand_value tuple operand.now ≡ literal_value operand.now }
 {
     match operand {
         Operand::Column(_) => false,
@@ -35,7 +38,8 @@ fn is_literal(operand: &Operand) -> bool
 
 /// The literal that a column is compared with, on either side.
 fn compared_with<'a>(column: u8, left: &'a Operand, right: &'a Operand) -> Option<&'a Operand>
-    ensures { MatchOption result (Unit {0}) (λ literal. SidesFix column left.now right.now (literal_value literal.now)) }
+    ensures found { is_some result ≡ compares column left.now right.now }
+    ensures fixes { MatchOption result (Unit {0}) (λ it. SidesFix column left.now right.now (literal_value it.now)) }
 {
     if is_column(left, column) && is_literal(right) {
         Some(right)
@@ -49,7 +53,8 @@ fn compared_with<'a>(column: u8, left: &'a Operand, right: &'a Operand) -> Optio
 /// The literal that a column has in every row that all parts keep, where one of them says so.
 #[cycle(fixed)]
 fn fixed_by_parts(column: u8, parts: &[Cond]) -> Option<&Operand>
-    ensures { MatchOption result (Unit {0}) (λ literal. PartsFix column parts.now (literal_value literal.now)) }
+    ensures found { is_some result ≡ list_any (λ part. says_column part column) parts.now }
+    ensures fixes { MatchOption result (Unit {0}) (λ it. PartsFix column parts.now (literal_value it.now)) }
 {
     for part in parts {
         if let Some(literal) = fixed_by(column, part) {
@@ -62,7 +67,8 @@ fn fixed_by_parts(column: u8, parts: &[Cond]) -> Option<&Operand>
 /// The literal that a column has in every row that the condition keeps, where one of the parts that all hold says so.
 #[cycle(fixed)]
 fn fixed_by(column: u8, cond: &Cond) -> Option<&Operand>
-    ensures { MatchOption result (Unit {0}) (λ literal. Fixes column cond.now (literal_value literal.now)) }
+    ensures found { is_some result ≡ says_column cond.now column }
+    ensures fixes { MatchOption result (Unit {0}) (λ it. Fixes column cond.now (literal_value it.now)) }
 {
     match cond {
         Cond::Cmp {
@@ -89,7 +95,8 @@ fn value_of(alloc: Global, literal: &Operand) -> Result<Value, NoMemory>
 /// The key of every row that the condition keeps, where the condition fixes each key column.
 /// Cost: a pass over the condition for each key column.
 fn fixed_key(alloc: Global, positions: &[u8], cond: &Cond) -> Result<Option<Row>, NoMemory>
-    ensures { IfOk result (λ found. MatchOption found (Unit {0}) (λ key. FixesKey positions.now cond.now key)) }
+    ensures found { IfOk result (λ found. is_some found ≡ says_key cond.now positions.now) }
+    ensures fixes { IfOk result (λ found. MatchOption found (Unit {0}) (λ key. FixesKey positions.now cond.now key)) }
 {
     let mut key = Row::new(alloc);
     for at in positions {
@@ -101,7 +108,7 @@ fn fixed_key(alloc: Global, positions: &[u8], cond: &Cond) -> Result<Option<Row>
     Ok(Some(key))
 }
 
-/// The rows to try: those with the key that the condition fixes, or all where it fixes none. Cost: that of finding the
+/// The rows to try: those with one key, where the condition fixes it, or else all. Cost: that of finding the
 /// key in the condition, and two binary searches.
 pub fn rows_to_try<'a>(
     alloc: Global,
@@ -111,7 +118,8 @@ pub fn rows_to_try<'a>(
 ) -> Result<&'a [Row], NoMemory>
     requires { AreInKeyOrder positions.now rows.now }
     ensures all { IfOk result (λ tried. matching cond.now tried.now ≡ matching cond.now rows.now) }
-    ensures part { IfOk result (λ tried. (first : ℕ) × (count : ℕ) × (tried.now ≡ take count (drop first rows.now))) }
+    ensures few { says_key cond.now positions.now ≡ true → IfOk result (λ tried. HaveOneKey positions.now tried.now) }
+    ensures part { IfOk result (λ tried. IsPart tried.now rows.now) }
 {
     match fixed_key(alloc, positions, cond)? {
         Some(key) => Ok(rows_with_key(positions, &key, rows)),

@@ -34,7 +34,8 @@ fn keep_where_not_written(
     rows: &mut Rows,
 ) -> Result<(), NoMemory>
     requires { AreInOrder place_cmp places.now }
-    ensures { OnOk result (rows.new ≡ rows.old ++ filter (λ r. not (has_place places.now table key.now r)) (row.now ∷ [])) }
+    ensures { OnOk result (rows.new ≡ rows.old
+        ++ filter (λ r. not (has_place places.now table key.now r)) (row.now ∷ [])) }
 {
     if !has_place(places, table, key, row) {
         return rows.push(row.copy(alloc)?);
@@ -52,7 +53,8 @@ fn keep_others(
     rows: &mut Rows,
 ) -> Result<(), NoMemory>
     requires { AreInOrder place_cmp places.now }
-    ensures { OnOk result (rows.new ≡ rows.old ++ filter (λ row. not (has_place places.now table key.now row)) others.now) }
+    ensures { OnOk result (rows.new ≡ rows.old
+        ++ filter (λ row. not (has_place places.now table key.now row)) others.now) }
 {
     for row in others {
         keep_where_not_written(alloc, places, table, key, row, rows)?;
@@ -71,7 +73,8 @@ fn put_where_written(
 ) -> Result<(), NoMemory>
     requires places { AreInOrder place_cmp places.now }
     requires rows { AreInKeyOrder key.now rows.old }
-    ensures { OnOk result (rows.new ≡ with_rows key.now (filter (has_place places.now table key.now) (row.now ∷ [])) rows.old) }
+    ensures { OnOk result (rows.new
+        ≡ with_rows key.now (filter (has_place places.now table key.now) (row.now ∷ [])) rows.old) }
 {
     if has_place(places, table, key, row) {
         return put(key, row.copy(alloc)?, rows);
@@ -90,7 +93,8 @@ fn put_own(
 ) -> Result<(), NoMemory>
     requires places { AreInOrder place_cmp places.now }
     requires rows { AreInKeyOrder key.now rows.old }
-    ensures { OnOk result (rows.new ≡ with_rows key.now (filter (has_place places.now table key.now) own.now) rows.old) }
+    ensures { OnOk result (rows.new
+        ≡ with_rows key.now (filter (has_place places.now table key.now) own.now) rows.old) }
 {
     for row in own {
         put_where_written(alloc, places, table, key, row, rows)?;

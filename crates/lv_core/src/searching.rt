@@ -1,11 +1,11 @@
 //! Searches among rows that stand in the order of their keys.
-ghost use Rattle.std.specs.Prelude.{◌≡◌, ℕ, ◌≤◌, Bool, true, List, length, filter, not, take, drop, slice_get};
+ghost use Rattle.std.specs.Prelude.{◌≡◌, ◌≤◌, length, filter, not, slice_get};
 ghost use Rattle.std.specs.List.{insert};
-ghost use Rattle.lv_values.specs.declared.value.Value.{Value as AValue};
 ghost use Rattle.lv_values.specs.Ascending.{placed};
 ghost use Rattle.lv_values.specs.Rows.{key_cmp, values_at};
 ghost use Rattle.lv_schema.specs.Effects.{has_key, same_key};
-ghost use Rattle.lv_core.specs.KeyOrder.{AreInKeyOrder, IsCut, is_below, passes};
+ghost use Rattle.lv_core.specs.FixedKeys.{HaveKey};
+ghost use Rattle.lv_core.specs.KeyOrder.{AreInKeyOrder, HasAllWithKey, IsCut, IsPart, is_below, passes};
 
 use lv_values::{Row, Rows, compare_keys, compare_to_key};
 
@@ -52,8 +52,9 @@ pub fn take_out(key: &[u8], row: &Row, rows: &mut Rows)
 /// The rows with a key. Cost: two binary searches.
 pub fn rows_with_key<'a>(positions: &[u8], key: &Row, rows: &'a [Row]) -> &'a [Row]
     requires { AreInKeyOrder positions.now rows.now }
-    ensures all { (test : List AValue → Bool) → ((row : List AValue) → test row ≡ true → values_at positions.now row ≡ key.now) → filter test result.now ≡ filter test rows.now }
-    ensures part { (first : ℕ) × (count : ℕ) × (result.now ≡ take count (drop first rows.now)) }
+    ensures all { HasAllWithKey positions.now key.now result.now rows.now }
+    ensures only { HaveKey positions.now key.now result.now }
+    ensures part { IsPart result.now rows.now }
 {
     let first = rows.partition_point(|row| compare_to_key(positions, row, key).is_lt());
     let rest = &rows[first..];

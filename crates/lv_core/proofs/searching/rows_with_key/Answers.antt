@@ -1,7 +1,8 @@
 use Rattle.std.proofs.Common.{◌-◌, drop, filter, length, rules, sym, ap, ◌∙◌, subst, take}
 use Rattle.std.proofs.lemmas.Fn.{always_returns_same}
+use Rattle.lv_core.specs.FixedKeys.{HaveKey}
 use Rattle.lv_core.specs.KeyOrder.{AreInKeyOrder, IsCut, is_below, is_not_above}
-use Rattle.lv_core.proofs.KeySearch.{below_falls, cut_from, dropped_ordered, not_above_falls, partitioned, range_all, rest_is}
+use Rattle.lv_core.proofs.KeySearch.{below_falls, cut_from, dropped_ordered, not_above_falls, partitioned, range_all, range_only, rest_is}
 use Rattle.lv_core.proofs.searching.rows_with_key.Goals as goal
 
 first_cut : (c : goal.After-partition_point-count) → IsCut (is_below c.args.positions.now c.args.key.now) c.partition_point-first.result c.args.rows.now
@@ -30,3 +31,8 @@ returns-clause-all c = λ test fixed.
 
 pub returns-clause-part : goal.returns-clause-part
 returns-clause-part c = (c.partition_point-first.result, c.partition_point-count.result, ap (take c.partition_point-count.result) (rest_is c.args.rows.now c.partition_point-first.result))
+
+pub returns-clause-only : goal.returns-clause-only
+returns-clause-only c =
+    subst (λ l. HaveKey c.args.positions.now c.args.key.now (take c.partition_point-count.result l)) (sym (rest_is c.args.rows.now c.partition_point-first.result))
+    (range_only c.args.positions.now c.args.key.now c.args.rows.now c.partition_point-first.result c.partition_point-count.result (first_cut c) (count_cut c))
