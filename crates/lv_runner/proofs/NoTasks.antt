@@ -1,5 +1,5 @@
 -- Whether a line is SHOW TASKS, and whether a program is run.
-use Rattle.std.proofs.Common.{◌≡◌, ℕ, ◌≤◌, Bool, true, false, ◌&&◌, not, List, length, MatchBool, Result, Ok, Err, ◌⊎◌, inl, inr, refl, sym, subst, ◌∙◌}
+use Rattle.std.proofs.Common.{◌≡◌, ℕ, ◌≤◌, Bool, true, false, ◌&&◌, not, List, length, MatchBool, Result, Ok, Err, ◌⊎◌, inl, inr, sym, subst, ◌∙◌}
 use Rattle.std.specs.Prelude.{IfOk}
 use Rattle.std.specs.List.{All, sum_by}
 use Rattle.lv_parser.specs.declared.stop.ParseFault.{ParseFault}

@@ -1,7 +1,7 @@
 -- Programs that are run, and the front lines of a script.
 use Rattle.std.proofs.Common.{◌≡◌, ℕ, zero, suc, ◌+◌, ◌-◌, ◌<◌, ◌≤◌, Bool, true, false, List, [], ◌∷◌, ◌++◌, length, get_or, take, drop, Result, Ok, Err, MatchBool, refl, sym, ap, subst, ◌∙◌, append_assoc, take-append-drop, take-take, length-drop, drop-drop, arith}
-use Rattle.std.specs.List.{All, sum_by}
-use Rattle.std.proofs.lemmas.List.{drop-take, take_rest, take_all, drop_all}
+use Rattle.std.specs.List.{All}
+use Rattle.std.proofs.lemmas.List.{drop-take, take_all}
 use Rattle.std.proofs.lemmas.List.Elements.{All-get_or, All-more, All-nil}
 use Rattle.std.specs.Prelude.{IfOk}
 use Rattle.lv_values.specs.declared.memory.NoMemory.{NoMemory}

@@ -1,13 +1,13 @@
 -- The text of a run is the output of its script.
-use Rattle.std.proofs.Common.{◌≡◌, ℕ, suc, ◌+◌, ◌<◌, Bool, true, List, [], ◌∷◌, map, length, refl, sym, ap, ◌∙◌, subst, arith, inl, inr}
-use Rattle.std.specs.Prelude.{Result, Ok, Err, IfOk, Option, codes, nat_lt, if◌then◌else◌, ◌⊎◌}
+use Rattle.std.proofs.Common.{◌≡◌, ℕ, ◌<◌, Bool, true, List, [], ◌∷◌, map, length, refl, sym, ap, ◌∙◌, subst, arith, inl, inr}
+use Rattle.std.specs.Prelude.{Result, Ok, Err, IfOk, Option, nat_lt, if◌then◌else◌}
 use Rattle.std.proofs.lemmas.Bool.Decides.{nat_tests}
 use Rattle.std.specs.Io.KnownBytes.{Consumes}
 use Rattle.std.specs.List.{AllByRecursion}
 use Rattle.std.proofs.lemmas.List.{length-map}
 use Rattle.lv_bind.specs.Reads.{IsReading}
 use Rattle.lv_core.specs.Named.{IsNamedEntry, IsNamedFault, IsNamedReply}
-use Rattle.lv_core.specs.Run.{CoreView, IsRun, turning}
+use Rattle.lv_core.specs.Run.{CoreView, IsRun}
 use Rattle.lv_lines.specs.declared.names.Names.{Names}
 use Rattle.lv_lines.specs.Entries.{FaultHasNames, HasNames, HaveNames, ReplyHasNames}
 use Rattle.lv_lines.specs.declared.script_fault.ScriptFault.TheVariants.{Bad}
@@ -26,15 +26,13 @@ use Rattle.lv_plain.specs.Events.{schedule, turn_of}
 use Rattle.lv_plain.specs.Following.{IsFollowable}
 use Rattle.lv_plain.specs.LegalTurns.{WholeTurns, after_turns, event_shown, session_of, start}
 use Rattle.lv_plain.specs.Programs.{Places, all_answered, session_count}
-use Rattle.lv_plain.specs.SessionNames.{session_names}
 use Rattle.lv_plain.specs.Turns.{Reading}
 use Rattle.lv_schema.specs.declared.fault.Fault.{Fault}
 use Rattle.lv_schema.specs.declared.fault.Fault.TheVariants as fault
-use Rattle.lv_schema.specs.World.{Visible}
 use Rattle.lv_runner.specs.Built.{IsBuilt}
 use Rattle.lv_runner.specs.declared.status.Status.{Status}
 use Rattle.lv_runner.specs.declared.status.Status.TheVariants as status
-use Rattle.lv_runner.specs.Output.{IsBad, IsOutput, limit, names_of}
+use Rattle.lv_runner.specs.Output.{IsOutput, limit, names_of}
 use Rattle.lv_runner.specs.Run.{Refused}
 use Rattle.lv_runner.proofs.FollowTurns.{events_shown}
 

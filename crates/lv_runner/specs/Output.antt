@@ -1,5 +1,5 @@
 -- What the program writes for the bytes of a script, and for which script it is refused.
-use Rattle.std.specs.Prelude.{◌≡◌, ◌⊎◌, ℕ, List, ◌∷◌, codes, map, length, Result, Ok, Err}
+use Rattle.std.specs.Prelude.{◌≡◌, ◌⊎◌, ℕ, List, ◌∷◌, codes, map, Ok, Err}
 use Rattle.lv_bind.specs.Reads.{IsReading}
 use Rattle.lv_lines.specs.declared.names.Names.{Names}
 use Rattle.lv_lines.specs.declared.script_fault.ScriptFault.TheVariants.{Bad}

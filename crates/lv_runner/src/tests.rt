@@ -228,7 +228,7 @@ fn past_a_limit(
         print_natural(number, script)?;
         script.extend_from_slice(lines.1.as_bytes())?;
         printed.extend_from_slice(b"setup ")?;
-        print_natural(before + number, printed)?;
+        print_natural(before.saturating_add(number), printed)?;
         let answer = if number < 33 { " ok\n" } else { refused };
         printed.extend_from_slice(answer.as_bytes())?;
     }
@@ -257,7 +257,7 @@ fn insert_keys(first: u64, keys: u64, script: &mut Bytes) -> Result<(), Fail> {
     print_natural(first, script)?;
     for more in 1..keys {
         script.extend_from_slice(b"), (")?;
-        print_natural(first + more, script)?;
+        print_natural(first.saturating_add(more), script)?;
     }
     script.extend_from_slice(b")\n")?;
     Ok(())

@@ -1,4 +1,3 @@
-use Rattle.std.proofs.Common.{subst, MatchBool}
 use Rattle.std.specs.List.{All}
 use Rattle.lv_plain.specs.declared.program.Script.{Script}
 use Rattle.lv_runner.specs.Built.{IsNoTasks}

@@ -1,4 +1,4 @@
-use Rattle.std.proofs.Common.{arith, length, take, drop, sym, ◌∙◌, ◌≤◌, ◌+◌, ◌≡◌}
+use Rattle.std.proofs.Common.{arith, sym, ◌∙◌, ◌+◌}
 use Rattle.std.proofs.lemmas.List.{take_all, drop_all}
 use Rattle.lv_lines.specs.ScriptLine.{piece_len}
 use Rattle.lv_runner.proofs.built.line_len.Goals as goal
