@@ -1,7 +1,7 @@
 -- What answers rest on.
 use Rattle.std.proofs.Common.{◌≡◌, ℕ, ◌<◌, Bool, true, false, ◌&&◌, not, List, [], ◌∷◌, length, refl}
 use Rattle.std.specs.Prelude.{◌^◌, ◌-◌, ◌==◌, if◌then◌else◌, nat_lt, nat_abs, Option, Some, None, slice_get, slice_index_or, unwrap_or}
-use Rattle.std.specs.List.{list_all, list_any}
+use Rattle.std.specs.List.{list_all}
 use Rattle.lv_schema.specs.declared.change.Change.{Change}
 use Rattle.lv_schema.specs.declared.change.Change.TheVariants.{Insert, Update, Delete}
 use Rattle.lv_schema.specs.declared.change.Set.{Set}
@@ -14,13 +14,14 @@ use Rattle.lv_schema.specs.declared.table.TableDef.{TableDef}
 use Rattle.lv_schema.specs.Bound.{IsBoundChange, column_set, has_kind, is_bound_set, is_text, set_fits}
 use Rattle.lv_schema.specs.Cases.{Outcome, answered, closed, committed, committed_unless}
 use Rattle.lv_schema.specs.Commits.{conflict_of, merged_full}
-use Rattle.lv_schema.specs.Databases.{rows_of}
 use Rattle.lv_schema.specs.Effects.{changed_table, first_fault}
-use Rattle.lv_schema.specs.declared.open.Open.{Open}
 use Rattle.lv_schema.specs.World.{Visible, opened, table_at, transaction}
+use Rattle.lv_core.specs.KeyOrder.{AreKeyOrdered}
 use Rattle.lv_core.specs.Seen.{MayChange}
 use Rattle.lv_core.specs.Small.{IsSmallDb}
 use Rattle.lv_core.specs.Sums.{has_short_amount, has_short_amounts}
+use Rattle.lv_core.proofs.KeyOrderRows.{rows_ordered}
+use Rattle.lv_core.proofs.KeyOrderSteps.{transaction_ordered}
 use Rattle.lv_core.proofs.SmallRows.{rows_small}
 
 -- COMMIT without a transaction
@@ -71,10 +72,11 @@ bound_in_use tables (Update table sets c) is = is.0
 bound_in_use tables (Delete table c) is = is.0
 
 pub may_change : (session : ℕ) (s : Visible) (change : Change) → IsBoundChange s.tables change → IsSmallDb (transaction session s).own
-    → (transaction session s).changes < 2 ^ 32 - 1 → MayChange s session change
-may_change session s change is small changes = record {
+    → AreKeyOrdered s → (transaction session s).changes < 2 ^ 32 - 1 → MayChange s session change
+may_change session s change is small ordered changes = record {
   table = bound_in_use s.tables change is;
   amounts = short_change s.tables change is;
   rows = rows_small (transaction session s).own (changed_table change) small;
+  order = rows_ordered s.tables (transaction session s).own (changed_table change) (transaction_ordered session s ordered);
   changes = changes;
 }

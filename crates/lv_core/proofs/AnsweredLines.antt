@@ -1,5 +1,5 @@
 -- What the answer to a bound statement leaves.
-use Rattle.std.proofs.Common.{◌≡◌, ℕ, ◌+◌, ◌<◌, ◌≤◌, true, List, [], length, refl, sym, subst}
+use Rattle.std.proofs.Common.{◌≡◌, ℕ, ◌+◌, ◌<◌, ◌≤◌, true, List, [], length, sym, subst}
 use Rattle.std.specs.Prelude.{IfOk, OnErr, OnOk, Result, Ok, Err, slice_index, slice_set}
 use Rattle.lv_schema.specs.declared.bound.Bound.{Bound}
 use Rattle.lv_schema.specs.declared.fault.Fault.{Fault}
@@ -12,8 +12,10 @@ use Rattle.lv_plain.specs.LegalTurns.{always_written}
 use Rattle.lv_plain.specs.Turns.{bound_turn}
 use Rattle.lv_bind.specs.Reads.{is_shown_by_line}
 use Rattle.lv_core.specs.Answering.{Answers}
+use Rattle.lv_core.specs.KeyOrder.{AreKeyOrdered}
 use Rattle.lv_core.specs.Named.{AreNamedStates, IsNamedFault, IsNamedReply}
 use Rattle.lv_core.specs.Small.{AreSmallStates}
+use Rattle.lv_core.proofs.KeyOrderSteps.{ordered_after}
 use Rattle.lv_core.proofs.NamedSteps.{named_after, named_reply}
 use Rattle.lv_core.proofs.NamedTables.{tables_grow}
 use Rattle.lv_core.proofs.SmallChanges.{any_bound_is_small}
@@ -32,6 +34,10 @@ module _ {E : Type 0} (s next : Visible) (session : ℕ) (b : Bound) where
   pub kept_answer : (r : Result Reply E) → Answered r → OnErr r (next ≡ s)
   kept_answer (Ok reply) a = tt
   kept_answer (Err e) a = a
+
+  pub ordered_answer : (r : Result Reply E) → Answered r → AreKeyOrdered s → OnOk r (AreKeyOrdered next)
+  ordered_answer (Ok reply) a ordered = subst AreKeyOrdered (sym a.1) (ordered_after session b s ordered)
+  ordered_answer (Err e) a ordered = tt
 
   pub tables_answer : (r : Result Reply E) → Answered r → OnOk r (length s.tables ≤ length next.tables)
   tables_answer (Ok reply) a = subst (λ v. length s.tables ≤ length v.tables) (sym a.1) (tables_grow session b s)

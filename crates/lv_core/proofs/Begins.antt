@@ -1,6 +1,5 @@
 -- A run of which no statement is answered.
-use Rattle.std.proofs.Common.{◌≡◌, ℕ, List, [], length, refl, sym, subst}
-use Rattle.std.specs.Prelude.{replicate}
+use Rattle.std.proofs.Common.{◌≡◌, List, [], refl, sym, subst}
 use Rattle.std.proofs.lemmas.List.{length-replicate}
 use Rattle.lv_schema.specs.World.{nothing_visible}
 use Rattle.lv_plain.specs.declared.entry.Entry.{Entry}
@@ -8,8 +7,9 @@ use Rattle.lv_plain.specs.declared.program.Program.{Program}
 use Rattle.lv_plain.specs.Limits.{IsWithinLimits}
 use Rattle.lv_plain.specs.Programs.{Places, first_places, session_count}
 use Rattle.lv_core.specs.declared.whole.Whole.{Whole}
-use Rattle.lv_core.specs.Run.{CoreView, IsRun, view_of}
+use Rattle.lv_core.specs.Run.{IsRun, view_of}
 use Rattle.lv_core.specs.Seen.{visible}
+use Rattle.lv_core.proofs.KeyOrderSteps.{ordered_at_start}
 use Rattle.lv_core.proofs.NamedSteps.{named_at_start}
 use Rattle.lv_core.proofs.SmallSteps.{small_at_start}
 
@@ -18,6 +18,7 @@ fresh p within = record {
   within = within;
   count = length-replicate (session_count p) 0;
   small = small_at_start p;
+  ordered = ordered_at_start p;
   named = named_at_start p;
   entries_named = tt;
   run = λ reading known. record { legal = tt; state = refl };

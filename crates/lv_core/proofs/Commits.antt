@@ -1,5 +1,5 @@
 -- What a commit makes, as the definitions say it.
-use Rattle.std.proofs.Common.{◌≡◌, ℕ, ◌==◌, Bool, true, false, List, length, map, refl, sym, ◌∙◌, ap, arith}
+use Rattle.std.proofs.Common.{◌≡◌, ℕ, ◌==◌, Bool, true, false, List, length, map, refl, ◌∙◌, ap, arith}
 use Rattle.std.specs.Prelude.{◌&&◌, Option, Some, None, Result, Ok, Err, IfOk}
 use Rattle.std.specs.List.{list_any, range_with_len}
 use Rattle.std.specs.Ordering.{is_eq}
@@ -33,7 +33,7 @@ at_place tables table row a = by (table == a.table) refl
     by true e = ap (λ t. is_eq (row_cmp (values_at (table_at tables table).key row) (values_at (table_at tables t).key a.row))) (same_table table a.table e)
     by false e = refl
 
-written_is : (tables : List TableDef) (actions : List Action) (table : ℕ) (row : List Value)
+pub written_is : (tables : List TableDef) (actions : List Action) (table : ℕ) (row : List Value)
     → is_written actions table (table_at tables table).key row ≡ writes tables actions (table, values_at (table_at tables table).key row)
 written_is tables actions table row = ap (λ p. list_any p actions) (λ i a. at_place tables table row a i)
 

@@ -7,7 +7,7 @@ use Rattle.lv_schema.specs.declared.action.Action.{Action}
 use Rattle.lv_schema.specs.declared.change.Change.{Change}
 use Rattle.lv_schema.specs.declared.fault.Fault.{Fault}
 use Rattle.lv_schema.specs.declared.open.Open.{Open}
-use Rattle.lv_schema.specs.Cases.{Case, answered, closed, with_session, with_change, changed, changed_by, began, committed, committed_unless, refused, alone, alone_committed, with_count}
+use Rattle.lv_schema.specs.Cases.{Case, answered, closed, with_session, with_change, changed, changed_by, committed, committed_unless, refused, alone, alone_committed, with_count}
 use Rattle.lv_schema.specs.Commits.{merged}
 use Rattle.lv_schema.specs.Databases.{Db}
 use Rattle.lv_schema.specs.Effects.{Effect, effect_of}
@@ -19,7 +19,7 @@ use Rattle.lv_core.specs.declared.changing.Prepared.{Prepared}
 use Rattle.lv_core.specs.Stops.{Meets}
 use Rattle.lv_core.specs.declared.committing.Commit.TheVariants.{Done, RolledBack}
 use Rattle.lv_core.specs.declared.stop.Stop.{Stop}
-use Rattle.lv_core.specs.declared.stop.Stop.TheVariants.{Refused, NoMemory}
+use Rattle.lv_core.specs.declared.stop.Stop.TheVariants.{Refused}
 
 -- a commit, by the transaction, by whether it has no action, and by its fault
 abbrev by : Visible → ℕ → Open → Bool → Option Fault → Case (Option ℕ)

@@ -1,13 +1,13 @@
 -- What the core keeps gives what a turn needs, and a turn leaves it.
 use Rattle.std.proofs.Common.{◌≡◌, ℕ, zero, suc, ◌+◌, ◌<◌, ◌≤◌, Bool, true, false, ◌&&◌, List, [], ◌∷◌, ◌++◌, length, map, refl, sym, ap, ◌∙◌, subst, arith}
-use Rattle.std.specs.Prelude.{◌^◌, ◌-◌, ◌==◌, nat_lt, slice_get, slice_index, slice_index_or, slice_set, Option, Some, None, unwrap_or, Result, Ok, Err, OnErr}
+use Rattle.std.specs.Prelude.{◌^◌, ◌-◌, nat_lt, slice_get, slice_index, slice_index_or, slice_set, Option, Some, None, unwrap_or, Result, Ok, Err, OnErr}
 use Rattle.std.specs.List.{All, AllByRecursion, sum_by}
 use Rattle.std.proofs.lemmas.List.Elements.{All-head, All-tail}
 use Rattle.std.proofs.lemmas.List.Sums.{sum_by-cons}
 use Rattle.std.proofs.lemmas.Bool.Decides.{nat_tests}
 use Rattle.lv_schema.specs.declared.forced.Forced.{Forced}
 use Rattle.lv_schema.specs.declared.open.Open.{Open}
-use Rattle.lv_schema.specs.World.{Visible, last, opened, snap, transaction}
+use Rattle.lv_schema.specs.World.{Visible, last, opened, transaction}
 use Rattle.lv_bind.specs.Reads.{IsReading}
 use Rattle.lv_plain.specs.declared.entry.Entry.{Entry}
 use Rattle.lv_plain.specs.declared.entry.Entry.TheVariants as entry
@@ -19,6 +19,7 @@ use Rattle.lv_plain.specs.declared.program.Program.{Program}
 use Rattle.lv_plain.specs.declared.program.Script.{Script}
 use Rattle.lv_plain.specs.Limits.{IsStatementLine, IsWithinLimits}
 use Rattle.lv_plain.specs.Programs.{Places, has_more, lines_of, may_turn, next_line, no_script, session_count}
+use Rattle.lv_core.specs.KeyOrder.{AreKeyOrdered}
 use Rattle.lv_core.specs.Named.{AreNamedStates, IsNamedEntry, IsNamedReply}
 use Rattle.lv_core.specs.declared.whole.Whole.{Whole}
 use Rattle.lv_core.specs.Run.{CoreView, IsRun, TookTurn, turning, view_of}
@@ -124,13 +125,14 @@ entries_of_more sessions m n (f ∷ es) e le all h = (entry_of_more sessions m n
 -- ---- one turn more
 pub run_after : (c : CoreView) (session : ℕ) (reply : Reply) (next : Visible) → IsRun c → may_turn c.program c.places session ≡ true
     → ((reading : Reading) → IsReading reading → (reply ≡ (turn_at reading c.program (turning c) session).reply) × (next ≡ (turn_at reading c.program (turning c) session).next))
-    → AreSmallStates next (slice_set c.places session (slice_index c.places session + 1)) → AreNamedStates next
+    → AreSmallStates next (slice_set c.places session (slice_index c.places session + 1)) → AreKeyOrdered next → AreNamedStates next
     → length c.seen.tables ≤ length next.tables → IsNamedReply (length c.seen.tables) reply
     → IsRun (gone_on c session reply next)
-run_after c session reply next run may is small named grow said = record {
+run_after c session reply next run may is small ordered named grow said = record {
   within = run.within;
   count = length_set c.places session (slice_index c.places session + 1) ∙ run.count;
   small = small;
+  ordered = ordered;
   named = named;
   entries_named = entries_of_more (session_count c.program) (length c.seen.tables) (length next.tables) c.entries (entry_of c session reply) grow run.entries_named
       (session_in c.program c.places session may, refl, more_tables (length c.seen.tables) (length next.tables) reply grow said);
@@ -151,10 +153,10 @@ abbrev pub AnswersNext : CoreView → ℕ → Reply → Visible → Type 0
 AnswersNext c session reply next = (reading : Reading) → IsReading reading → (reply ≡ (turn_at reading c.program (turning c) session).reply) × (next ≡ (turn_at reading c.program (turning c) session).next)
 
 gone_took : (c : CoreView) (session : ℕ) (reply : Reply) (next : Visible) → IsRun c → may_turn c.program c.places session ≡ true → AnswersNext c session reply next
-    → AreSmallStates next (slice_set c.places session (slice_index c.places session + 1)) → AreNamedStates next
+    → AreSmallStates next (slice_set c.places session (slice_index c.places session + 1)) → AreKeyOrdered next → AreNamedStates next
     → length c.seen.tables ≤ length next.tables → IsNamedReply (length c.seen.tables) reply → TookTurn session c (gone_on c session reply next)
-gone_took c session reply next run may is small named grow said = record {
-  run = run_after c session reply next run may is small named grow said;
+gone_took c session reply next run may is small ordered named grow said = record {
+  run = run_after c session reply next run may is small ordered named grow said;
   program = refl;
   places = refl;
   sessions = sessions_more c.entries (entry_of c session reply);
@@ -169,14 +171,14 @@ after c session next places es = record { program = c.program; seen = next; plac
 pub took_turn : (c : CoreView) (session place : ℕ) (reply : Reply) (next : Visible) (forced : List Forced) (places : List ℕ) (es : List Entry) → IsRun c → may_turn c.program c.places session ≡ true
     → place ≡ slice_index c.places session → forced ≡ [] → places ≡ slice_set c.places session (place + 1) → es ≡ c.entries ++ Session session (place + 1) forced reply ∷ []
     → AnswersNext c session reply next
-    → AreSmallStates next (slice_set c.places session (slice_index c.places session + 1)) → AreNamedStates next
+    → AreSmallStates next (slice_set c.places session (slice_index c.places session + 1)) → AreKeyOrdered next → AreNamedStates next
     → length c.seen.tables ≤ length next.tables → IsNamedReply (length c.seen.tables) reply → TookTurn session c (after c session next places es)
-took_turn c session place reply next forced places es run may at none counted added is small named grow said =
+took_turn c session place reply next forced places es run may at none counted added is small ordered named grow said =
     subst (λ ps. TookTurn session c (after c session next ps es)) (sym counted)
     (subst (λ e. TookTurn session c (after c session next (slice_set c.places session (place + 1)) e)) (sym added)
     (subst (λ f. TookTurn session c (after c session next (slice_set c.places session (place + 1)) (c.entries ++ Session session (place + 1) f reply ∷ []))) (sym none)
     (subst (λ k. TookTurn session c (after c session next (slice_set c.places session (k + 1)) (c.entries ++ Session session (k + 1) [] reply ∷ []))) (sym at)
-    (gone_took c session reply next run may is small named grow said))))
+    (gone_took c session reply next run may is small ordered named grow said))))
 
 -- what a line was answered is what the next turn answers
 pub next_answered : (c : CoreView) (session place : ℕ) (line : List ℕ) (reply : Reply) (next : Visible) → place ≡ slice_index c.places session → line ≡ slice_index_or (lines_of c.program session) place []
@@ -203,6 +205,9 @@ module _ (program : Program) (whole : Whole) (places : Places) (entries : List E
 
   pub small_read : IsSmallDb (transaction session (visible whole)).own
   small_read = small_own session (visible whole) places run.small
+
+  pub ordered_read : AreKeyOrdered (visible whole)
+  ordered_read = run.ordered
 
   pub changes_few : (transaction session (visible whole)).changes < 2 ^ 32 - 1
   changes_few = changes_left program session (visible whole) places run.within may run.small

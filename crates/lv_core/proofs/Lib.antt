@@ -10,6 +10,15 @@ pub mod SmallChanges
 pub mod SmallTuples
 pub mod SmallRows
 pub mod SmallSteps
+pub mod Orders
+pub mod KeyOrderRows
+pub mod KeySearch
+pub mod FixedKeys
+pub mod TriedRows
+pub mod PreparedOrder
+pub mod PutRows
+pub mod WrittenPlaces
+pub mod KeyOrderSteps
 pub mod NamedFaults
 pub mod NamedTables
 pub mod NamedSteps

@@ -1,10 +1,9 @@
 -- Going over the rows of a table one by one: what a condition keeps, and the actions on it.
 use Rattle.std.proofs.Common.{◌≡◌, ℕ, ◌+◌, ◌<◌, ℤ, Bool, true, false, cond, List, [], ◌∷◌, ◌++◌, length, drop, get_or, map, refl, sym, ◌∙◌, ap, append_assoc}
-use Rattle.std.specs.Prelude.{Option, Some, None, is_some, slice_get, filter}
+use Rattle.std.specs.Prelude.{Option, Some, None, is_some, slice_get}
 use Rattle.std.specs.List.{flat_map, filter_map}
 use Rattle.std.proofs.lemmas.List.{drop_more}
 use Rattle.lv_values.specs.declared.value.Value.{Value}
-use Rattle.lv_schema.specs.declared.action.Action.{Action}
 use Rattle.lv_schema.specs.declared.change.Set.{Set}
 use Rattle.lv_schema.specs.declared.cond.Cond.{Cond}
 use Rattle.lv_schema.specs.Effects.{matching, wide_number, first_wide, deletes}

@@ -1,5 +1,5 @@
 -- A call that met want of memory leaves what is seen as it was.
-use Rattle.std.proofs.Common.{◌≡◌, ℕ, List, set, get_or, refl, sym, ◌∙◌, ap}
+use Rattle.std.proofs.Common.{◌≡◌, ℕ, List, set, get_or, sym, ◌∙◌, ap}
 use Rattle.std.specs.Prelude.{Result, Ok, Err, Option, Some, IsErrAnd}
 use Rattle.std.proofs.lemmas.List.{set-get_or}
 use Rattle.lv_schema.specs.declared.open.Open.{Open}

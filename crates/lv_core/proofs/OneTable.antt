@@ -1,6 +1,6 @@
 -- Actions that are all on one table.
-use Rattle.std.proofs.Common.{◌≡◌, ℕ, ◌+◌, ◌<◌, ◌≤◌, List, [], ◌∷◌, length, map, set, get_or, refl, sym, ◌∙◌, ap, subst, length-set}
-use Rattle.std.specs.Prelude.{◌⊎◌, Result, Ok, Err, Option, None, Some}
+use Rattle.std.proofs.Common.{◌≡◌, ℕ, ◌+◌, ◌<◌, ◌≤◌, List, [], ◌∷◌, length, map, set, refl, sym, ◌∙◌, ap, subst}
+use Rattle.std.specs.Prelude.{◌⊎◌, Ok, Option, None, Some, MatchOption}
 use Rattle.std.proofs.Common.{inl, inr}
 use Rattle.std.specs.List.{AllByRecursion, flat_map}
 use Rattle.std.proofs.lemmas.List.{set-set, set-get_or, set_past, get_or-set_same}
@@ -16,7 +16,7 @@ use Rattle.lv_schema.specs.declared.fault.Fault.{Fault}
 use Rattle.lv_schema.specs.declared.open.Open.{Open}
 use Rattle.lv_schema.specs.Cases.{with_number}
 use Rattle.lv_schema.specs.Effects.{Effect, ok_unless, inserts, deletes, updated, matching, acted_rows, acted, acted_all, change_actions, change_count, change_fault, changed_table, effect_on}
-use Rattle.lv_core.specs.Preparing.{IsPrepared}
+use Rattle.lv_core.specs.Preparing.{IsPrepared, with_table_rows}
 use Rattle.lv_schema.specs.World.{table_at}
 use Rattle.lv_core.specs.Databases.{rows_after}
 
@@ -65,20 +65,22 @@ ok_is : {A : Type 0} (o : Option Fault) (a b : A) → ok_unless o a ≡ Ok b →
 ok_is None a b e = cc
 ok_is (Some fault) a b e = cc
 
+-- a table's rows after actions: they are given where there is an action
+abbrev pub IsAfter : List ℕ → List (List Value) → List Action → Option (List (List Value)) → Type 0
+IsAfter key rows actions after = MatchOption after (actions ≡ []) (λ after. after ≡ rows_after key rows actions)
+
 -- a change that was prepared step by step is prepared
-pub prepared_is : (tables : List TableDef) (change : Change) (o : Open) (t : ℕ) (def : TableDef) (rows after : List (List Value)) (count : ℕ) (actions numbers : List Action)
+pub prepared_is : (tables : List TableDef) (change : Change) (o : Open) (t : ℕ) (def : TableDef) (rows : List (List Value)) (after : Option (List (List Value))) (count : ℕ) (actions numbers : List Action)
     → t ≡ changed_table change → def ≡ table_at tables t → rows ≡ rows_of o.own t
     → effect_on def change rows ≡ Ok (record { count = count; actions = actions })
-    → after ≡ rows_after def.key rows actions → numbers ≡ map (with_number (o.changes + 1)) actions
+    → IsAfter def.key rows actions after → numbers ≡ map (with_number (o.changes + 1)) actions
     → IsPrepared tables change o (record { count = count; table = t; rows = after; actions = numbers })
 prepared_is tables change o t def rows after count actions numbers at is_def is_rows found is_after is_numbers =
     let effect : Effect = record { count = count; actions = actions } in
     let made : record { count = change_count change rows; actions = change_actions change rows } ≡ effect = ok_is (change_fault def change rows) _ effect found in
     let acts : change_actions change rows ≡ actions = ap (λ (e : Effect). e.actions) made in
     let on : AllOn t actions = subst (λ (n : ℕ). AllOn n actions) (sym at) (subst (AllOn (changed_table change)) acts (change_on change rows)) in
-    let own : set o.own t after ≡ acted_all tables o.own actions =
-    ap (set o.own t) (is_after ∙ ap (λ (d : TableDef). rows_after d.key rows actions) is_def ∙ ap (λ l. rows_after (table_at tables t).key l actions) is_rows)
-    ∙ sym (acted_one tables t o.own actions on) in
+    let own = own_is on after is_after in
     record {
       effect = effect;
       given =
@@ -89,3 +91,9 @@ prepared_is tables change o t def rows after count actions numbers at is_def is_
       count = refl;
       kept = cc (own, is_numbers);
     }
+  where
+    own_is : AllOn t actions → (after : Option (List (List Value))) → IsAfter def.key rows actions after → with_table_rows t after o.own ≡ acted_all tables o.own actions
+    own_is on None none = ap (acted_all tables o.own) (sym none)
+    own_is on (Some after) is =
+        ap (set o.own t) (is ∙ ap (λ (d : TableDef). rows_after d.key rows actions) is_def ∙ ap (λ l. rows_after (table_at tables t).key l actions) is_rows)
+        ∙ sym (acted_one tables t o.own actions on)

@@ -1,12 +1,12 @@
 -- A run goes on with one turn.
-use Rattle.std.proofs.Common.{◌≡◌, ℕ, ◌+◌, true, List, [], ◌∷◌, ◌++◌, length, refl, sym, ap, ◌∙◌, subst}
+use Rattle.std.proofs.Common.{◌≡◌, ℕ, ◌+◌, true, List, [], ◌∷◌, ◌++◌, refl, sym, ap, ◌∙◌, subst}
 use Rattle.std.specs.Prelude.{slice_index, slice_set}
 use Rattle.lv_schema.specs.World.{Visible}
 use Rattle.lv_plain.specs.declared.entry.Entry.{Entry}
 use Rattle.lv_plain.specs.declared.entry.Entry.TheVariants.{Session}
 use Rattle.lv_plain.specs.declared.entry.Reply.{Reply}
 use Rattle.lv_plain.specs.declared.program.Program.{Program}
-use Rattle.lv_plain.specs.LegalTurns.{Turning, MayTurn, LegalTurns, after_turn, after_turns, session_of, start, turn_at, turn_entry}
+use Rattle.lv_plain.specs.LegalTurns.{Turning, MayTurn, LegalTurns, after_turn, after_turns, session_of, start, turn_at}
 use Rattle.lv_plain.specs.Programs.{may_turn}
 use Rattle.lv_plain.specs.Turns.{Reading}
 use Rattle.lv_core.specs.Run.{CoreView, IsRunOf, turning}

@@ -14,15 +14,9 @@ use Rattle.lv_schema.specs.declared.change.Change.TheVariants.{Insert, Update, D
 use Rattle.lv_schema.specs.declared.change.Set.{Set}
 use Rattle.lv_schema.specs.declared.change.SetValue.{SetValue}
 use Rattle.lv_schema.specs.declared.change.SetValue.TheVariants.{Literal, Column as OfColumn, Plus}
-use Rattle.lv_schema.specs.declared.table.Column.{Column}
-use Rattle.lv_schema.specs.declared.table.Kind.{Kind}
-use Rattle.lv_schema.specs.declared.table.Kind.TheVariants.{Int, Text, Big}
-use Rattle.lv_schema.specs.declared.table.TableDef.{TableDef}
-use Rattle.lv_schema.specs.Bound.{is_table_kind}
 use Rattle.lv_schema.specs.declared.open.Open.{Open}
-use Rattle.lv_schema.specs.Databases.{is_int, value_fits, row_fits, rows_of}
+use Rattle.lv_schema.specs.Databases.{is_int, rows_of}
 use Rattle.lv_schema.specs.Effects.{changed_table}
-use Rattle.lv_schema.specs.World.{table_at}
 use Rattle.lv_core.specs.Small.{IsSmall, AreSmallRows}
 use Rattle.lv_core.specs.Sums.{SumFits, RowSumsFit, SumsFit, ChangeSumsFit, has_short_amount, has_short_amounts}
 

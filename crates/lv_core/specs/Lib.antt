@@ -1,4 +1,6 @@
 pub mod Sums
+pub mod KeyOrder
+pub mod FixedKeys
 pub mod TableActions
 pub mod Stops
 pub mod Databases
@@ -12,3 +14,4 @@ pub mod Small
 pub mod Answering
 pub mod Named
 pub mod Run
+pub mod Cores

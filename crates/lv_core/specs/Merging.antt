@@ -3,18 +3,22 @@ use Rattle.std.specs.Prelude.{ℕ, nat_lt, Bool, ◌&&◌, ◌==◌, List, lengt
 use Rattle.std.specs.List.{list_any, range_with_len}
 use Rattle.std.specs.Ordering.{is_eq}
 use Rattle.lv_values.specs.declared.value.Value.{Value}
-use Rattle.lv_values.specs.Rows.{key_cmp}
+use Rattle.lv_values.specs.Rows.{key_cmp, values_at}
 use Rattle.lv_schema.specs.declared.action.Action.{Action}
 use Rattle.lv_schema.specs.declared.fault.Fault.{Fault}
 use Rattle.lv_schema.specs.declared.fault.Fault.TheVariants.{MergedFull}
 use Rattle.lv_schema.specs.declared.table.TableDef.{TableDef}
 use Rattle.lv_schema.specs.Databases.{Db, rows_of}
-use Rattle.lv_schema.specs.Commits.{merged_rows}
+use Rattle.lv_schema.specs.Commits.{Place, merged_rows, same_place}
 use Rattle.lv_schema.specs.World.{table_at}
 
 -- whether one of the actions writes the row's key in the table, which has this key
 abbrev pub is_written : List Action → ℕ → List ℕ → List Value → Bool
 is_written actions table key row = list_any (λ a. (table == a.table) && is_eq (key_cmp key row a.row)) actions
+
+-- the same by the places that actions write
+abbrev pub has_place : List Place → ℕ → List ℕ → List Value → Bool
+has_place places table key row = list_any (same_place (table, values_at key row)) places
 
 abbrev pub merged_with : List TableDef → List Action → Db → Db → ℕ → List (List Value)
 merged_with tables actions own others table =

@@ -9,6 +9,7 @@ use Rattle.lv_plain.specs.LegalTurns.{Turning, start, LegalTurns, after_turn, af
 use Rattle.lv_plain.specs.Programs.{Places, session_count}
 use Rattle.lv_plain.specs.Turns.{Reading}
 use Rattle.lv_bind.specs.Reads.{IsReading}
+use Rattle.lv_core.specs.KeyOrder.{AreKeyOrdered}
 use Rattle.lv_core.specs.Named.{AreNamedStates, IsNamedEntry}
 use Rattle.lv_core.specs.declared.whole.Whole.{Whole}
 use Rattle.lv_core.specs.Seen.{visible}
@@ -33,6 +34,7 @@ pub record IsRun (c : CoreView) : Type 0 where
   pub within : IsWithinLimits c.program
   pub count : length c.places ≡ session_count c.program
   pub small : AreSmallStates c.seen c.places
+  pub ordered : AreKeyOrdered c.seen
   pub named : AreNamedStates c.seen
   pub entries_named : AllByRecursion (IsNamedEntry (session_count c.program) (length c.seen.tables)) c.entries
   pub run : (reading : Reading) → IsReading reading → IsRunOf reading c

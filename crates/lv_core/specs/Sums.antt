@@ -1,5 +1,5 @@
 -- The sums that an UPDATE computes stay inside signed 128 bits.
-use Rattle.std.specs.Prelude.{◌≡◌, ◌^◌, ◌+ℤ◌, nat_abs, nat_lt, FitsSigned, Bool, true, List}
+use Rattle.std.specs.Prelude.{◌^◌, ◌+ℤ◌, nat_abs, nat_lt, FitsSigned, Bool, true, List}
 use Rattle.std.specs.Int.{w128}
 use Rattle.std.specs.List.{AllByRecursion, list_all}
 use Rattle.lv_values.specs.declared.value.Value.{Value}
@@ -10,8 +10,6 @@ use Rattle.lv_schema.specs.declared.change.Change.TheVariants.{Insert, Update, D
 use Rattle.lv_schema.specs.declared.change.Set.{Set}
 use Rattle.lv_schema.specs.declared.change.SetValue.{SetValue}
 use Rattle.lv_schema.specs.declared.change.SetValue.TheVariants.{Literal, Column, Plus}
-use Rattle.lv_schema.specs.declared.table.TableDef.{TableDef}
-use Rattle.lv_schema.specs.Databases.{row_fits}
 
 -- the sum that a SET computes from the old row
 abbrev pub SumFits : List Value → SetValue → Type 0

@@ -9,6 +9,7 @@ ghost use Rattle.lv_plain.specs.declared.entry.Reply.TheVariants as reply;
 ghost use Rattle.lv_plain.specs.LegalTurns.{always_written};
 ghost use Rattle.lv_plain.specs.Turns.{bound_turn, turn_by, shown};
 ghost use Rattle.lv_core.specs.Answering.{Answers, IsRefusal};
+ghost use Rattle.lv_core.specs.KeyOrder.{AreKeyOrdered};
 ghost use Rattle.lv_core.specs.Seen.{visible, IsWhole, MayChange};
 ghost use Rattle.lv_core.specs.Small.{IsSmallDb};
 
@@ -82,6 +83,7 @@ impl Whole {
         requires whole { IsWhole self.old }
         requires session { session < SESSIONS }
         requires idle { slice_index_or self.old.sessions.items session None ≡ None }
+        requires ordered { AreKeyOrdered (visible self.old) }
         requires may { MayChange (visible self.old) session change.now }
         ensures answer { Answers (visible self.old) (visible self.new) result (turn_by (λ done. reply.Alone done.0 done.1) (alone always_written session change.now (visible self.old))) }
         ensures whole { IsWhole self.new }
@@ -118,6 +120,7 @@ impl Whole {
     fn answer_live_commit(&mut self, alloc: Global, session: usize) -> Result<Reply, NoMemory>
         requires whole { IsWhole self.old }
         requires session { session < SESSIONS }
+        requires ordered { AreKeyOrdered (visible self.old) }
         requires live { IsSome (slice_index_or self.old.sessions.items session None) }
         ensures answer { Answers (visible self.old) (visible self.new) result (turn_by reply.Committed (committed always_written session (visible self.old))) }
         ensures whole { IsWhole self.new }
@@ -133,6 +136,7 @@ impl Whole {
     fn answer_commit(&mut self, alloc: Global, session: usize) -> Result<Reply, NoMemory>
         requires whole { IsWhole self.old }
         requires session { session < SESSIONS }
+        requires ordered { AreKeyOrdered (visible self.old) }
         ensures answer { Answers (visible self.old) (visible self.new) result (turn_by reply.Committed (committed always_written session (visible self.old))) }
         ensures whole { IsWhole self.new }
     {
@@ -164,6 +168,7 @@ impl Whole {
     ) -> Result<Reply, NoMemory>
         requires whole { IsWhole self.old }
         requires session { session < SESSIONS }
+        requires ordered { AreKeyOrdered (visible self.old) }
         requires may { MayChange (visible self.old) session change.now }
         ensures answer { Answers (visible self.old) (visible self.new) result (bound_turn always_written [] session (bound.Change change.now) (visible self.old)) }
         ensures whole { IsWhole self.new }
@@ -181,6 +186,7 @@ impl Whole {
         requires session { session < SESSIONS }
         requires bound { IsBound (visible self.old).tables (visible self.old).views bound }
         requires small { IsSmallDb (transaction session (visible self.old)).own }
+        requires ordered { AreKeyOrdered (visible self.old) }
         requires changes { (transaction session (visible self.old)).changes < 2 ^ 32 - 1 }
         ensures answer { Answers (visible self.old) (visible self.new) result (bound_turn always_written [] session bound (visible self.old)) }
         ensures whole { IsWhole self.new }

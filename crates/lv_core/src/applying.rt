@@ -1,30 +1,20 @@
 //! Actions on rows that stand in the order of their keys.
-ghost use Rattle.std.specs.Prelude.{◌≡◌, ◌≤◌, length, not, IfOk, OnOk, OnErr};
-ghost use Rattle.std.specs.List.{insert};
+ghost use Rattle.std.specs.Prelude.{◌≡◌, IfOk, OnOk, OnErr};
 ghost use Rattle.lv_values.specs.Ascending.{placed};
 ghost use Rattle.lv_values.specs.Rows.{key_cmp};
-ghost use Rattle.lv_schema.specs.Effects.{same_key, acted_rows};
+ghost use Rattle.lv_schema.specs.Effects.{acted_rows};
 ghost use Rattle.lv_core.specs.Databases.{rows_after};
+ghost use Rattle.lv_core.specs.KeyOrder.{AreInKeyOrder};
 
+use crate::searching::{place_of, take_out};
 use lv_schema::{Action, ActionKind};
-use lv_values::{Copying, NoMemory, Row, Rows, Test, compare_keys};
+use lv_values::{Copying, NoMemory, Row, Rows};
 use std::alloc::Global;
 
-/// Where a row belongs among the others.
-fn place_of(key: &[u8], row: &Row, rows: &[Row]) -> usize
-    ensures within { result ≤ length rows.now }
-    ensures place { placed (key_cmp key.now) row.now rows.now ≡ insert rows.now result row.now }
-{
-    for (i, other) in rows.iter().enumerate() {
-        if !compare_keys(key, row, other).is_gt() {
-            return i;
-        }
-    }
-    rows.len()
-}
-
-/// Puts a row at its place among the others. Want of memory changes nothing. Cost: a pass over the rows.
+/// Puts a row at its place among the others. Want of memory changes nothing. Cost: a binary search, and a move of the
+/// rows behind.
 pub fn put(key: &[u8], row: Row, rows: &mut Rows) -> Result<(), NoMemory>
+    requires { AreInKeyOrder key.now rows.old }
     ensures put { OnOk result (rows.new ≡ placed (key_cmp key.now) row rows.old) }
     ensures refused { OnErr result (rows.new ≡ rows.old) }
 {
@@ -32,32 +22,16 @@ pub fn put(key: &[u8], row: Row, rows: &mut Rows) -> Result<(), NoMemory>
     rows.insert(at, row)
 }
 
-/// The test that a row has another key.
-#[derive(Drop)]
-struct OtherKey<'a> {
-    key: &'a [u8],
-    row: &'a Row,
-}
-
-impl Test<Row> for OtherKey<'_> {
-    ghost passed = { λ t other. not (same_key t.key.now t.row.now other) };
-
-    fn passes(&self, other: &Row) -> bool {
-        compare_keys(self.key, self.row, other).is_ne()
-    }
-}
-
-/// Does an action: an inserted row is put at its place, a deleted row goes. Cost: a pass over the rows.
+/// Does an action: an inserted row is put at its place, a deleted row goes. Cost: a binary search, and a move of the
+/// rows behind.
 fn act(alloc: Global, key: &[u8], action: &Action, rows: &mut Rows) -> Result<(), NoMemory>
+    requires { AreInKeyOrder key.now rows.old }
     ensures { OnOk result (rows.new ≡ acted_rows key.now action.now.kind action.now.row rows.old) }
 {
     match action.kind {
         ActionKind::Insert => put(key, action.row.copy(alloc)?, rows),
         ActionKind::Delete => {
-            rows.keep(&OtherKey {
-                key,
-                row: &action.row,
-            });
+            take_out(key, &action.row, rows);
             Ok(())
         }
     }
@@ -74,13 +48,15 @@ pub fn copy_rows(alloc: Global, rows: &[Row]) -> Result<Rows, NoMemory>
     Ok(copied)
 }
 
-/// A table's rows after actions on it. Cost: a copy of the rows, and a pass over them for each action.
+/// A table's rows after actions on it. Cost: a copy of the rows, and a binary search and a move of the rows behind for
+/// each action.
 pub fn after_actions(
     alloc: Global,
     key: &[u8],
     actions: &[Action],
     rows: &[Row],
 ) -> Result<Rows, NoMemory>
+    requires { AreInKeyOrder key.now rows.now }
     ensures { IfOk result (λ after. after ≡ rows_after key.now rows.now actions.now) }
 {
     let mut after = copy_rows(alloc, rows)?;

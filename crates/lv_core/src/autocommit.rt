@@ -2,6 +2,7 @@
 ghost use Rattle.std.specs.Prelude.{◌≡◌, ◌<◌, None, slice_index_or};
 ghost use Rattle.lv_schema.specs.Cases.{alone};
 ghost use Rattle.lv_plain.specs.LegalTurns.{always_written};
+ghost use Rattle.lv_core.specs.KeyOrder.{AreKeyOrdered};
 ghost use Rattle.lv_core.specs.Seen.{visible, IsWhole, MayChange};
 ghost use Rattle.lv_core.specs.Stops.{Meets};
 
@@ -25,6 +26,7 @@ impl Whole {
         requires whole { IsWhole self.old }
         requires session { session < SESSIONS }
         requires idle { slice_index_or self.old.sessions.items session None ≡ None }
+        requires ordered { AreKeyOrdered (visible self.old) }
         requires may { MayChange (visible self.old) session change.now }
         ensures case { Meets (visible self.old) (visible self.new) result (alone always_written session change.now (visible self.old)) }
         ensures whole { IsWhole self.new }

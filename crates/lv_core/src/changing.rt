@@ -1,11 +1,14 @@
 //! INSERT, UPDATE and DELETE in a transaction.
-ghost use Rattle.std.specs.Prelude.{◌≡◌, ◌<◌, ◌-◌, ◌^◌, true, OnOk, OnErr, length, IsSome, None, slice_index_or};
+ghost use Rattle.std.specs.Prelude.{◌≡◌, ◌<◌, ◌-◌, ◌^◌, true, [], IfOk, OnOk, OnErr, MatchOption, length, IsSome, None, slice_index_or};
 ghost use Rattle.lv_schema.specs.Cases.{changed};
 ghost use Rattle.lv_core.specs.Seen.{visible, IsWhole, MayChange};
 ghost use Rattle.lv_core.specs.Stops.{Meets};
 ghost use Rattle.lv_schema.specs.Databases.{rows_of};
 ghost use Rattle.lv_schema.specs.Effects.{changed_table};
-ghost use Rattle.lv_core.specs.Preparing.{GivesPrepared, with_prepared};
+ghost use Rattle.lv_schema.specs.World.{table_at};
+ghost use Rattle.lv_core.specs.KeyOrder.{AreInKeyOrder};
+ghost use Rattle.lv_core.specs.Databases.{rows_after};
+ghost use Rattle.lv_core.specs.Preparing.{GivesPrepared, with_prepared, with_table_rows};
 ghost use Rattle.lv_core.specs.Small.{AreSmallRows};
 ghost use Rattle.lv_core.specs.Sums.{has_short_amounts};
 
@@ -14,8 +17,8 @@ use crate::effects::effect;
 use crate::merging::rows_of;
 use crate::stop::Stop;
 use crate::whole::{SESSIONS, Whole};
-use lv_schema::{Action, Actions, Change, Open, Schema};
-use lv_values::{Edit, NoMemory, Rows};
+use lv_schema::{Action, Actions, Change, Database, Open, Schema};
+use lv_values::{Edit, NoMemory, Row, Rows};
 use std::alloc::Global;
 
 /// Gives an action the number of its statement.
@@ -45,17 +48,35 @@ pub fn table_of(change: &Change) -> u32
     }
 }
 
-/// A change that a transaction may keep: the number of rows, the table's rows after it, and its actions.
+/// A change that a transaction may keep: the number of rows, the table's rows after it where they change, and its
+/// actions.
 #[derive(Drop)]
 pub struct Prepared {
     pub count: u64,
     table: u32,
-    rows: Rows,
+    rows: Option<Rows>,
     actions: Actions,
 }
 
-/// What a change makes of a transaction, or why it is refused. Nothing is changed yet. Cost: as the change's effect, and
-/// a copy of the table.
+/// A table's rows after actions on it, none where there is no action. Cost: as `after_actions`, and nothing where there
+/// is no action.
+fn changed_rows(
+    alloc: Global,
+    key: &[u8],
+    actions: &[Action],
+    rows: &[Row],
+) -> Result<Option<Rows>, NoMemory>
+    requires { AreInKeyOrder key.now rows.now }
+    ensures { IfOk result (λ after. MatchOption after (actions.now ≡ []) (λ after. after ≡ rows_after key.now rows.now actions.now)) }
+{
+    if actions.is_empty() {
+        return Ok(None);
+    }
+    Ok(Some(after_actions(alloc, key, actions, rows)?))
+}
+
+/// What a change makes of a transaction, or why it is refused. Nothing is changed yet. Cost: as the change's effect; and
+/// where there is an action a copy of the table, and for each action a binary search and a move of the rows behind.
 pub fn prepare(
     alloc: Global,
     schema: &Schema,
@@ -65,6 +86,7 @@ pub fn prepare(
     requires table { changed_table change.now < length schema.now.tables }
     requires amounts { has_short_amounts change.now ≡ true }
     requires rows { AreSmallRows (rows_of transaction.now.own (changed_table change.now)) }
+    requires order { AreInKeyOrder (table_at schema.now.tables (changed_table change.now)).key (rows_of transaction.now.own (changed_table change.now)) }
     requires changes { transaction.now.changes < 2 ^ 32 - 1 }
     ensures { GivesPrepared schema.now.tables change.now transaction.now result }
 {
@@ -72,7 +94,7 @@ pub fn prepare(
     let def = schema.table(table);
     let rows = rows_of(&transaction.own, table);
     let (count, mut actions) = effect(alloc, def, change, rows)?;
-    let rows = after_actions(alloc, def.key.as_slice(), actions.as_slice(), rows)?;
+    let rows = changed_rows(alloc, def.key.as_slice(), actions.as_slice(), rows)?;
     actions.edit_each(&Numbering {
         statement: transaction.changes + 1,
     });
@@ -82,6 +104,19 @@ pub fn prepare(
         rows,
         actions,
     })
+}
+
+/// Gives a table other rows, if there are some.
+fn set_rows(database: &mut Database, table: u32, rows: Option<Rows>)
+    ensures { database.new ≡ with_table_rows table rows database.old }
+{
+    let Some(rows) = rows else {
+        return;
+    };
+    let table = table as usize;
+    if table < database.len() {
+        database.set(table, rows);
+    }
 }
 
 /// Keeps a change in a transaction. Want of memory changes nothing.
@@ -97,10 +132,7 @@ pub fn keep(transaction: &mut Open, prepared: Prepared) -> Result<(), NoMemory>
         actions,
     } = prepared;
     transaction.actions.append(actions)?;
-    let table = table as usize;
-    if table < transaction.own.len() {
-        transaction.own.set(table, rows);
-    }
+    set_rows(&mut transaction.own, table, rows);
     transaction.changes += 1;
     Ok(())
 }

@@ -5,6 +5,7 @@ ghost use Rattle.lv_schema.specs.Cases.{committed};
 ghost use Rattle.lv_schema.specs.Commits.{conflict_of, merged as merged_state};
 ghost use Rattle.lv_schema.specs.World.{last};
 ghost use Rattle.lv_plain.specs.LegalTurns.{always_written};
+ghost use Rattle.lv_core.specs.KeyOrder.{AreKeyOrdered};
 ghost use Rattle.lv_core.specs.Seen.{visible, IsWhole};
 ghost use Rattle.lv_core.specs.Stops.{Meets};
 
@@ -41,9 +42,11 @@ impl Whole {
     }
 
     /// The last state, with each key that the transaction wrote as the transaction has it. Cost: a copy of that state,
-    /// and a test for each pair of a row and an action.
+    /// a binary search for each row among the places that the actions write, and a move of the rows behind each row
+    /// that they write.
     fn merged_of(&self, alloc: Global, transaction: &Open) -> Result<Database, NoMemory>
-        requires { IsWhole self.now }
+        requires whole { IsWhole self.now }
+        requires ordered { AreKeyOrdered (visible self.now) }
         ensures { IfOk result (λ database. database ≡ merged_state (visible self.now) transaction.now) }
     {
         merged(
@@ -57,7 +60,8 @@ impl Whole {
 
     /// What a commit of this transaction would make. Nothing is changed.
     pub fn commit_of(&self, alloc: Global, transaction: &Open) -> Result<Commit, NoMemory>
-        requires { IsWhole self.now }
+        requires whole { IsWhole self.now }
+        requires ordered { AreKeyOrdered (visible self.now) }
         ensures { IfOk result (IsCommitOf (visible self.now) transaction.now) }
     {
         let conflict = self.conflict_of(alloc, transaction)?;
@@ -93,6 +97,7 @@ impl Whole {
     pub fn commit(&mut self, alloc: Global, session: usize) -> Result<Option<u64>, Stop>
         requires whole { IsWhole self.old }
         requires session { session < SESSIONS }
+        requires ordered { AreKeyOrdered (visible self.old) }
         requires live { IsSome (slice_index_or self.old.sessions.items session None) }
         ensures case { Meets (visible self.old) (visible self.new) result (committed always_written session (visible self.old)) }
         ensures whole { IsWhole self.new }

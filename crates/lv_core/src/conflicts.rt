@@ -1,38 +1,14 @@
 //! Conflicts: a key that the transaction writes and that a commit above its snapshot wrote. The first committer of a key
 //! wins (Berenson and others, SIGMOD 1995).
-ghost use Rattle.std.specs.Prelude.{◌≡◌, map, IfOk};
-ghost use Rattle.lv_schema.specs.World.{table_at};
+ghost use Rattle.std.specs.Prelude.{◌≡◌, IfOk};
 ghost use Rattle.lv_schema.specs.Commits.{written_place, writes, same_place};
 ghost use Rattle.lv_core.specs.Conflicts.{last_writer_in, conflict_in};
 
-use crate::effects::key_of;
-use crate::places::{Place, Places};
+use crate::places::Place;
+use crate::written::{key_positions, places_of};
 use lv_schema::{Action, Actions, Fault, Schema};
 use lv_values::{Copying, NoMemory, compare_to_key};
 use std::alloc::Global;
-
-/// The positions of a table's key, none where there is no such table.
-pub fn key_positions(schema: &Schema, table: u32) -> &[u8]
-    ensures { result.now ≡ (table_at schema.now.tables table).key }
-{
-    if table < schema.tables() {
-        schema.table(table).key.as_slice()
-    } else {
-        &[]
-    }
-}
-
-/// The places that actions write, one for each action.
-fn written_places(alloc: Global, schema: &Schema, actions: &[Action]) -> Result<Places, NoMemory>
-    ensures { IfOk result (λ places. places ≡ map (written_place schema.now.tables) actions.now) }
-{
-    let mut places = Places::new(alloc);
-    for action in actions {
-        let key = key_of(alloc, key_positions(schema, action.table), &action.row)?;
-        places.push(Place::new(action.table, key))?;
-    }
-    Ok(places)
-}
 
 /// Whether the action writes the place.
 #[tactic(auto, using(crate::proofs::PlaceLemmas::row_eq_turned))]
@@ -80,8 +56,7 @@ pub fn conflict(
 ) -> Result<Option<Fault>, NoMemory>
     ensures { IfOk result (λ fault. fault ≡ conflict_in schema.now.tables commits.now snapshot actions.now) }
 {
-    let mut places = written_places(alloc, schema, actions)?;
-    places.sort();
+    let places = places_of(alloc, schema, actions)?;
     for place in places.as_slice() {
         if let Some(commit) = last_writer(schema, commits, snapshot, place) {
             return Ok(Some(Fault::Conflict {

@@ -7,10 +7,15 @@ ghost use Rattle.lv_values.specs.Order.{number_of};
 ghost use Rattle.lv_values.specs.Rows.{value_in, values_at};
 ghost use Rattle.lv_schema.specs.Effects.{has_key, first_taken, matching, set_value, with_sets, updated, wide_number, first_wide, change_fault, effect_on};
 ghost use Rattle.lv_schema.specs.Truth.{holds};
+ghost use Rattle.lv_schema.specs.declared.change.Change.TheVariants.{Insert, Update, Delete};
+ghost use Rattle.lv_schema.specs.declared.table.TableDef.{TableDef as ATable};
 ghost use Rattle.lv_core.specs.Sums.{SumFits, RowSumsFit, SumsFit, ChangeSumsFit};
+ghost use Rattle.lv_core.specs.KeyOrder.{AreInKeyOrder};
 ghost use Rattle.lv_core.specs.Stops.{GivesEffect, insert_fault};
 ghost use Rattle.std.specs.Prelude.{◌+◌, nat_lt};
 
+use crate::fixing::rows_to_try;
+use crate::searching::contains_key;
 use crate::stop::{MOST_ROWS, Stop};
 use lv_schema::{Action, ActionKind, Actions, Change, Cond, Fault, Set, SetValue, TableDef, holds};
 use lv_values::{Copying, NoMemory, Row, Value, compare_keys};
@@ -40,11 +45,13 @@ fn has_key(key: &[u8], row: &Row, rows: &[Row]) -> bool
         .any(|other| compare_keys(key, row, other).is_eq())
 }
 
-/// Whether the row's key is taken, by an earlier row or by one of the table. Cost: a pass over both.
+/// Whether the row's key is taken, by an earlier row or by one of the table. Cost: a pass over the earlier rows, and a
+/// binary search.
 fn is_taken(key: &[u8], row: &Row, earlier: &[Row], rows: &[Row]) -> bool
+    requires { AreInKeyOrder key.now rows.now }
     ensures { result ≡ (has_key key.now row.now earlier.now || has_key key.now row.now rows.now) }
 {
-    has_key(key, row, earlier) || has_key(key, row, rows)
+    has_key(key, row, earlier) || contains_key(key, row, rows)
 }
 
 /// The key of the first new row whose key is taken.
@@ -54,6 +61,7 @@ fn first_taken(
     rows: &[Row],
     new: &[Row],
 ) -> Result<Option<Row>, NoMemory>
+    requires { AreInKeyOrder key.now rows.now }
     ensures { IfOk result (λ taken. taken ≡ first_taken key.now rows.now new.now) }
 {
     for (i, row) in new.iter().enumerate() {
@@ -279,6 +287,7 @@ fn insert_fault(
     new: &[Row],
     rows: &[Row],
 ) -> Result<Option<Fault>, NoMemory>
+    requires { AreInKeyOrder def.now.key rows.now }
     ensures { IfOk result (λ fault. fault ≡ insert_fault table def.now new.now rows.now) }
 {
     if let Some(key) = first_taken(alloc, def.key.as_slice(), rows, new)? {
@@ -290,35 +299,78 @@ fn insert_fault(
     Ok(None)
 }
 
+/// What an INSERT does. Cost: for each row a pass over the earlier ones, and a binary search.
+fn insert_effect(
+    alloc: Global,
+    table: u32,
+    def: &TableDef,
+    new: &[Row],
+    rows: &[Row],
+) -> Result<(u64, Actions), Stop>
+    requires { AreInKeyOrder def.now.key rows.now }
+    ensures { GivesEffect result (effect_on def.now (Insert table new.now) rows.now) }
+{
+    if let Some(fault) = insert_fault(alloc, table, def, new, rows)? {
+        return Err(Stop::Refused(fault));
+    }
+    Ok((new.len() as u64, inserts(alloc, table, new)?))
+}
+
+/// What an UPDATE does. Cost: three passes over the rows.
+fn update_effect(
+    alloc: Global,
+    table: u32,
+    sets: &[Set],
+    cond: &Cond,
+    rows: &[Row],
+) -> Result<(u64, Actions), Stop>
+    requires { SumsFit sets.now rows.now }
+    ensures { (def : ATable) → GivesEffect result (effect_on def (Update table sets.now cond.now) rows.now) }
+{
+    if let Some(number) = first_wide(sets, cond, rows) {
+        return Err(Stop::Refused(Fault::Range { number }));
+    }
+    Ok((count(cond, rows), updates(alloc, table, sets, cond, rows)?))
+}
+
+/// What a DELETE does. Cost: two passes over the rows.
+fn delete_effect(
+    alloc: Global,
+    table: u32,
+    cond: &Cond,
+    rows: &[Row],
+) -> Result<(u64, Actions), Stop>
+    ensures { (def : ATable) → GivesEffect result (effect_on def (Delete table cond.now) rows.now) }
+{
+    Ok((count(cond, rows), deletes(alloc, table, cond, rows)?))
+}
+
 /// What a change does to a table with these rows: the number of rows that it inserts, updates or deletes, and its
 /// actions, not numbered yet. Refused with a number out of range, a duplicate key or a full table, in this order.
-/// Cost: a pass over the table, for each row of an INSERT.
+/// Cost: an UPDATE or DELETE whose condition fixes every key column finds its rows by a binary search; another one
+/// tries every row. An INSERT searches the table for each of its rows, and passes over its rows before that one.
 pub fn effect(
     alloc: Global,
     def: &TableDef,
     change: &Change,
     rows: &[Row],
 ) -> Result<(u64, Actions), Stop>
-    requires { ChangeSumsFit change.now rows.now }
+    requires sums { ChangeSumsFit change.now rows.now }
+    requires order { AreInKeyOrder def.now.key rows.now }
     ensures { GivesEffect result (effect_on def.now change.now rows.now) }
 {
+    let key = def.key.as_slice();
     match change {
         Change::Insert { table, rows: new } => {
-            let new = new.as_slice();
-            if let Some(fault) = insert_fault(alloc, *table, def, new, rows)? {
-                return Err(Stop::Refused(fault));
-            }
-            Ok((new.len() as u64, inserts(alloc, *table, new)?))
+            insert_effect(alloc, *table, def, new.as_slice(), rows)
         }
         Change::Update { table, sets, cond } => {
-            let sets = sets.as_slice();
-            if let Some(number) = first_wide(sets, cond, rows) {
-                return Err(Stop::Refused(Fault::Range { number }));
-            }
-            Ok((count(cond, rows), updates(alloc, *table, sets, cond, rows)?))
+            let tried = rows_to_try(alloc, key, cond, rows)?;
+            update_effect(alloc, *table, sets.as_slice(), cond, tried)
         }
         Change::Delete { table, cond } => {
-            Ok((count(cond, rows), deletes(alloc, *table, cond, rows)?))
+            let tried = rows_to_try(alloc, key, cond, rows)?;
+            delete_effect(alloc, *table, cond, tried)
         }
     }
 }

@@ -181,7 +181,7 @@ fn line_left(program: &Program, session: usize, place: usize) -> &Text
 }
 
 /// Answers the next statement of a session of a run.
-#[tactic(auto, using(crate::proofs::Kept::place_there, crate::proofs::Kept::session_few, crate::proofs::Kept::place_left, crate::proofs::Kept::small_read, crate::proofs::Kept::changes_few))]
+#[tactic(auto, using(crate::proofs::Kept::place_there, crate::proofs::Kept::session_few, crate::proofs::Kept::place_left, crate::proofs::Kept::small_read, crate::proofs::Kept::ordered_read, crate::proofs::Kept::changes_few))]
 fn take_turn(
     alloc: Global,
     whole: &mut Whole,

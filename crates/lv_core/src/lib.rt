@@ -9,12 +9,16 @@ mod committing;
 mod conflicts;
 mod creating;
 mod effects;
+mod fixing;
 mod ledger;
 mod lines;
+mod machine;
 mod merging;
 mod places;
 mod query;
+mod searching;
 mod stop;
 mod whole;
+mod written;
 
-pub use ledger::Ledger;
+pub use machine::Core;

@@ -6,6 +6,7 @@ ghost use Rattle.lv_plain.specs.LegalTurns.{always_written};
 ghost use Rattle.lv_plain.specs.Turns.{Reading, turn};
 ghost use Rattle.lv_bind.specs.Reads.{IsReading};
 ghost use Rattle.lv_core.specs.Answering.{Answers};
+ghost use Rattle.lv_core.specs.KeyOrder.{AreKeyOrdered};
 ghost use Rattle.lv_core.specs.Named.{AreNamedStates, IsNamedReply};
 ghost use Rattle.lv_core.specs.Seen.{visible, IsWhole};
 ghost use Rattle.lv_core.specs.Small.{AreSmallStates, IsSmallDb};
@@ -28,11 +29,13 @@ impl Whole {
         requires session { session < SESSIONS }
         requires line { IsStatementLine line.now }
         requires small { IsSmallDb (transaction session (visible self.old)).own }
+        requires ordered { AreKeyOrdered (visible self.old) }
         requires changes { (transaction session (visible self.old)).changes < 2 ^ 32 - 1 }
         ensures answer { (reading : Reading) → IsReading reading → Answers (visible self.old) (visible self.new) result (turn reading always_written [] session line.now (visible self.old)) }
         ensures kept { OnErr result (visible self.new ≡ visible self.old) }
         ensures small { (places : List ℕ) → session < length places → AreSmallStates (visible self.old) places
             → OnOk result (AreSmallStates (visible self.new) (slice_set places session (slice_index places session + 1))) }
+        ensures ordered { OnOk result (AreKeyOrdered (visible self.new)) }
         ensures tables { OnOk result (length (visible self.old).tables ≤ length (visible self.new).tables) }
         ensures named { AreNamedStates (visible self.old) → OnOk result (AreNamedStates (visible self.new)) }
         ensures reply { AreNamedStates (visible self.old) → IfOk result (IsNamedReply (length (visible self.old).tables)) }

@@ -1,14 +1,17 @@
 //! What a commit makes of the last state: the rows that the transaction wrote are as it has them.
-ghost use Rattle.std.specs.Prelude.{◌≡◌, length, map, filter, not, ◌++◌, IfOk, OnOk};
+ghost use Rattle.std.specs.Prelude.{◌≡◌, length, map, filter, not, ◌++◌, ◌∷◌, [], IfOk, OnOk};
 ghost use Rattle.std.specs.List.{range_with_len};
 ghost use Rattle.lv_schema.specs.Databases.{rows_of};
-ghost use Rattle.lv_schema.specs.Commits.{merged_rows, with_rows};
-ghost use Rattle.lv_core.specs.Merging.{is_written, merged_with, first_full};
+ghost use Rattle.lv_schema.specs.Commits.{merged_rows, place_cmp, with_rows};
+ghost use Rattle.lv_core.specs.KeyOrder.{AreInKeyOrder, AreInOrder, IsKeyOrderedDb};
+ghost use Rattle.lv_core.specs.Merging.{has_place, merged_with, first_full};
 
 use crate::applying::put;
+use crate::places::Place;
 use crate::stop::MOST_ROWS;
+use crate::written::{has_place, places_of};
 use lv_schema::{Action, Database, Fault, Schema};
-use lv_values::{Copying, NoMemory, Row, Rows, compare_keys};
+use lv_values::{Copying, NoMemory, Row, Rows};
 use std::alloc::Global;
 
 /// The rows of a table, none where there is no such table.
@@ -21,66 +24,101 @@ pub fn rows_of(database: &Database, table: u32) -> &[Row]
     }
 }
 
-/// Whether one of the actions writes the row's key in the table.
-fn is_written(actions: &[Action], table: u32, key: &[u8], row: &Row) -> bool
-    ensures { result ≡ is_written actions.now table key.now row.now }
+/// Appends a row, where its place is not written.
+fn keep_where_not_written(
+    alloc: Global,
+    places: &[Place],
+    table: u32,
+    key: &[u8],
+    row: &Row,
+    rows: &mut Rows,
+) -> Result<(), NoMemory>
+    requires { AreInOrder place_cmp places.now }
+    ensures { OnOk result (rows.new ≡ rows.old
+        ++ filter (λ r. not (has_place places.now table key.now r)) (row.now ∷ [])) }
 {
-    actions.iter().any(|a| table == a.table && compare_keys(key, row, &a.row).is_eq())
+    if !has_place(places, table, key, row) {
+        return rows.push(row.copy(alloc)?);
+    }
+    Ok(())
 }
 
-/// Appends the rows whose keys the actions do not write.
+/// Appends the rows whose places are not written.
 fn keep_others(
     alloc: Global,
-    actions: &[Action],
+    places: &[Place],
     table: u32,
     key: &[u8],
     others: &[Row],
     rows: &mut Rows,
 ) -> Result<(), NoMemory>
-    ensures { OnOk result (rows.new ≡ rows.old ++ filter (λ row. not (is_written actions.now table key.now row)) others.now) }
+    requires { AreInOrder place_cmp places.now }
+    ensures { OnOk result (rows.new ≡ rows.old
+        ++ filter (λ row. not (has_place places.now table key.now row)) others.now) }
 {
     for row in others {
-        if !is_written(actions, table, key, row) {
-            rows.push(row.copy(alloc)?)?;
-        }
+        keep_where_not_written(alloc, places, table, key, row, rows)?;
     }
     Ok(())
 }
 
-/// Puts the rows whose keys the actions write among the others.
+/// Puts a row among the others, where its place is written.
+fn put_where_written(
+    alloc: Global,
+    places: &[Place],
+    table: u32,
+    key: &[u8],
+    row: &Row,
+    rows: &mut Rows,
+) -> Result<(), NoMemory>
+    requires places { AreInOrder place_cmp places.now }
+    requires rows { AreInKeyOrder key.now rows.old }
+    ensures { OnOk result (rows.new
+        ≡ with_rows key.now (filter (has_place places.now table key.now) (row.now ∷ [])) rows.old) }
+{
+    if has_place(places, table, key, row) {
+        return put(key, row.copy(alloc)?, rows);
+    }
+    Ok(())
+}
+
+/// Puts the rows whose places are written among the others.
 fn put_own(
     alloc: Global,
-    actions: &[Action],
+    places: &[Place],
     table: u32,
     key: &[u8],
     own: &[Row],
     rows: &mut Rows,
 ) -> Result<(), NoMemory>
-    ensures { OnOk result (rows.new ≡ with_rows key.now (filter (is_written actions.now table key.now) own.now) rows.old) }
+    requires places { AreInOrder place_cmp places.now }
+    requires rows { AreInKeyOrder key.now rows.old }
+    ensures { OnOk result (rows.new
+        ≡ with_rows key.now (filter (has_place places.now table key.now) own.now) rows.old) }
 {
     for row in own {
-        if is_written(actions, table, key, row) {
-            put(key, row.copy(alloc)?, rows)?;
-        }
+        put_where_written(alloc, places, table, key, row, rows)?;
     }
     Ok(())
 }
 
-/// A table's rows, where the keys that the actions write are as the transaction has them. Cost: a test for each pair of
-/// a row and an action.
+/// A table's rows, where the keys whose places are written are as the transaction has them. Cost: for each row a binary
+/// search among the places, and a move of the rows behind each one that is written.
 fn merged_table(
     alloc: Global,
-    actions: &[Action],
+    places: &[Place],
     table: u32,
     key: &[u8],
     own: &[Row],
     others: &[Row],
 ) -> Result<Rows, NoMemory>
-    ensures { IfOk result (λ rows. rows ≡ merged_rows key.now (is_written actions.now table key.now) own.now others.now) }
+    requires places { AreInOrder place_cmp places.now }
+    requires others { AreInKeyOrder key.now others.now }
+    ensures { IfOk result (λ rows. rows ≡ merged_rows key.now (has_place places.now table key.now) own.now others.now) }
 {
     let mut rows = Rows::new(alloc);
-    keep_others(alloc, actions, table, key, others, &mut rows)?;
-    put_own(alloc, actions, table, key, own, &mut rows)?;
+    keep_others(alloc, places, table, key, others, &mut rows)?;
+    put_own(alloc, places, table, key, own, &mut rows)?;
     Ok(rows)
 }
 
@@ -92,14 +130,16 @@ pub fn merged(
     own: &Database,
     others: &Database,
 ) -> Result<Database, NoMemory>
+    requires { IsKeyOrderedDb schema.now.tables others.now }
     ensures { IfOk result (λ db. db ≡ map (merged_with schema.now.tables actions.now own.now others.now) (range_with_len 0 (length schema.now.tables))) }
 {
+    let places = places_of(alloc, schema, actions)?;
     let mut database = Database::new(alloc);
     for table in 0..schema.tables() {
         let key = schema.table(table).key.as_slice();
         let rows = merged_table(
             alloc,
-            actions,
+            places.as_slice(),
             table,
             key,
             rows_of(own, table),

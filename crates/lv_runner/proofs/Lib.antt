@@ -1,5 +1,4 @@
-mod Ascii
-mod KeyOrder
-mod Loops
-mod OneAlias
-mod Pieces
+pub mod Unbuilt
+pub mod NoTasks
+pub mod FollowTurns
+pub mod Written

@@ -1,8 +1,5 @@
-pub mod Form
-pub mod Machine
+pub mod Built
+pub mod Following
 pub mod Output
-pub mod Reading
 pub mod Run
 pub mod Status
-pub mod Transcript
-pub mod Words

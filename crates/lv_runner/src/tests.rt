@@ -2,7 +2,7 @@
 
 use crate::{Status, run};
 use lv_outside::{MemSink, MemSource};
-use lv_values::{Bytes, Items, Text};
+use lv_values::{Bytes, Items, Text, print_natural};
 use std::test::Fail;
 
 const SCRIPT: &[u8] = b"@setup
@@ -67,6 +67,78 @@ fn each_call_fails(rt: HostRuntime) -> Result<(), Fail> {
     Ok(())
 }
 
+/// Scripts, each with what it prints or the line and the kind that refuse it.
+struct Case {
+    script: &'static str,
+    status: Status,
+    printed: &'static str,
+}
+
+const CASES: &[Case] = &[
+    // two sessions in turn: the first committer of a key wins
+    Case {
+        script: "@setup\ncreate table item (id int, price int, primary key (id))\n@session a\nbegin\ninsert into item values (1, 10)\ncommit\n@session b\nbegin\ninsert into item values (1, 11)\ncommit\nselect * from item\n@order a b a b a b b\n",
+        status: Status::Done,
+        printed: "setup 1 ok\na 1 begin 0\nb 1 begin 0\na 2 ok 1\nb 2 ok 1\na 3 commit 1\nb 3 fault 15 write conflict item (1) commit 1\nb 4 rows 1\n| 1 | 10\n",
+    },
+    // write skew is let through, own writes are seen, others' uncommitted ones are not
+    Case {
+        script: "@setup\ncreate table t (k int, primary key (k))\n@session a\nbegin\nselect * from t\ninsert into t values (1)\nselect * from t\ncommit\n@session b\nbegin\nselect * from t\ninsert into t values (2)\nselect * from t\ncommit\nselect * from t\n",
+        status: Status::Done,
+        printed: "setup 1 ok\na 1 begin 0\nb 1 begin 0\na 2 rows 0\nb 2 rows 0\na 3 ok 1\nb 3 ok 1\na 4 rows 1\n| 1\nb 4 rows 1\n| 2\na 5 commit 1\nb 5 commit 2\nb 6 rows 2\n| 1\n| 2\n",
+    },
+    // dirty read: what is written and not committed is not seen, and what is rolled back is gone
+    Case {
+        script: "@setup\ncreate table t (k int, primary key (k))\n@session a\nbegin\ninsert into t values (1)\nrollback\n@session b\nselect * from t\nselect * from t\n@order a a b a b\n",
+        status: Status::Done,
+        printed: "setup 1 ok\na 1 begin 0\na 2 ok 1\nb 1 rows 0\na 3 rollback\nb 2 rows 0\n",
+    },
+    // fuzzy read and phantom: what is committed meanwhile is seen by key and by condition only after the transaction
+    Case {
+        script: "@setup\ncreate table t (k int, primary key (k))\n@session a\nbegin\nselect * from t where k = 2\nselect * from t where k > 0\nselect * from t where k = 2\nselect * from t where k > 0\ncommit\nselect * from t where k > 0\n@session b\ninsert into t values (2), (1)\n@order a a a b a a a a\n",
+        status: Status::Done,
+        printed: "setup 1 ok\na 1 begin 0\na 2 rows 0\na 3 rows 0\nb 1 ok 2 commit 1\na 4 rows 0\na 5 rows 0\na 6 commit\na 7 rows 2\n| 1\n| 2\n",
+    },
+    // a snapshot begins with BEGIN, not with the first read
+    Case {
+        script: "@setup\ncreate table t (k int, primary key (k))\n@session a\nbegin\nselect * from t\n@session b\ninsert into t values (1)\n@order a b a\n",
+        status: Status::Done,
+        printed: "setup 1 ok\na 1 begin 0\nb 1 ok 1 commit 1\na 2 rows 0\n",
+    },
+    // what is not built yet, at its line, and a fault of the script before it
+    Case {
+        script: "@setup\n@session a\nbegin\nshow tasks\n",
+        status: Status::Script { line: 4, kind: 0 },
+        printed: "",
+    },
+    Case {
+        script: "@session a\nbegin\n@order clean\n@order z\n",
+        status: Status::Script { line: 4, kind: 10 },
+        printed: "",
+    },
+    // no statement, and no script
+    Case {
+        script: "",
+        status: Status::Done,
+        printed: "",
+    },
+    Case {
+        script: "select * from t\n",
+        status: Status::Script { line: 1, kind: 5 },
+        printed: "",
+    },
+];
+
+#[test]
+fn scripts_run(rt: HostRuntime) -> Result<(), Fail> {
+    for case in CASES {
+        let (status, sink) = run_on(&rt, case.script.as_bytes(), &[], &[])?;
+        assert_eq!(rt; status, case.status);
+        assert_eq!(rt; sink.written(), case.printed.as_bytes());
+    }
+    Ok(())
+}
+
 #[test]
 fn words_are_refused(rt: HostRuntime) -> Result<(), Fail> {
     let alloc = rt.alloc();
@@ -79,71 +151,14 @@ fn words_are_refused(rt: HostRuntime) -> Result<(), Fail> {
     Ok(())
 }
 
-/// Scripts outside the form: the number of the first line of `SCRIPT` that is left out, what comes in place of it and
-/// those after it, and the line that breaks the form.
-const OUTSIDE: [(usize, &str, u64); 22] = [
-    (1, "", 1),
-    (1, "@setup", 1),
-    (1, "@setup \n", 1),
-    (1, "@setup\r\n", 1),
-    (2, "", 2),
-    (2, "create table key (id int, primary key (id))\n", 2),
-    (
-        2,
-        "create table item (id int, price int, primary key (price))\n",
-        2,
-    ),
-    (
-        2,
-        "create table item (id int, id int, primary key (id))\n",
-        2,
-    ),
-    (2, "create table item (primary key (id))\n", 2),
-    (3, "create view cheap as select price from item\n", 3),
-    (3, "create view item as select price, id from item\n", 3),
-    (3, "create view cheap as select cost, id from item\n", 3),
-    (3, "create view cheap as select id, id from item\n", 3),
-    (4, "@session w1\n", 4),
-    (4, "@session a", 4),
-    (5, "insert into item values (1)\n", 5),
-    (5, "insert into item values (1, 9223372036854775808)\n", 5),
-    (5, "insert into item values (1, 00000000000000000001)\n", 5),
-    (6, "select * from item\n", 6),
-    (7, "\n", 7),
-    (8, "select * from cheap", 8),
-    (9, "x", 9),
-];
-
-/// The lines of the script before this one.
-fn lines_before(script: &[u8], line: usize) -> &[u8] {
-    let mut number = 1;
-    for (i, byte) in script.iter().enumerate() {
-        if number >= line {
-            return &script[..i];
-        }
-        if *byte == b'\n' {
-            number += 1;
-        }
+/// The first lines of `SCRIPT`, and then this text.
+fn script_with(rt: &HostRuntime, lines: usize, end: &str) -> Result<Bytes, Fail> {
+    let mut script = Bytes::new(rt.alloc());
+    for line in SCRIPT.split_inclusive(|byte| *byte == b'\n').take(lines) {
+        script.extend_from_slice(line)?;
     }
-    script
-}
-
-/// The lines of `SCRIPT` before this one, and then this text.
-fn script_with(rt: &HostRuntime, line: usize, end: &str) -> Result<Bytes, Fail> {
-    let mut script = Bytes::from_slice(rt.alloc(), lines_before(SCRIPT, line))?;
     script.extend_from_slice(end.as_bytes())?;
     Ok(script)
-}
-
-#[test]
-fn lines_that_break_the_form(rt: HostRuntime) -> Result<(), Fail> {
-    for (before, end, line) in OUTSIDE {
-        let script = script_with(&rt, before, end)?;
-        let (status, sink) = run_on(&rt, script.as_slice(), &[], &[])?;
-        assert_eq!(rt; status, Status::Script { line, kind: 0 }, "{end}");
-        assert!(rt; sink.written().is_empty());
-    }
-    Ok(())
 }
 
 #[test]
@@ -153,7 +168,7 @@ insert into item values (-0, 007)
 insert into item values (0, 1)
 select * from cheap
 ";
-    let script = script_with(&rt, 5, end)?;
+    let script = script_with(&rt, 4, end)?;
     let (status, sink) = run_on(&rt, script.as_slice(), &[], &[])?;
     let text = b"setup 1 ok
 setup 2 ok
@@ -171,7 +186,7 @@ a 4 rows 2
 
 #[test]
 fn a_thousand_statements(rt: HostRuntime) -> Result<(), Fail> {
-    let mut script = script_with(&rt, 5, "")?;
+    let mut script = script_with(&rt, 4, "")?;
     for _ in 0..1000 {
         script.extend_from_slice(b"select * from cheap\n")?;
     }
@@ -192,10 +207,81 @@ fn a_thousand_statements(rt: HostRuntime) -> Result<(), Fail> {
 
 #[test]
 fn a_script_too_long(rt: HostRuntime) -> Result<(), Fail> {
-    for (len, kind, line) in [(16777216, 0, 1), (16777217, 2, 0)] {
+    for (len, kind, line) in [(16777216, 3, 1), (16777217, 2, 0)] {
         let script = vec![in rt.alloc(); b'x'; len]?;
         let (status, _) = run_on(&rt, script.as_slice(), &[], &[])?;
         assert_eq!(rt; status, Status::Script { line, kind }, "{len} bytes");
     }
+    Ok(())
+}
+
+/// Adds 33 lines with this head and end, numbered in between, and what the setup answers: the 33rd passes a limit.
+fn past_a_limit(
+    lines: (&str, &str),
+    before: u64,
+    refused: &str,
+    script: &mut Bytes,
+    printed: &mut Bytes,
+) -> Result<(), Fail> {
+    for number in 1..34 {
+        script.extend_from_slice(lines.0.as_bytes())?;
+        print_natural(number, script)?;
+        script.extend_from_slice(lines.1.as_bytes())?;
+        printed.extend_from_slice(b"setup ")?;
+        print_natural(before.saturating_add(number), printed)?;
+        let answer = if number < 33 { " ok\n" } else { refused };
+        printed.extend_from_slice(answer.as_bytes())?;
+    }
+    Ok(())
+}
+
+#[test]
+fn limits_of_the_schema(rt: HostRuntime) -> Result<(), Fail> {
+    let mut script = Bytes::from_slice(rt.alloc(), b"@setup\n")?;
+    let mut printed = Bytes::new(rt.alloc());
+    let table = ("create table t", " (k int, primary key (k))\n");
+    let refused = " fault 6 limit tables 32\n";
+    past_a_limit(table, 0, refused, &mut script, &mut printed)?;
+    let view = ("create view v", " as select k from t1\n");
+    let refused = " fault 6 limit views 32\n";
+    past_a_limit(view, 33, refused, &mut script, &mut printed)?;
+    let (status, sink) = run_on(&rt, script.as_slice(), &[], &[])?;
+    assert_eq!(rt; status, Status::Done);
+    assert_eq!(rt; sink.written(), printed.as_slice());
+    Ok(())
+}
+
+/// Adds an INSERT of this many keys, from the first one on.
+fn insert_keys(first: u64, keys: u64, script: &mut Bytes) -> Result<(), Fail> {
+    script.extend_from_slice(b"insert into big values (")?;
+    print_natural(first, script)?;
+    for more in 1..keys {
+        script.extend_from_slice(b"), (")?;
+        print_natural(first.saturating_add(more), script)?;
+    }
+    script.extend_from_slice(b")\n")?;
+    Ok(())
+}
+
+/// Two transactions insert one row each where the table has room for one more row: the second commit is refused.
+#[test]
+fn the_last_row_of_a_table(rt: HostRuntime) -> Result<(), Fail> {
+    let setup = b"@setup\ncreate table big (k int, primary key (k))\n@session fill\n";
+    let mut script = Bytes::from_slice(rt.alloc(), setup)?;
+    for thousand in 0..65 {
+        insert_keys(1000 * thousand, 1000, &mut script)?;
+    }
+    insert_keys(65000, 534, &mut script)?;
+    script.extend_from_slice(b"@session a\nbegin\ninsert into big values (70000)\ncommit\n")?;
+    script.extend_from_slice(b"@session b\nbegin\ninsert into big values (-1)\ncommit\n")?;
+    script.extend_from_slice(b"@order")?;
+    for _ in 0..66 {
+        script.extend_from_slice(b" fill")?;
+    }
+    let (status, sink) = run_on(&rt, script.as_slice(), &[], &[])?;
+    let end = b"fill 66 ok 534 commit 66\na 1 begin 66\nb 1 begin 66\na 2 ok 1\nb 2 ok 1\n\
+        a 3 commit 67\nb 3 fault 16 table full at commit big\n";
+    assert_eq!(rt; status, Status::Done);
+    assert!(rt; sink.written().ends_with(end));
     Ok(())
 }

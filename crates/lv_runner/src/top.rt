@@ -1,35 +1,25 @@
 //! The top call.
-ghost use Rattle.std.specs.Prelude.{◌≡◌, ◌≤◌, ◌<◌, ◌↔◌, ◌^◌, ℕ, IfOk, Ok, Err, IsTrue, length};
+ghost use Rattle.std.specs.Prelude.{◌≡◌, ◌≤◌, ◌<◌, ◌↔◌, ℕ, IsTrue, length};
 ghost use Rattle.std.specs.Io.KnownBytes.{Keeps};
 ghost use Rattle.lv_outside.specs.Causes.{Rose};
-ghost use Rattle.lv_runner.specs.Output.{limit, output_of};
 ghost use Rattle.lv_runner.specs.Run.{Did, DidPart, Refused};
 
-use crate::script::{FormFault, read_script};
+use crate::output::{OutputFault, output};
 use crate::status::Status;
-use crate::transcript::text_of;
 use lv_outside::{Ended, ReadFault, Sink, Source, read_whole, write_whole};
-use lv_values::{Bytes, Text};
+use lv_values::Text;
 use std::alloc::Global;
 
 /// The most bytes of a script.
 const LIMIT: usize = 16777216;
 
-/// What is written for the bytes of a script, or the line that breaks the form.
-fn output(alloc: Global, bytes: &[u8]) -> Result<Bytes, FormFault>
-    requires { length bytes.now ≤ limit }
-    ensures gives { IfOk result (λ text. output_of bytes.now ≡ Ok text) }
-    ensures refuses { (line : ℕ) → result ≡ Err (FormFault.Line line) → output_of bytes.now ≡ Err (line, 0) }
-{
-    let form = read_script(alloc, bytes)?;
-    Ok(text_of(alloc, &form)?)
-}
-
 /// Reads a script and writes its transcript.
 ///
-/// The script is one table of whole numbers, one view of some of its columns, and one session of INSERTs and of
-/// SELECTs of the view; the transcript says what each statement is answered. The whole text stands before the first
-/// write, so want of memory writes nothing. Cost: linear in the script, and what each statement takes.
+/// The statements of the setup and the sessions are answered in the order of the program's schedule, each transaction on
+/// the snapshot at its start with its own writes, and each view by its definition over the snapshot that a query reads.
+/// The whole text stands before the first write, so want of memory writes nothing. Cost: linear in the script, and what
+/// each statement takes.
+#[tactic(auto, using(crate::proofs::Written::past_limit))]
 pub fn run<S: Source, K: Sink>(
     alloc: Global,
     words: &[Text],
@@ -50,18 +40,16 @@ pub fn run<S: Source, K: Sink>(
     if !words.is_empty() {
         return Status::Words;
     }
-    let (bytes, ended) = match read_whole(alloc, source, LIMIT) {
-        Ok(read) => read,
+    let bytes = match read_whole(alloc, source, LIMIT) {
+        Ok((bytes, Ended::AtEnd)) => bytes,
+        Ok((_, Ended::PastLimit)) => return Status::Script { line: 0, kind: 2 },
         Err(ReadFault::Failed) => return Status::SourceFault,
         Err(ReadFault::NoMemory) => return Status::NoMemory,
     };
-    if ended == Ended::PastLimit {
-        return Status::Script { line: 0, kind: 2 };
-    }
     let text = match output(alloc, bytes.as_slice()) {
         Ok(text) => text,
-        Err(FormFault::Line(line)) => return Status::Script { line, kind: 0 },
-        Err(FormFault::NoMemory) => return Status::NoMemory,
+        Err(OutputFault::Script { line, kind }) => return Status::Script { line, kind },
+        Err(OutputFault::NoMemory) => return Status::NoMemory,
     };
     if write_whole(sink, text.as_slice()).is_err() || sink.flush().is_err() {
         return Status::SinkFault;

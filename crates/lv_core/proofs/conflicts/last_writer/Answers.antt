@@ -1,7 +1,7 @@
 use Rattle.std.proofs.Common.{◌≡◌, true, arith, sym, ◌∙◌, ap}
 use Rattle.lv_schema.specs.Commits.{writes}
 use Rattle.lv_core.specs.Conflicts.{is_writer}
-use Rattle.lv_core.proofs.PlaceLemmas.{last_at, last_below, none_pass, writer_here, no_writer}
+use Rattle.lv_core.proofs.PlaceLemmas.{last_at, none_pass, writer_here, no_writer}
 use Rattle.lv_core.proofs.conflicts.last_writer.Goals as goal
 
 pub returns-then-writes : goal.returns-then-writes

@@ -1,4 +1,4 @@
-use Rattle.std.proofs.Common.{◌≡◌, ◌∙◌, sym, subst}
+use Rattle.std.proofs.Common.{◌∙◌, sym, subst}
 use Rattle.std.proofs.lemmas.List.{drop_more}
 use Rattle.lv_core.specs.Sums.{SumsFit}
 use Rattle.lv_core.proofs.Matching.{wide_step, first_some, first_none}

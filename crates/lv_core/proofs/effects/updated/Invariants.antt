@@ -1,5 +1,4 @@
 use Rattle.std.proofs.Common.{◌≡◌, drop}
-use Rattle.std.specs.List.{AllByRecursion}
 use Rattle.lv_schema.specs.Effects.{with_sets}
 use Rattle.lv_core.specs.Sums.{RowSumsFit}
 use Rattle.lv_core.proofs.effects.updated.Given as goal

@@ -1,4 +1,4 @@
-use Rattle.std.proofs.Common.{◌≡◌, ◌∷◌, ◌+◌, drop, ap, sym, ◌∙◌, subst}
+use Rattle.std.proofs.Common.{subst}
 use Rattle.std.proofs.lemmas.List.{drop_more}
 use Rattle.lv_core.specs.Sums.{SumsFit}
 use Rattle.lv_core.specs.TableActions.{update_actions}

@@ -23,4 +23,4 @@ returns-clause-done c =
     took_turn old c.args.session c.place_of-place.result c.in_ok-reply.reply next c.new-forced.result c.set.new.self c.push.new.self.list c.requires.run c.requires.may
     at c.new-forced.ensures c.set.ensures added
     (next_answered old c.args.session c.place_of-place.result c.line_left-line.result.now c.in_ok-reply.reply next at c.line_left-line.ensures.line (λ reading known. c.in_ok-reply.ensures.answer reading known))
-    (c.in_ok-reply.ensures.small c.args.places.now there c.requires.run.small) (c.in_ok-reply.ensures.named c.requires.run.named) c.in_ok-reply.ensures.tables (c.in_ok-reply.ensures.reply c.requires.run.named)
+    (c.in_ok-reply.ensures.small c.args.places.now there c.requires.run.small) c.in_ok-reply.ensures.ordered (c.in_ok-reply.ensures.named c.requires.run.named) c.in_ok-reply.ensures.tables (c.in_ok-reply.ensures.reply c.requires.run.named)

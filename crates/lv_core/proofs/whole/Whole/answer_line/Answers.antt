@@ -1,13 +1,17 @@
 use Rattle.std.proofs.Common.{Err, ap, length, subst, sym}
 use Rattle.lv_core.specs.Named.{IsNamedFault}
 use Rattle.lv_core.specs.Seen.{visible}
-use Rattle.lv_core.proofs.AnsweredLines.{kept_answer, small_answer, tables_answer, named_answer, reply_answer, shown_named}
+use Rattle.lv_core.proofs.AnsweredLines.{kept_answer, small_answer, tables_answer, named_answer, ordered_answer, reply_answer, shown_named}
 use Rattle.lv_core.proofs.whole.Whole.answer_line.Goals as goal
 
 pub returns-in-Ok-clause-small : goal.returns-in-Ok-clause-small
 returns-in-Ok-clause-small c places lt small =
     small_answer (visible c.args.self.now) (visible c.answer.new.self) c.args.session c.in-Ok.bound c.answer.result places c.answer.ensures.answer
     c.tables-tables.ensures.sound c.in-Ok.ensures.bound lt small
+
+pub returns-in-Ok-clause-ordered : goal.returns-in-Ok-clause-ordered
+returns-in-Ok-clause-ordered c =
+    ordered_answer (visible c.args.self.now) (visible c.answer.new.self) c.args.session c.in-Ok.bound c.answer.result c.answer.ensures.answer c.requires.ordered
 
 pub returns-in-Ok-clause-tables : goal.returns-in-Ok-clause-tables
 returns-in-Ok-clause-tables c = tables_answer (visible c.args.self.now) (visible c.answer.new.self) c.args.session c.in-Ok.bound c.answer.result c.answer.ensures.answer

@@ -1,6 +1,4 @@
 use Rattle.std.proofs.Common.{◌≡◌}
-use Rattle.std.specs.Prelude.{Option}
-use Rattle.lv_schema.specs.declared.fault.Fault.{Fault}
 use Rattle.lv_schema.specs.Commits.{conflict_of}
 use Rattle.lv_core.specs.Seen.{visible}
 use Rattle.lv_core.specs.Conflicts.{conflict_in}

@@ -1,0 +1,7 @@
+-- What a core holds of its run.
+use Rattle.lv_core.specs.declared.machine.Core.{Core}
+use Rattle.lv_core.specs.Run.{CoreView}
+
+-- its program, what statements see, how many are answered, and the entries
+abbrev pub run_of : Core → CoreView
+run_of core = core.ledger

@@ -1,7 +1,0 @@
-use Rattle.std.proofs.Common.{◌≡◌, ◌++◌, drop}
-use Rattle.std.specs.List.{flat_map}
-use Rattle.lv_values.specs.Print.{row_line}
-use Rattle.lv_runner.proofs.transcript.print_lines.Given as goal
-
-abbrev pub invariant-loop-row : goal.invariant-loop-row
-invariant-loop-row l = l.out ++ flat_map row_line (drop l.row-index l.rows) ≡ l.initial.out ++ flat_map row_line l.initial.rows
