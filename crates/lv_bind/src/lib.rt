@@ -11,6 +11,8 @@ mod entries;
 mod in_use;
 mod kinds;
 mod laws;
+#[cfg(test)]
+mod limit_cases;
 mod limits;
 mod pieces;
 mod profile;

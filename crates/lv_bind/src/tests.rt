@@ -1,8 +1,7 @@
 //! Lines, and how each is answered against one schema.
 
-use crate::cases::{
-    AMBIGUOUS, BOUND, IN_USE, KINDS, LIMITS, LONG, PROFILE, RIGHTS, SETS, SEVERAL, UNKNOWN,
-};
+use crate::cases::{AMBIGUOUS, BOUND, IN_USE, KINDS, PROFILE, RIGHTS, SETS, SEVERAL, UNKNOWN};
+use crate::limit_cases::{LIMITS, LONG};
 use crate::sample::sample_schema;
 use crate::{BindFault, bind};
 use lv_parser::{ParseFault, parse};

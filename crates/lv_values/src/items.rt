@@ -102,6 +102,15 @@ impl<T> Items<T> {
         self.items.pop()
     }
 
+    /// Puts an element in the place of another one, and hands that one out. Cost: constant.
+    pub fn replace(&mut self, at: usize, item: T) -> T
+        requires { at < length self.old }
+        ensures taken { result ≡ slice_index_or self.old at result }
+        ensures replaced { self.new ≡ slice_set self.old at item }
+    {
+        std::mem::replace(&mut self.items[at], item)
+    }
+
     /// Exchanges the elements at two places.
     pub fn swap(&mut self, a: usize, b: usize)
         requires first { a < length self.old }

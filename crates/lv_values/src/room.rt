@@ -3,6 +3,7 @@ ghost use Rattle.std.specs.Prelude.{◌≡◌, ◌≤◌, ◌<◌, ◌+◌, ◌�
 ghost use Rattle.std.specs.List.{insert, remove};
 
 use crate::edits::{Edit, Test, edit_all, keep_passing};
+use crate::items::Items;
 use crate::memory::NoMemory;
 use std::alloc::Global;
 use std::marker::Model;
@@ -34,6 +35,23 @@ impl<T> Room<T> {
         Room {
             items: Vec::new(alloc),
         }
+    }
+
+    /// The elements of a list, with the room that it has. Cost: constant.
+    pub fn from_items(items: Items<T>) -> Self
+        ensures { result.list ≡ items }
+    {
+        Room {
+            items: items.into_vec(),
+        }
+    }
+
+    /// The elements as a list. Cost: constant.
+    pub fn into_items(self) -> Items<T>
+        ensures { result ≡ self.list }
+    {
+        let Room { items } = self;
+        Items::from_vec(items)
     }
 
     /// The number of elements.
