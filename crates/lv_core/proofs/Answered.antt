@@ -1,7 +1,7 @@
 -- What answers rest on.
 use Rattle.std.proofs.Common.{◌≡◌, ℕ, ◌<◌, Bool, true, false, ◌&&◌, not, List, [], ◌∷◌, length, refl}
 use Rattle.std.specs.Prelude.{◌^◌, ◌-◌, ◌==◌, if◌then◌else◌, nat_lt, nat_abs, Option, Some, None, slice_get, slice_index_or, unwrap_or}
-use Rattle.std.specs.List.{list_all}
+use Rattle.std.specs.List.{list_all, list_any}
 use Rattle.lv_schema.specs.declared.change.Change.{Change}
 use Rattle.lv_schema.specs.declared.change.Change.TheVariants.{Insert, Update, Delete}
 use Rattle.lv_schema.specs.declared.change.Set.{Set}
@@ -16,6 +16,7 @@ use Rattle.lv_schema.specs.Cases.{Outcome, answered, closed, committed, committe
 use Rattle.lv_schema.specs.Commits.{conflict_of, merged_full}
 use Rattle.lv_schema.specs.Effects.{changed_table, first_fault}
 use Rattle.lv_schema.specs.World.{Visible, opened, table_at, transaction}
+use Rattle.lv_core.specs.Editing.{leaves_key}
 use Rattle.lv_core.specs.KeyOrder.{AreKeyOrdered}
 use Rattle.lv_core.specs.Seen.{MayChange}
 use Rattle.lv_core.specs.Small.{IsSmallDb}
@@ -66,6 +67,19 @@ short_change tables (Insert table rows) is = refl
 short_change tables (Update table sets c) is = short_sets (table_at tables table) sets is.2
 short_change tables (Delete table c) is = refl
 
+spares_key : (def : TableDef) (sets : List Set) → list_all (is_bound_set def) sets ≡ true → list_all (λ s. not (list_any (λ at. at == s.column) def.key)) sets ≡ true
+spares_key def [] e = refl
+spares_key def (s ∷ sets) e =
+    both (right (column_set def.columns (slice_get def.columns s.column) s.value) _ (left (is_bound_set def s) _ e)) (spares_key def sets (right (is_bound_set def s) _ e))
+  where
+    both : {a b : Bool} → a ≡ true → b ≡ true → (a && b) ≡ true
+    both f g = λ i. f i && g i
+
+pub change_leaves_key : (tables : List TableDef) (change : Change) → IsBoundChange tables change → leaves_key (table_at tables (changed_table change)).key change ≡ true
+change_leaves_key tables (Insert table rows) is = refl
+change_leaves_key tables (Update table sets c) is = spares_key (table_at tables table) sets is.2
+change_leaves_key tables (Delete table c) is = refl
+
 bound_in_use : (tables : List TableDef) (change : Change) → IsBoundChange tables change → changed_table change < length tables
 bound_in_use tables (Insert table rows) is = is.0
 bound_in_use tables (Update table sets c) is = is.0
@@ -75,6 +89,7 @@ pub may_change : (session : ℕ) (s : Visible) (change : Change) → IsBoundChan
     → AreKeyOrdered s → (transaction session s).changes < 2 ^ 32 - 1 → MayChange s session change
 may_change session s change is small ordered changes = record {
   table = bound_in_use s.tables change is;
+  key = change_leaves_key s.tables change is;
   amounts = short_change s.tables change is;
   rows = rows_small (transaction session s).own (changed_table change) small;
   order = rows_ordered s.tables (transaction session s).own (changed_table change) (transaction_ordered session s ordered);

@@ -10,8 +10,8 @@ use Rattle.lv_schema.specs.declared.open.Open.{Open}
 use Rattle.lv_schema.specs.Cases.{Case, answered, closed, with_session, with_change, changed, changed_by, committed, committed_unless, refused, alone, alone_committed, with_count}
 use Rattle.lv_schema.specs.Commits.{merged}
 use Rattle.lv_schema.specs.Databases.{Db}
-use Rattle.lv_schema.specs.Effects.{Effect, effect_of}
-use Rattle.lv_schema.specs.World.{Visible, last, opened, transaction}
+use Rattle.lv_schema.specs.Effects.{Effect, changed_table, effect_of}
+use Rattle.lv_schema.specs.World.{Visible, last, opened, table_at, transaction}
 use Rattle.lv_plain.specs.LegalTurns.{always_written}
 use Rattle.lv_core.specs.Committing.{IsCommitOf, rollback_fault, with_next}
 use Rattle.lv_core.specs.Preparing.{GivesPrepared, IsPrepared, with_prepared}
@@ -116,13 +116,13 @@ pub record IsKept (s : Visible) (change : Change) (count : ℕ) (o : Open) : Typ
   pub count_is : count ≡ effect.count
   pub kept : o ≡ with_change s.tables effect.actions (opened s)
 
-pub kept_is : (s : Visible) (change : Change) (p : Prepared) (o now : Open) → o ≡ opened s → IsPrepared s.tables change o p → now ≡ with_prepared p o
-    → IsKept s change p.count now
-kept_is s change p o now at prepared is = record {
+pub kept_is : (s : Visible) (change : Change) (t : ℕ) (key : List ℕ) (p : Prepared) (o now : Open) → o ≡ opened s → IsPrepared s.tables change o p
+    → t ≡ changed_table change → key ≡ (table_at s.tables t).key → now ≡ with_prepared key p o → IsKept s change p.count now
+kept_is s change t key p o now at prepared of is_key is = record {
   effect = prepared.effect;
   given = ap (λ (t : Open). effect_of s.tables change t.own) (sym at) ∙ prepared.given;
   count_is = prepared.count;
-  kept = is ∙ prepared.kept ∙ ap (with_change s.tables prepared.effect.actions) at;
+  kept = is ∙ ap (λ k. with_prepared k p o) (is_key ∙ ap (λ n. (table_at s.tables n).key) of) ∙ prepared.kept ∙ ap (with_change s.tables prepared.effect.actions) at;
 }
 
 alone_is : (s : Visible) (session : ℕ) (change : Change) (count : ℕ) (o : Open) (c : Case (Option ℕ)) → session < length s.sessions → IsKept s change count o

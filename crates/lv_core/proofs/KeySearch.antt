@@ -1,10 +1,10 @@
 -- What a binary search among rows in the order of their keys finds.
-use Rattle.std.proofs.Common.{◌≡◌, ℕ, zero, suc, ◌<◌, ◌≤◌, Bool, true, false, cond, List, [], ◌∷◌, length, length-drop, take, drop, get_or, filter, refl, sym, ap, ◌∙◌, arith}
+use Rattle.std.proofs.Common.{◌≡◌, ℕ, zero, suc, ◌+◌, ◌<◌, ◌≤◌, Bool, true, false, cond, List, [], ◌∷◌, length, length-drop, map, set, take, drop, get_or, filter, refl, sym, ap, ◌∙◌, arith}
 use Rattle.std.specs.Prelude.{◌||◌, ◌-◌, not, slice_get}
 use Rattle.std.specs.List.{AllByRecursion, insert, remove}
 use Rattle.std.specs.List.Sorted.{IsPartitionPoint, IsPartitionedBy}
 use Rattle.std.specs.Ordering.{is_eq, is_gt, is_le, is_lt, ordering_reverse}
-use Rattle.std.proofs.lemmas.List.{take_all}
+use Rattle.std.proofs.lemmas.List.{length-map, take_all}
 use Rattle.std.proofs.lemmas.List.Folds.{list_any_at}
 use Rattle.std.proofs.lemmas.Cmp.{tied_itself, upto}
 use Rattle.std.specs.declared.cmp.Ordering.{Ordering}
@@ -15,6 +15,7 @@ use Rattle.lv_values.specs.Order.{row_cmp}
 use Rattle.lv_values.specs.OrderLaws.{row_exact, row_total}
 use Rattle.lv_values.specs.Rows.{key_cmp, values_at}
 use Rattle.lv_schema.specs.Effects.{has_key, same_key}
+use Rattle.lv_core.specs.Editing.{replaced}
 use Rattle.lv_core.specs.FixedKeys.{HaveKey}
 use Rattle.lv_core.specs.KeyOrder.{AreInKeyOrder, IsCut, is_below, is_not_above, passes}
 use Rattle.lv_core.proofs.SmallLists.{all_weaker}
@@ -279,3 +280,57 @@ range_only key k rows first count below up_to =
     all_weaker (λ row. (is_not_above key k row ≡ true) × (is_below key k row ≡ false)) (λ row. values_at key row ≡ k)
     (λ row h. row_exact (values_at key row) k (ties_of (row_cmp (values_at key row) k) h.0 h.1)) (take count (drop first rows))
     (front_both (is_not_above key k) (is_below key k) (drop first rows) count up_to (back_all (is_below key k) rows first below))
+
+-- ---- a row that takes the place of the only one with its key
+get_removed : {X : Type 0} (xs : List X) (i : ℕ) → slice_get (remove xs i) i ≡ slice_get xs (suc i)
+get_removed [] zero = refl
+get_removed [] (suc i) = refl
+get_removed (x ∷ xs) zero = refl
+get_removed (x ∷ xs) (suc i) = get_removed xs i
+
+first : {X : Type 0} (ys : List X) (x : X) → insert ys 0 x ≡ x ∷ ys
+first [] x = refl
+first (y ∷ ys) x = refl
+
+put_for_removed : {X : Type 0} (xs : List X) (i : ℕ) (x : X) → i < length xs → insert (remove xs i) i x ≡ set xs i x
+put_for_removed [] i x lt = absurd (omega arith)
+put_for_removed (y ∷ xs) zero x lt = first xs x
+put_for_removed (y ∷ xs) (suc i) x lt = ap (λ l. y ∷ l) (put_for_removed xs i x (omega arith))
+
+pub only_replaced : (key : List ℕ) (row : List Value) (rows : List (List Value)) (i : ℕ) → AreInKeyOrder key rows → IsCut (is_below key (values_at key row)) i rows
+    → passes (same_key key row) (slice_get rows i) ≡ true → passes (same_key key row) (slice_get rows (i + 1)) ≡ false
+    → (i < length rows) × (replaced key row rows ≡ set rows i row)
+only_replaced key row rows i order cut this next =
+    let there = passes_at (same_key key row) rows i row this in
+    let rest = remove rows i in
+    let rest_cut = removed_cut (is_below key (values_at key row)) rows i cut in
+    let behind : suc i ≡ i + 1 = omega arith in
+    let gone : filter (is_other_key key row) rows ≡ rest =
+    sym (removed_kept (is_other_key key row) rows i row there.0 (same_not key row (get_or rows i row) there.1))
+    ∙ all_gone key row rest i (removed_ordered key rows i order) rest_cut
+    (fails_at (same_key key row) rest i (ap (passes (same_key key row)) (get_removed rows i ∙ ap (slice_get rows) behind) ∙ next)) in
+    (there.0, ap (placed (key_cmp key) row) gone ∙ placed_there key row rest i rest_cut ∙ put_for_removed rows i row there.0)
+
+-- ---- a search among what a function gives of elements
+pub passes_mapped : {X Y : Type 0} (f : X → Y) (p : Y → Bool) (xs : List X) (i : ℕ) → passes (λ x. p (f x)) (slice_get xs i) ≡ passes p (slice_get (map f xs) i)
+passes_mapped f p [] i = refl
+passes_mapped f p (x ∷ xs) zero = refl
+passes_mapped f p (x ∷ xs) (suc i) = passes_mapped f p xs i
+
+none_mapped : {X Y : Type 0} (f : X → Y) (p : Y → Bool) (xs : List X) → AllByRecursion (λ x. p (f x) ≡ false) xs → AllByRecursion (λ y. p y ≡ false) (map f xs)
+none_mapped f p [] a = tt
+none_mapped f p (x ∷ xs) a = (a.0, none_mapped f p xs a.1)
+
+pub cut_mapped : {X Y : Type 0} (f : X → Y) (p : Y → Bool) (n : ℕ) (xs : List X) → IsCut (λ x. p (f x)) n xs → IsCut p n (map f xs)
+cut_mapped f p zero xs h = none_mapped f p xs h
+cut_mapped f p (suc n) [] h = absurd h
+cut_mapped f p (suc n) (x ∷ xs) h = (h.0, cut_mapped f p n xs h.1)
+
+get_mapped : {X Y : Type 0} (f : X → Y) (xs : List X) (i : ℕ) (d : X) → get_or (map f xs) i (f d) ≡ f (get_or xs i d)
+get_mapped f [] i d = refl
+get_mapped f (x ∷ xs) zero d = refl
+get_mapped f (x ∷ xs) (suc i) d = get_mapped f xs i d
+
+pub partitioned_mapped : {X Y : Type 0} (f : X → Y) (p : Y → Bool) (xs : List X) → IsPartitionedBy p (map f xs) → IsPartitionedBy (λ x. p (f x)) xs
+partitioned_mapped f p xs h i j d le lt t =
+    ap p (sym (get_mapped f xs i d)) ∙ h i j (f d) le (omega (arith, lt, length-map xs f)) (ap p (get_mapped f xs j d) ∙ t)

@@ -2,6 +2,7 @@ pub mod TakenKeys
 pub mod Matching
 pub mod Ranges
 pub mod PlaceLemmas
+pub mod Edited
 pub mod OneTable
 pub mod Meeting
 pub mod Commits
@@ -17,6 +18,7 @@ pub mod FixedKeys
 pub mod TriedRows
 pub mod PreparedOrder
 pub mod PutRows
+pub mod EditedRows
 pub mod WrittenPlaces
 pub mod KeyOrderSteps
 pub mod NamedFaults

@@ -1,6 +1,6 @@
 -- Actions that are all on one table.
-use Rattle.std.proofs.Common.{◌≡◌, ℕ, ◌+◌, ◌<◌, ◌≤◌, List, [], ◌∷◌, length, map, set, refl, sym, ◌∙◌, ap, subst}
-use Rattle.std.specs.Prelude.{◌⊎◌, Ok, Option, None, Some, MatchOption}
+use Rattle.std.proofs.Common.{◌≡◌, true, ℕ, ◌+◌, ◌<◌, ◌≤◌, List, [], ◌∷◌, length, map, set, refl, sym, ◌∙◌, ap, subst}
+use Rattle.std.specs.Prelude.{◌⊎◌, Ok, Option, None, Some}
 use Rattle.std.proofs.Common.{inl, inr}
 use Rattle.std.specs.List.{AllByRecursion, flat_map}
 use Rattle.std.proofs.lemmas.List.{set-set, set-get_or, set_past, get_or-set_same}
@@ -16,9 +16,13 @@ use Rattle.lv_schema.specs.declared.fault.Fault.{Fault}
 use Rattle.lv_schema.specs.declared.open.Open.{Open}
 use Rattle.lv_schema.specs.Cases.{with_number}
 use Rattle.lv_schema.specs.Effects.{Effect, ok_unless, inserts, deletes, updated, matching, acted_rows, acted, acted_all, change_actions, change_count, change_fault, changed_table, effect_on}
-use Rattle.lv_core.specs.Preparing.{IsPrepared, with_table_rows}
+use Rattle.lv_core.specs.Editing.{edited_rows, edits_of, leaves_key, AreEditable}
+use Rattle.lv_core.specs.KeyOrder.{AreInKeyOrder}
+use Rattle.lv_core.specs.Preparing.{IsPrepared}
 use Rattle.lv_schema.specs.World.{table_at}
+use Rattle.lv_core.specs.declared.editing.RowEdits.{RowEdits}
 use Rattle.lv_core.specs.Databases.{rows_after}
+use Rattle.lv_core.proofs.Edited.{edits_are, edits_editable}
 
 abbrev pub AllOn : ℕ → List Action → Type 0
 AllOn t actions = AllByRecursion (λ a. a.table ≡ t) actions
@@ -65,22 +69,29 @@ ok_is : {A : Type 0} (o : Option Fault) (a b : A) → ok_unless o a ≡ Ok b →
 ok_is None a b e = cc
 ok_is (Some fault) a b e = cc
 
--- a table's rows after actions: they are given where there is an action
-abbrev pub IsAfter : List ℕ → List (List Value) → List Action → Option (List (List Value)) → Type 0
-IsAfter key rows actions after = MatchOption after (actions ≡ []) (λ after. after ≡ rows_after key rows actions)
-
 -- a change that was prepared step by step is prepared
-pub prepared_is : (tables : List TableDef) (change : Change) (o : Open) (t : ℕ) (def : TableDef) (rows : List (List Value)) (after : Option (List (List Value))) (count : ℕ) (actions numbers : List Action)
+pub prepared_is : (tables : List TableDef) (change : Change) (o : Open) (t : ℕ) (def : TableDef) (rows : List (List Value)) (edits : RowEdits) (count : ℕ) (actions numbers : List Action)
     → t ≡ changed_table change → def ≡ table_at tables t → rows ≡ rows_of o.own t
+    → leaves_key (table_at tables (changed_table change)).key change ≡ true → AreInKeyOrder def.key rows
     → effect_on def change rows ≡ Ok (record { count = count; actions = actions })
-    → IsAfter def.key rows actions after → numbers ≡ map (with_number (o.changes + 1)) actions
-    → IsPrepared tables change o (record { count = count; table = t; rows = after; actions = numbers })
-prepared_is tables change o t def rows after count actions numbers at is_def is_rows found is_after is_numbers =
+    → edits ≡ edits_of change actions → numbers ≡ map (with_number (o.changes + 1)) actions
+    → IsPrepared tables change o (record { count = count; table = t; edits = edits; actions = numbers })
+prepared_is tables change o t def rows edits count actions numbers at is_def is_rows leaves order found is_edits is_numbers =
     let effect : Effect = record { count = count; actions = actions } in
     let made : record { count = change_count change rows; actions = change_actions change rows } ≡ effect = ok_is (change_fault def change rows) _ effect found in
     let acts : change_actions change rows ≡ actions = ap (λ (e : Effect). e.actions) made in
     let on : AllOn t actions = subst (λ (n : ℕ). AllOn n actions) (sym at) (subst (AllOn (changed_table change)) acts (change_on change rows)) in
-    let own = own_is on after is_after in
+    let key_is : def.key ≡ (table_at tables (changed_table change)).key = ap (λ (d : TableDef). d.key) (is_def ∙ ap (table_at tables) at) in
+    let numbers_are : map (with_number (o.changes + 1)) (change_actions change rows) ≡ numbers = ap (map (with_number (o.changes + 1))) acts ∙ sym is_numbers in
+    let edits_is : edits_of change (change_actions change rows) ≡ edits = ap (edits_of change) acts ∙ sym is_edits in
+    let edited : edited_rows def.key edits numbers rows ≡ rows_after def.key rows actions =
+    (λ i. edited_rows def.key (sym edits_is i) (sym numbers_are i) rows) ∙ edits_are def.key change (o.changes + 1) rows (subst (λ key. leaves_key key change ≡ true) (sym key_is) leaves) ∙ ap (rows_after def.key rows) acts in
+    let own : set o.own t (edited_rows (table_at tables (changed_table change)).key edits numbers (rows_of o.own t)) ≡ acted_all tables o.own actions =
+    ap (set o.own t) (
+    (λ i. edited_rows (sym key_is i) edits numbers (sym is_rows i)) ∙ edited
+    ∙ ap (λ (d : TableDef). rows_after d.key rows actions) is_def ∙ ap (λ l. rows_after (table_at tables t).key l actions) is_rows
+    )
+    ∙ sym (acted_one tables t o.own actions on) in
     record {
       effect = effect;
       given =
@@ -89,11 +100,10 @@ prepared_is tables change o t def rows after count actions numbers at is_def is_
           ∙ ap (effect_on def change) (sym is_rows)
           ∙ found;
       count = refl;
+      table = at;
+      editable =
+          subst (λ key. AreEditable key edits numbers) key_is
+          (subst (λ e. AreEditable def.key e numbers) edits_is
+          (subst (AreEditable def.key (edits_of change (change_actions change rows))) numbers_are (edits_editable def.key change (o.changes + 1) rows order)));
       kept = cc (own, is_numbers);
     }
-  where
-    own_is : AllOn t actions → (after : Option (List (List Value))) → IsAfter def.key rows actions after → with_table_rows t after o.own ≡ acted_all tables o.own actions
-    own_is on None none = ap (acted_all tables o.own) (sym none)
-    own_is on (Some after) is =
-        ap (set o.own t) (is ∙ ap (λ (d : TableDef). rows_after d.key rows actions) is_def ∙ ap (λ l. rows_after (table_at tables t).key l actions) is_rows)
-        ∙ sym (acted_one tables t o.own actions on)

@@ -8,6 +8,7 @@ pub mod Merging
 pub mod PlaceOrder
 pub mod Conflicts
 pub mod Seen
+pub mod Editing
 pub mod Preparing
 pub mod Committing
 pub mod Small

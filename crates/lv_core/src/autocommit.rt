@@ -6,10 +6,11 @@ ghost use Rattle.lv_core.specs.KeyOrder.{AreKeyOrdered};
 ghost use Rattle.lv_core.specs.Seen.{visible, IsWhole, MayChange};
 ghost use Rattle.lv_core.specs.Stops.{Meets};
 
-use crate::changing::{keep, prepare};
+use crate::changing::{keep, prepare, table_of};
 use crate::committing::Commit;
 use crate::stop::Stop;
 use crate::whole::{SESSIONS, Whole};
+use crate::written::key_positions;
 use lv_schema::Change;
 use std::alloc::Global;
 
@@ -34,7 +35,8 @@ impl Whole {
         let mut transaction = self.opened(alloc)?;
         let prepared = prepare(alloc, &self.schema, &transaction, change)?;
         let count = prepared.count;
-        keep(&mut transaction, prepared)?;
+        let key = key_positions(&self.schema, table_of(change));
+        keep(alloc, key, &mut transaction, prepared)?;
         if transaction.actions.is_empty() {
             return Ok((count, None));
         }

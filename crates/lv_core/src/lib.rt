@@ -8,6 +8,7 @@ mod changing;
 mod committing;
 mod conflicts;
 mod creating;
+mod editing;
 mod effects;
 mod fixing;
 mod ledger;

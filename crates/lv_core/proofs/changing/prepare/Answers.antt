@@ -1,5 +1,3 @@
-use Rattle.std.proofs.Common.{ℕ, List, sym, subst}
-use Rattle.lv_core.specs.KeyOrder.{AreInKeyOrder}
 use Rattle.lv_core.proofs.OneTable.{prepared_is}
 use Rattle.lv_core.proofs.PreparedOrder.{order_read}
 use Rattle.lv_core.proofs.SumLemmas.{prepared_sums}
@@ -15,15 +13,12 @@ effect-requires-clause-order c =
     order_read c.args.schema.now.tables c.args.change.now c.args.transaction.now c.table_of-table.result c.table-def.result.now c.rows_of-rows.result.now
     c.table_of-table.ensures c.table-def.ensures c.rows_of-rows.ensures c.requires.order
 
-pub changed_rows-requires : goal.changed_rows-requires
-changed_rows-requires c =
-    subst (λ (key : List ℕ). AreInKeyOrder key c.rows_of-rows.result.now) (sym c.as_slice.ensures)
-    (order_read c.args.schema.now.tables c.args.change.now c.args.transaction.now c.table_of-table.result c.table-def.result.now c.rows_of-rows.result.now
-    c.table_of-table.ensures c.table-def.ensures c.rows_of-rows.ensures c.requires.order)
-
 pub returns : goal.returns
 returns c =
     prepared_is c.args.schema.now.tables c.args.change.now c.args.transaction.now c.table_of-table.result c.table-def.result.now c.rows_of-rows.result.now
-    c.in_ok-rows.rows c.in_ok-count.count c.in_ok-count.actions c.edit_each.new.self
-    c.table_of-table.ensures c.table-def.ensures c.rows_of-rows.ensures c.in_ok-count.ensures
-    (rw (c.as_slice.ensures, c.as_slice-2.ensures) at c.in_ok-rows.ensures) c.edit_each.ensures
+    c.in_ok-edits.edits c.in_ok-count.count c.in_ok-count.actions c.edit_each.new.self
+    c.table_of-table.ensures c.table-def.ensures c.rows_of-rows.ensures c.requires.key
+    (order_read c.args.schema.now.tables c.args.change.now c.args.transaction.now c.table_of-table.result c.table-def.result.now c.rows_of-rows.result.now
+    c.table_of-table.ensures c.table-def.ensures c.rows_of-rows.ensures c.requires.order)
+    c.in_ok-count.ensures
+    (rw c.as_slice.ensures at c.in_ok-edits.ensures) c.edit_each.ensures

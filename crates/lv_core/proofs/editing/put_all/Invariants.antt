@@ -1,0 +1,13 @@
+use Rattle.std.proofs.Common.{◌≡◌, ◌≤◌}
+use Rattle.lv_schema.specs.Commits.{with_rows}
+use Rattle.lv_core.specs.KeyOrder.{AreInKeyOrder}
+use Rattle.lv_core.proofs.editing.put_all.Given as goal
+
+abbrev pub invariant-loop-row : goal.invariant-loop-row
+invariant-loop-row l = record {
+  can_next : (goal.iterator-loop-row).can_next l.row-iterator;
+  is_finite : (goal.iterator-loop-row).is_finite l.row-iterator;
+  order : AreInKeyOrder l.key l.rows.list;
+  room : (goal.iterator-loop-row).remaining l.row-iterator ≤ l.rows.spare;
+  put : l.rows.list ≡ with_rows l.key l.yielded l.fn.rows.list;
+}
