@@ -2,10 +2,13 @@
 use Rattle.std.proofs.Common.{◌≡◌, ℕ, ◌+◌, ◌<◌, Bool, true, false, cond, List, [], ◌∷◌, ◌++◌, length, take, drop, get_or, refl, sym, ◌∙◌, ap}
 use Rattle.std.specs.Prelude.{◌||◌, reverse, Option, Some}
 use Rattle.std.specs.List.{list_any}
+use Rattle.std.specs.Ordering.{is_gt}
+use Rattle.std.specs.declared.cmp.Ordering.{Ordering}
 use Rattle.std.proofs.lemmas.List.{take_more, drop_more, reverse-append}
 use Rattle.std.proofs.lemmas.List.Folds.{list_any-append}
 use Rattle.lv_values.specs.declared.value.Value.{Value}
-use Rattle.lv_values.specs.Rows.{values_at}
+use Rattle.lv_values.specs.Ascending.{placed}
+use Rattle.lv_values.specs.Rows.{key_cmp, values_at}
 use Rattle.lv_schema.specs.Effects.{same_key, has_key, first_taken}
 
 or_comm : (a b : Bool) → (a || b) ≡ (b || a)
@@ -61,3 +64,30 @@ taken_later key i new rows x o h e t inv =
     inv ∙ here key i new rows x h e
     ∙ ap (λ b. cond b (Some (values_at key x)) (first_taken key (x ∷ before i new rows) (drop (i + 1) new))) t
     ∙ ap (λ l. first_taken key l (drop (i + 1) new)) (ap (λ y. y ∷ before i new rows) e ∙ sym (before_more i new rows x h))
+
+-- ---- the rows so far, in the order of their keys
+swap_first : (a b c : Bool) → (a || (b || c)) ≡ (b || (a || c))
+swap_first true true c = refl
+swap_first true false c = refl
+swap_first false true c = refl
+swap_first false false c = refl
+
+any_placed : {A : Type 0} (R : A → A → Ordering) (p : A → Bool) (x : A) (xs : List A) → list_any p (placed R x xs) ≡ (p x || list_any p xs)
+any_placed R p x [] = refl
+any_placed R p x (y ∷ ys) = by (is_gt (R x y)) (any_placed R p x ys)
+  where
+    by : (b : Bool) → list_any p (placed R x ys) ≡ (p x || list_any p ys) → list_any p (cond b (y ∷ placed R x ys) (x ∷ y ∷ ys)) ≡ (p x || list_any p (y ∷ ys))
+    by true e = ap (λ b. p y || b) e ∙ swap_first (p y) (p x) (list_any p ys)
+    by false e = refl
+
+-- a loop that places one row more
+pub seen_more : (key : List ℕ) (other : List Value) (i : ℕ) (new earlier next : List (List Value)) (x copy : List Value) → i < length new → x ≡ get_or new i x → copy ≡ x
+    → next ≡ placed (key_cmp key) copy earlier → has_key key other earlier ≡ has_key key other (take i new) → has_key key other next ≡ has_key key other (take (i + 1) new)
+seen_more key other i new earlier next x copy lt is same put so_far =
+    ap (has_key key other) (put ∙ ap (λ r. placed (key_cmp key) r earlier) (same ∙ is))
+    ∙ any_placed (key_cmp key) (same_key key other) (get_or new i x) earlier
+    ∙ ap (λ b. same_key key other (get_or new i x) || b) so_far
+    ∙ or_comm (same_key key other (get_or new i x)) (has_key key other (take i new))
+    ∙ ap (λ b. has_key key other (take i new) || b) (sym (or_false (same_key key other (get_or new i x))))
+    ∙ sym (list_any-append (same_key key other) (take i new) (get_or new i x ∷ []))
+    ∙ ap (has_key key other) (sym (take_more new i x lt))

@@ -14,11 +14,12 @@ ghost use Rattle.lv_core.specs.KeyOrder.{AreInKeyOrder};
 ghost use Rattle.lv_core.specs.Stops.{GivesEffect, insert_fault};
 ghost use Rattle.std.specs.Prelude.{◌+◌, nat_lt};
 
+use crate::applying::put;
 use crate::fixing::rows_to_try;
 use crate::searching::contains_key;
 use crate::stop::{MOST_ROWS, Stop};
 use lv_schema::{Action, ActionKind, Actions, Change, Cond, Fault, Set, SetValue, TableDef, holds};
-use lv_values::{Copying, NoMemory, Row, Value, compare_keys};
+use lv_values::{Copying, NoMemory, Row, Rows, Value};
 use std::alloc::Global;
 use std::slice::from_ref;
 
@@ -37,24 +38,17 @@ pub fn key_of(alloc: Global, key: &[u8], row: &Row) -> Result<Row, NoMemory>
     Ok(values)
 }
 
-/// Whether one of the rows has the row's key.
-fn has_key(key: &[u8], row: &Row, rows: &[Row]) -> bool
-    ensures { result ≡ has_key key.now row.now rows.now }
-{
-    rows.iter()
-        .any(|other| compare_keys(key, row, other).is_eq())
-}
-
-/// Whether the row's key is taken, by an earlier row or by one of the table. Cost: a pass over the earlier rows, and a
-/// binary search.
+/// Whether the row's key is taken, by an earlier row or by one of the table. Cost: two binary searches.
 fn is_taken(key: &[u8], row: &Row, earlier: &[Row], rows: &[Row]) -> bool
-    requires { AreInKeyOrder key.now rows.now }
+    requires earlier { AreInKeyOrder key.now earlier.now }
+    requires rows { AreInKeyOrder key.now rows.now }
     ensures { result ≡ (has_key key.now row.now earlier.now || has_key key.now row.now rows.now) }
 {
-    has_key(key, row, earlier) || contains_key(key, row, rows)
+    contains_key(key, row, earlier) || contains_key(key, row, rows)
 }
 
-/// The key of the first new row whose key is taken.
+/// The key of the first new row whose key is taken. Cost: for each new row a binary search among the rows and one among
+/// the new rows before it, and a copy.
 fn first_taken(
     alloc: Global,
     key: &[u8],
@@ -64,10 +58,12 @@ fn first_taken(
     requires { AreInKeyOrder key.now rows.now }
     ensures { IfOk result (λ taken. taken ≡ first_taken key.now rows.now new.now) }
 {
-    for (i, row) in new.iter().enumerate() {
-        if is_taken(key, row, &new[..i], rows) {
+    let mut earlier = Rows::new(alloc);
+    for row in new {
+        if is_taken(key, row, earlier.as_slice(), rows) {
             return Ok(Some(key_of(alloc, key, row)?));
         }
+        put(key, row.copy(alloc)?, &mut earlier)?;
     }
     Ok(None)
 }
@@ -299,7 +295,7 @@ fn insert_fault(
     Ok(None)
 }
 
-/// What an INSERT does. Cost: for each row a pass over the earlier ones, and a binary search.
+/// What an INSERT does. Cost: as `first_taken`, and a copy of each new row.
 fn insert_effect(
     alloc: Global,
     table: u32,
@@ -348,7 +344,7 @@ fn delete_effect(
 /// What a change does to a table with these rows: the number of rows that it inserts, updates or deletes, and its
 /// actions, not numbered yet. Refused with a number out of range, a duplicate key or a full table, in this order.
 /// Cost: an UPDATE or DELETE whose condition fixes every key column finds its rows by a binary search; another one
-/// tries every row. An INSERT searches the table for each of its rows, and passes over its rows before that one.
+/// tries every row. An INSERT searches the table, and its rows before, for each of its rows.
 pub fn effect(
     alloc: Global,
     def: &TableDef,
