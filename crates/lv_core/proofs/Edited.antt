@@ -1,5 +1,5 @@
 -- The edits of a change do to its table's rows what its actions do one by one.
-use Rattle.std.proofs.Common.{arith, ◌≡◌, ℕ, Bool, true, false, cond, not, ◌&&◌, List, [], ◌∷◌, ◌++◌, map, set, filter, refl, sym, ap, ◌∙◌, subst}
+use Rattle.std.proofs.Common.{arith, ◌≡◌, ℕ, Bool, true, false, cond, not, ◌&&◌, List, [], ◌∷◌, map, set, filter, refl, sym, ap, ◌∙◌, subst}
 use Rattle.std.specs.Prelude.{◌||◌, ◌==◌, pos, ◌≢◌}
 use Rattle.std.specs.List.{flat_map, list_all, list_any}
 use Rattle.std.proofs.lemmas.Bool.Decides.{nat_tests}
@@ -8,12 +8,11 @@ use Rattle.lv_values.specs.declared.value.Value.{Value}
 use Rattle.lv_values.specs.declared.value.Value.TheVariants.{Num}
 use Rattle.lv_values.specs.Ascending.{placed}
 use Rattle.lv_values.specs.Order.{row_eq}
-use Rattle.lv_values.specs.Rows.{key_cmp, value_in, values_at}
-use Rattle.lv_schema.specs.declared.action.Action.{Action}
+use Rattle.lv_values.specs.Rows.{key_cmp, values_at}
 use Rattle.lv_schema.specs.declared.change.Change.{Change}
 use Rattle.lv_schema.specs.declared.change.Change.TheVariants as change
 use Rattle.lv_schema.specs.declared.change.Set.{Set}
-use Rattle.lv_schema.specs.Cases.{with_number, numbered}
+use Rattle.lv_schema.specs.Cases.{with_number}
 use Rattle.lv_schema.specs.Commits.{with_rows}
 use Rattle.lv_schema.specs.Effects.{change_actions, deletes, has_key, inserts, matching, same_key, set_value, updated, with_sets}
 use Rattle.lv_schema.specs.Truth.{holds}

@@ -1,5 +1,5 @@
 -- How a change edits its table's rows in place, and that this is what its actions do one by one.
-use Rattle.std.specs.Prelude.{◌≡◌, ℕ, true, false, not, Bool, ◌==◌, List, [], ◌∷◌, length, map, filter}
+use Rattle.std.specs.Prelude.{ℕ, true, false, not, Bool, ◌==◌, List, [], ◌∷◌, map, filter}
 use Rattle.std.specs.List.{list_all, list_any}
 use Rattle.lv_values.specs.declared.value.Value.{Value}
 use Rattle.lv_values.specs.Ascending.{placed}
@@ -9,7 +9,6 @@ use Rattle.lv_schema.specs.declared.action.ActionKind.{ActionKind}
 use Rattle.lv_schema.specs.declared.action.ActionKind.TheVariants as kind
 use Rattle.lv_schema.specs.declared.change.Change.{Change}
 use Rattle.lv_schema.specs.declared.change.Change.TheVariants as change
-use Rattle.lv_schema.specs.declared.change.Set.{Set}
 use Rattle.lv_schema.specs.Commits.{with_rows}
 use Rattle.lv_schema.specs.Effects.{has_key, same_key}
 use Rattle.lv_core.specs.declared.editing.RowEdits.{RowEdits}

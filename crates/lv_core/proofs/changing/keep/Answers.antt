@@ -1,4 +1,4 @@
-use Rattle.std.proofs.Common.{◌≡◌, [], ap, get_or, set, sym, ◌∙◌}
+use Rattle.std.proofs.Common.{◌≡◌, [], ap, get_or, set, ◌∙◌}
 use Rattle.std.specs.Prelude.{OnErr, Result, Ok, Err}
 use Rattle.std.proofs.lemmas.List.{set-get_or, set-set}
 use Rattle.lv_core.specs.Editing.{edited_rows}

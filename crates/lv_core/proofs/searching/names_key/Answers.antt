@@ -4,7 +4,7 @@ use Rattle.lv_values.specs.Rows.{values_at}
 use Rattle.lv_schema.specs.declared.action.Action.{Action}
 use Rattle.lv_schema.specs.Effects.{same_key}
 use Rattle.lv_core.specs.Editing.{acted_on}
-use Rattle.lv_core.specs.KeyOrder.{IsCut, is_below}
+use Rattle.lv_core.specs.KeyOrder.{is_below}
 use Rattle.lv_core.proofs.KeySearch.{below_falls, cut_from, cut_mapped, has_key_there, partitioned, partitioned_mapped, passes_mapped}
 use Rattle.lv_core.proofs.searching.names_key.Goals as goal
 
