@@ -105,6 +105,12 @@ const CASES: &[Case] = &[
         status: Status::Done,
         printed: "setup 1 ok\na 1 begin 0\nb 1 ok 1 commit 1\na 2 rows 0\n",
     },
+    // changes of one row and of many, in one transaction that is rolled back
+    Case {
+        script: "@setup\ncreate table t (k int, n int, primary key (k))\n@session a\nbegin\ninsert into t values (40, 40), (39, 39), (38, 38), (37, 37), (36, 36), (35, 35), (34, 34), (33, 33), (32, 32), (31, 31), (30, 30), (29, 29), (28, 28), (27, 27), (26, 26), (25, 25), (24, 24), (23, 23), (22, 22), (21, 21), (20, 20), (19, 19), (18, 18), (17, 17), (16, 16), (15, 15), (14, 14), (13, 13), (12, 12), (11, 11), (10, 10), (9, 9), (8, 8), (7, 7), (6, 6), (5, 5), (4, 4), (3, 3), (2, 2), (1, 1)\nupdate t set n = n + 100 where k > 2\nupdate t set n = 7 where k = 1\ndelete from t where k = 3\ndelete from t where k > 5\ninsert into t values (9, 9), (3, 0)\nselect * from t\nrollback\nselect * from t\n",
+        status: Status::Done,
+        printed: "setup 1 ok\na 1 begin 0\na 2 ok 40\na 3 ok 38\na 4 ok 1\na 5 ok 1\na 6 ok 35\na 7 ok 2\na 8 rows 6\n| 1 | 7\n| 2 | 2\n| 3 | 0\n| 4 | 104\n| 5 | 105\n| 9 | 9\na 9 rollback\na 10 rows 0\n",
+    },
     // what is not built yet, at its line, and a fault of the script before it
     Case {
         script: "@setup\n@session a\nbegin\nshow tasks\n",
