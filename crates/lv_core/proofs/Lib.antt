@@ -16,6 +16,7 @@ pub mod KeyOrderRows
 pub mod KeySearch
 pub mod FixedKeys
 pub mod TriedRows
+pub mod TriedQueries
 pub mod PreparedOrder
 pub mod PutRows
 pub mod EditedRows

@@ -100,6 +100,7 @@ impl Whole {
         requires session { session < SESSIONS }
         requires in_use { list_all (rel_in_use (visible self.now).tables (visible self.now).views) query.now.rels ≡ true }
         requires small { IsSmallDb (transaction session (visible self.now)).own }
+        requires ordered { AreKeyOrdered (visible self.now) }
         ensures { Answers (visible self.now) (visible self.now) result (shown (reply.Rows (queried session query.now (visible self.now))) (visible self.now)) }
     {
         Ok(Reply::Rows(self.query(alloc, session, query)?))

@@ -1,21 +1,26 @@
 //! Queries over whole snapshots: each view is made by its definition, over the database that is read.
-ghost use Rattle.std.specs.Prelude.{◌≡◌, ◌<◌, true, map, length, IfOk};
+ghost use Rattle.std.specs.Prelude.{◌≡◌, ◌<◌, ◌∷◌, [], true, map, length, IfOk, MatchOption};
 ghost use Rattle.std.specs.List.{list_all};
 ghost use Rattle.lv_schema.specs.Answers.{answer_of, rel_rows};
 ghost use Rattle.lv_schema.specs.Bound.{has_col, rel_in_use};
 ghost use Rattle.lv_schema.specs.Cases.{queried};
 ghost use Rattle.lv_schema.specs.Databases.{rows_of};
+ghost use Rattle.lv_schema.specs.Effects.{matching};
 ghost use Rattle.lv_schema.specs.Groups.{view_rows};
-ghost use Rattle.lv_schema.specs.JoinViews.{parts_of, plain_columns};
-ghost use Rattle.lv_schema.specs.World.{transaction, view_at};
+ghost use Rattle.lv_schema.specs.JoinViews.{parts_of, plain_columns, selected};
+ghost use Rattle.lv_schema.specs.declared.query.Rel.TheVariants.{Table};
+ghost use Rattle.lv_schema.specs.World.{table_at, transaction, view_at};
+ghost use Rattle.lv_core.specs.KeyOrder.{AreInKeyOrder, AreKeyOrdered, IsKeyOrderedDb};
 ghost use Rattle.lv_core.specs.Seen.{visible, IsWhole};
 ghost use Rattle.lv_core.specs.Small.{IsSmallDb};
 
 use crate::applying::copy_rows;
+use crate::fixing::rows_to_try;
 use crate::merging::rows_of;
 use crate::whole::{SESSIONS, Whole};
+use crate::written::key_positions;
 use lv_query::answer;
-use lv_schema::{Database, Query, Rel, Schema, ViewDef};
+use lv_schema::{Cond, Database, Query, Rel, Schema, ViewDef};
 use lv_values::{Items, NoMemory, Rows};
 use lv_views::rows_by_definition;
 use std::alloc::Global;
@@ -88,6 +93,53 @@ fn query_parts(
     Ok(parts)
 }
 
+/// The table of a query that reads one table and nothing else.
+fn only_table(rels: &[Rel]) -> Option<u32>
+    ensures { MatchOption result (Unit {0}) (λ table. rels.now ≡ Table table ∷ []) }
+{
+    match rels {
+        [Rel::Table(table)] => Some(*table),
+        _ => None,
+    }
+}
+
+/// The rows of a table that a condition on it may keep: those with one key, where the condition fixes the key, or else
+/// all. Cost: two binary searches, and a copy of these rows.
+fn table_part(
+    alloc: Global,
+    schema: &Schema,
+    database: &Database,
+    table: u32,
+    cond: &Cond,
+) -> Result<Rows, NoMemory>
+    requires { AreInKeyOrder (table_at schema.now.tables table).key (rows_of database.now table) }
+    ensures { IfOk result (λ rows. matching cond.now rows ≡ matching cond.now (rows_of database.now table)) }
+{
+    let key = key_positions(schema, table);
+    let tried = rows_to_try(alloc, key, cond, rows_of(database, table))?;
+    copy_rows(alloc, tried)
+}
+
+/// Rows of each alias of a query, of which its condition keeps the same tuples as of all.
+fn parts_to_try(
+    alloc: Global,
+    schema: &Schema,
+    database: &Database,
+    query: &Query,
+) -> Result<Items<Rows>, NoMemory>
+    requires in_use { list_all (rel_in_use schema.now.tables schema.now.views) query.now.rels ≡ true }
+    requires small { IsSmallDb database.now }
+    requires ordered { IsKeyOrderedDb schema.now.tables database.now }
+    ensures { IfOk result (λ parts. selected query.now.cond parts ≡ selected query.now.cond (map (rel_rows schema.now.views database.now) query.now.rels)) }
+{
+    let Some(table) = only_table(query.rels.as_slice()) else {
+        return query_parts(alloc, schema, database, query.rels.as_slice());
+    };
+    let mut parts = Items::new(alloc);
+    parts.push(table_part(alloc, schema, database, table, &query.cond)?)?;
+    Ok(parts)
+}
+
 impl Whole {
     /// What a session's query reads: the own database of its transaction, or the last state.
     fn read_by(&self, session: usize) -> &Database
@@ -101,17 +153,18 @@ impl Whole {
         }
     }
 
-    /// The answer of a query. Cost: a copy of the tables that it reads, each view by its definition, the join, and the
-    /// sort of the answer.
+    /// The answer of a query. Cost: a copy of the tables that it reads, or of the rows with one key where it reads one
+    /// table and its condition fixes the key; each view by its definition; the join; and the sort of the answer.
     pub fn query(&self, alloc: Global, session: usize, query: &Query) -> Result<Rows, NoMemory>
         requires whole { IsWhole self.now }
         requires session { session < SESSIONS }
         requires in_use { list_all (rel_in_use (visible self.now).tables (visible self.now).views) query.now.rels ≡ true }
         requires small { IsSmallDb (transaction session (visible self.now)).own }
+        requires ordered { AreKeyOrdered (visible self.now) }
         ensures { IfOk result (λ rows. rows ≡ queried session query.now (visible self.now)) }
     {
         let database = self.read_by(session);
-        let parts = query_parts(alloc, &self.schema, database, query.rels.as_slice())?;
+        let parts = parts_to_try(alloc, &self.schema, database, query)?;
         answer(alloc, query, parts)
     }
 }
