@@ -54,13 +54,13 @@ short_set : (columns : List Column) (c : Option Column) (value : SetValue) → c
 short_set columns None value e = cc
 short_set columns (Some c) value e = short_fits columns c.kind value e
 
+both : {a b : Bool} → a ≡ true → b ≡ true → (a && b) ≡ true
+both f g = λ i. f i && g i
+
 short_sets : (def : TableDef) (sets : List Set) → list_all (is_bound_set def) sets ≡ true → list_all (λ s. has_short_amount s.value) sets ≡ true
 short_sets def [] e = refl
 short_sets def (s ∷ sets) e =
     both (short_set def.columns (slice_get def.columns s.column) s.value (left _ _ (left (is_bound_set def s) _ e))) (short_sets def sets (right (is_bound_set def s) _ e))
-  where
-    both : {a b : Bool} → a ≡ true → b ≡ true → (a && b) ≡ true
-    both f g = λ i. f i && g i
 
 pub short_change : (tables : List TableDef) (change : Change) → IsBoundChange tables change → has_short_amounts change ≡ true
 short_change tables (Insert table rows) is = refl
@@ -71,9 +71,6 @@ spares_key : (def : TableDef) (sets : List Set) → list_all (is_bound_set def) 
 spares_key def [] e = refl
 spares_key def (s ∷ sets) e =
     both (right (column_set def.columns (slice_get def.columns s.column) s.value) _ (left (is_bound_set def s) _ e)) (spares_key def sets (right (is_bound_set def s) _ e))
-  where
-    both : {a b : Bool} → a ≡ true → b ≡ true → (a && b) ≡ true
-    both f g = λ i. f i && g i
 
 pub change_leaves_key : (tables : List TableDef) (change : Change) → IsBoundChange tables change → leaves_key (table_at tables (changed_table change)).key change ≡ true
 change_leaves_key tables (Insert table rows) is = refl

@@ -1,5 +1,5 @@
 -- The edits of a change do to its table's rows what its actions do one by one.
-use Rattle.std.proofs.Common.{arith, ◌≡◌, ℕ, Bool, true, false, cond, not, ◌&&◌, List, [], ◌∷◌, map, set, filter, refl, sym, ap, ◌∙◌, subst}
+use Rattle.std.proofs.Common.{arith, ◌≡◌, ℕ, Bool, true, false, cond, not, List, [], ◌∷◌, map, set, filter, refl, sym, ap, ◌∙◌, subst}
 use Rattle.std.specs.Prelude.{◌||◌, ◌==◌, pos, ◌≢◌}
 use Rattle.std.specs.List.{flat_map, list_all, list_any}
 use Rattle.std.proofs.lemmas.Bool.Decides.{nat_tests}
@@ -22,6 +22,7 @@ use Rattle.lv_core.specs.KeyOrder.{AreInKeyOrder}
 use Rattle.lv_core.specs.TableActions.{replaces}
 use Rattle.lv_core.proofs.KeyOrderRows.{filter_ordered}
 use Rattle.lv_core.proofs.PlaceLemmas.{row_eq_turned}
+use Rattle.lv_core.proofs.SmallLists.{both_hold}
 
 -- ---- rows that come in
 inserted_all : (t : ℕ) (new : List (List Value)) → inserted_rows (map (inserts t) new) ≡ new
@@ -46,11 +47,7 @@ set_elsewhere (k ∷ key) c v row h =
     neither true b e = cc
     neither false b e = (refl, e)
 
-both_hold : (a b : Bool) → (a && b) ≡ true → (a ≡ true) × (b ≡ true)
-both_hold true b e = (refl, e)
-both_hold false b e = cc
-
-is_false : (a : Bool) → not a ≡ true → a ≡ false
+pub is_false : (a : Bool) → not a ≡ true → a ≡ false
 is_false true e = cc
 is_false false e = refl
 

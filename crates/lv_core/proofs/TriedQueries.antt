@@ -2,11 +2,10 @@
 use Rattle.std.proofs.Common.{◌≡◌, ℕ, Bool, true, false, cond, List, [], ◌∷◌, ◌++◌, map, refl, sym, ap, ◌∙◌}
 use Rattle.lv_values.specs.declared.value.Value.{Value}
 use Rattle.lv_schema.specs.declared.cond.Cond.{Cond}
-use Rattle.lv_schema.specs.declared.query.Query.{Query}
 use Rattle.lv_schema.specs.declared.query.Rel.{Rel}
 use Rattle.lv_schema.specs.declared.query.Rel.TheVariants.{Table}
 use Rattle.lv_schema.specs.declared.view.ViewDef.{ViewDef}
-use Rattle.lv_schema.specs.Answers.{answer_over, rel_rows, sorted_row}
+use Rattle.lv_schema.specs.Answers.{rel_rows}
 use Rattle.lv_schema.specs.Databases.{Db, rows_of}
 use Rattle.lv_schema.specs.Effects.{matching}
 use Rattle.lv_schema.specs.JoinViews.{selected}

@@ -8,7 +8,7 @@ use Rattle.std.specs.declared.cmp.Ordering.{Ordering}
 use Rattle.std.specs.declared.cmp.Ordering.TheVariants.{Less, Equal, Greater}
 use Rattle.lv_values.specs.declared.value.Value.{Value}
 use Rattle.lv_values.specs.declared.value.Value.TheVariants.{Num, Text}
-use Rattle.lv_values.specs.Order.{value_cmp, value_eq}
+use Rattle.lv_values.specs.Order.{value_eq}
 use Rattle.lv_values.specs.OrderLaws.{value_exact}
 
 abbrev pub value_input : Value → HashWrites

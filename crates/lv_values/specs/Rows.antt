@@ -1,8 +1,6 @@
 -- The values of a row at positions, and the order of rows by them.
-use Rattle.std.specs.Prelude.{ℕ, pos, List, [], ◌∷◌, map, slice_index_or}
-use Rattle.std.specs.Ordering.{ordering_then}
+use Rattle.std.specs.Prelude.{ℕ, pos, List, map, slice_index_or}
 use Rattle.std.specs.declared.cmp.Ordering.{Ordering}
-use Rattle.std.specs.declared.cmp.Ordering.TheVariants.{Equal}
 use Rattle.lv_values.specs.declared.value.Value.{Value}
 use Rattle.lv_values.specs.declared.value.Value.TheVariants.{Num}
 use Rattle.lv_values.specs.Order.{row_cmp}

@@ -1,10 +1,7 @@
-use Rattle.std.proofs.Common.{◌≡◌, Bool, true, false, not, refl, sym, ◌∙◌}
+use Rattle.std.proofs.Common.{sym, ◌∙◌}
+use Rattle.lv_core.proofs.Edited.{is_false}
 use Rattle.lv_core.proofs.KeySearch.{only_replaced}
 use Rattle.lv_core.proofs.searching.is_only_at.Goals as goal
-
-is_false : (b : Bool) → not b ≡ true → b ≡ false
-is_false true e = cc
-is_false false e = refl
 
 pub returns-then-has_key_at-clause-replaced : goal.returns-then-has_key_at-clause-replaced
 returns-then-has_key_at-clause-replaced c = λ last.
