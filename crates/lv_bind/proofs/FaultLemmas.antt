@@ -1,6 +1,6 @@
 -- The lowest fault of a statement, and that a statement which no limit refuses has few aliases and few columns.
 use Rattle.std.proofs.Common.{◌≡◌, ◌≤◌, ◌++◌, ℕ, Bool, true, false, not, List, [], ◌∷◌, map, length, Option, Some, None, Ok, Err, refl, sym, ap, ◌∙◌, arith}
-use Rattle.std.specs.List.{list_any, AllByRecursion}
+use Rattle.std.specs.List.{AllByRecursion}
 use Rattle.std.specs.Option.{option_or}
 use Rattle.std.specs.Prelude.{nat_lt, Result}
 use Rattle.std.proofs.lemmas.Bool.{ltb-false}
@@ -13,7 +13,6 @@ use Rattle.lv_schema.specs.declared.fault.Fault.{Fault}
 use Rattle.lv_schema.specs.declared.fault.Fault.TheVariants.{Limit}
 use Rattle.lv_schema.specs.declared.fault.LimitKind.{LimitKind}
 use Rattle.lv_schema.specs.declared.fault.LimitKind.TheVariants as limit
-use Rattle.lv_schema.specs.declared.query.Rel.{Rel}
 use Rattle.lv_schema.specs.declared.table.TableDef.{TableDef}
 use Rattle.lv_schema.specs.declared.view.ViewDef.{ViewDef}
 use Rattle.lv_schema.specs.Catalog.{rel_named}
@@ -23,7 +22,7 @@ use Rattle.lv_bind.specs.declared.statement.BindFault.TheVariants as refusal
 use Rattle.lv_bind.specs.declared.sources.Source.{Source}
 use Rattle.lv_bind.specs.Binding.{IsNarrow, IsSmallTable, IsSmallView, bound_among, table_number}
 use Rattle.lv_bind.specs.Faults.{lowest, reading_faults, profile_fault, later_faults, ok_unless, bound_of}
-use Rattle.lv_bind.specs.Limits.{measured, measures, passed_limits, limits}
+use Rattle.lv_bind.specs.Limits.{measured, measures, passed_limits}
 use Rattle.lv_bind.specs.Pieces.{comparisons_in}
 use Rattle.lv_bind.specs.Seen.{alias_seen}
 use Rattle.lv_bind.specs.Sources.{Alias, AreNarrow, first, shown_unless, source_of, sources_of}

@@ -1,8 +1,8 @@
 -- The faults of binding are those that a line and the schema show.
-use Rattle.std.proofs.Common.{◌≡◌, ℕ, Bool, true, false, cond, List, [], ◌∷◌, ◌++◌, length, Option, Some, None, refl, sym, ap, ◌∙◌, subst}
-use Rattle.std.specs.Prelude.{not, map, Result, Ok, Err}
-use Rattle.std.specs.Option.{option_map, option_or}
-use Rattle.std.specs.List.{AllByRecursion, flat_map}
+use Rattle.std.proofs.Common.{◌≡◌, Bool, true, false, List, [], ◌∷◌, ◌++◌, length, Option, Some, None, refl, subst}
+use Rattle.std.specs.Prelude.{not, Result, Err}
+use Rattle.std.specs.Option.{option_map}
+use Rattle.std.specs.List.{AllByRecursion}
 use Rattle.lv_parser.specs.declared.tree.Stmt.{Stmt}
 use Rattle.lv_parser.specs.declared.tree.Stmt.TheVariants as stmt
 use Rattle.lv_schema.specs.declared.bound.Bound.{Bound}
@@ -14,10 +14,10 @@ use Rattle.lv_bind.specs.declared.limits.Measure.{Measure}
 use Rattle.lv_bind.specs.Ambiguous.{ambiguous}
 use Rattle.lv_bind.specs.Assigned.{assigned}
 use Rattle.lv_bind.specs.Binding.{bound_among}
-use Rattle.lv_bind.specs.Faults.{bound_of, faults, later_faults, lowest, ok_unless, profile_fault, reading_faults}
+use Rattle.lv_bind.specs.Faults.{bound_of, faults, lowest, ok_unless}
 use Rattle.lv_bind.specs.InUse.{in_use}
 use Rattle.lv_bind.specs.Kinds.{kinds}
-use Rattle.lv_bind.specs.Limits.{limits, measures, passed_limits}
+use Rattle.lv_bind.specs.Limits.{measures, passed_limits}
 use Rattle.lv_bind.specs.Pieces.{comparisons_in}
 use Rattle.lv_bind.specs.Profile.{profile}
 use Rattle.lv_bind.specs.Ranges.{ranges}

@@ -38,7 +38,6 @@ use Rattle.lv_schema.specs.declared.cond.Op.{Op}
 use Rattle.lv_schema.specs.declared.cond.Op.TheVariants as op
 use Rattle.lv_schema.specs.declared.cond.Operand.{Operand}
 use Rattle.lv_schema.specs.declared.cond.Operand.TheVariants as operand
-use Rattle.lv_schema.specs.declared.query.Query.{Query}
 use Rattle.lv_schema.specs.declared.query.Rel.{Rel}
 use Rattle.lv_schema.specs.declared.query.Rel.TheVariants.{Table, View}
 use Rattle.lv_schema.specs.declared.table.Column.{Column}

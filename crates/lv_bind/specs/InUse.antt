@@ -1,7 +1,7 @@
 -- Fault 4: names that are used already. A new table's or view's name that is in the schema, and in the order of their
 -- places what stands twice: columns and key columns of a table, output names, aliases, set columns, and GROUP BY
 -- columns once resolved. Each is shown at its second place.
-use Rattle.std.specs.Prelude.{ℕ, Bool, true, false, not, is_none, unwrap_or, List, [], ◌∷◌, ◌++◌, map, Option, Some, None, ◌==◌, ◌&&◌}
+use Rattle.std.specs.Prelude.{ℕ, Bool, not, is_none, unwrap_or, List, [], ◌∷◌, ◌++◌, map, ◌==◌, ◌&&◌}
 use Rattle.std.specs.List.{list_any}
 use Rattle.std.specs.Str.{bytes_eq}
 use Rattle.lv_parser.specs.declared.tree.Assign.{Assign}

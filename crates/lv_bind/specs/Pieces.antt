@@ -1,5 +1,5 @@
 -- What a statement names, each kind of thing as a list in the order of its places.
-use Rattle.std.specs.Prelude.{ℕ, List, [], ◌∷◌, ◌++◌, map, Option, Some, None}
+use Rattle.std.specs.Prelude.{List, [], ◌∷◌, ◌++◌, map, Option, Some, None}
 use Rattle.std.specs.List.{flat_map}
 use Rattle.lv_parser.specs.declared.tree.Assign.{Assign}
 use Rattle.lv_parser.specs.declared.tree.AssignValue.{AssignValue}
@@ -10,7 +10,6 @@ use Rattle.lv_parser.specs.declared.tree.CondTree.TheOpen.{CondTree-F, True, Cmp
 use Rattle.lv_parser.specs.declared.tree.CondTree.TheFolds.{fold-CondTree}
 use Rattle.lv_parser.specs.declared.tree.ItemTree.{ItemTree}
 use Rattle.lv_parser.specs.declared.tree.ItemTree.TheVariants as item
-use Rattle.lv_parser.specs.declared.tree.Literal.{Literal}
 use Rattle.lv_parser.specs.declared.tree.Named.{Named}
 use Rattle.lv_parser.specs.declared.tree.OperandTree.{OperandTree}
 use Rattle.lv_parser.specs.declared.tree.OperandTree.TheVariants as side

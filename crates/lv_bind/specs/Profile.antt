@@ -1,5 +1,5 @@
 -- Fault 7: views outside the profile. FROM names a view, or the bound view breaks a rule on its list.
-use Rattle.std.specs.Prelude.{ℕ, Bool, true, false, not, List, [], ◌++◌, Option, Some, None}
+use Rattle.std.specs.Prelude.{Bool, true, false, not, List, [], ◌++◌, Option, Some, None}
 use Rattle.std.specs.List.{list_any}
 use Rattle.lv_parser.specs.declared.tree.RefTree.{RefTree}
 use Rattle.lv_parser.specs.declared.tree.Stmt.{Stmt}

@@ -1,5 +1,5 @@
 //! Searches among rows that stand in the order of their keys.
-ghost use Rattle.std.specs.Prelude.{◌≡◌, ◌<◌, ◌≤◌, true, length, filter, not, slice_get, slice_set};
+ghost use Rattle.std.specs.Prelude.{◌≡◌, ◌+◌, ◌<◌, ◌≤◌, ◌&&◌, true, length, filter, not, slice_get, slice_set};
 ghost use Rattle.std.specs.List.{insert};
 ghost use Rattle.lv_values.specs.Ascending.{placed};
 ghost use Rattle.lv_values.specs.Rows.{key_cmp, values_at};
@@ -45,6 +45,7 @@ pub fn is_only_at(key: &[u8], row: &Row, rows: &[Row], at: usize) -> bool
     requires order { AreInKeyOrder key.now rows.now }
     requires within { at ≤ length rows.now }
     requires cut { IsCut (is_below key.now (values_at key.now row.now)) at rows.now }
+    ensures is { result ≡ (passes (same_key key.now row.now) (slice_get rows.now at) && not (passes (same_key key.now row.now) (slice_get rows.now (at + 1)))) }
     ensures there { result ≡ true → at < length rows.now }
     ensures replaced { result ≡ true → replaced key.now row.now rows.now ≡ slice_set rows.now at row.now }
 {

@@ -1,9 +1,8 @@
 -- Tables apart from their conditions.
-use Rattle.std.proofs.Common.{◌≡◌, List, [], ◌∷◌, ◌++◌, map, Option, Some, None, refl, sym, ap, ◌∙◌}
-use Rattle.std.proofs.lemmas.List.{append_assoc, append-nil, map-append}
+use Rattle.std.proofs.Common.{◌≡◌, List, [], ◌∷◌, ◌++◌, Option, Some, None, refl, ap, ◌∙◌}
 use Rattle.lv_parser.specs.declared.sources.Joined.{Joined}
 use Rattle.lv_parser.specs.declared.tree.CondTree.{CondTree}
-use Rattle.lv_parser.specs.Trees.{with_on, tables_of, parts_of}
+use Rattle.lv_parser.specs.Trees.{with_on, parts_of}
 
 with_on_behind : (on : Option CondTree) (xs ys : List CondTree) → with_on on (xs ++ ys) ≡ with_on on xs ++ ys
 with_on_behind None xs ys = refl

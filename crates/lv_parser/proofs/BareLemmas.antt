@@ -1,12 +1,12 @@
 -- Conditions without places, level by level.
-use Rattle.std.proofs.Common.{◌≡◌, List, [], ◌∷◌, map, refl, sym, ap, ◌∙◌, rules}
+use Rattle.std.proofs.Common.{◌≡◌, List, [], ◌∷◌, map, sym, ap, ◌∙◌, rules}
 use Rattle.lv_parser.specs.declared.tree.Sign.{Sign}
 use Rattle.lv_parser.specs.declared.tree.OperandTree.{OperandTree}
 use Rattle.lv_parser.specs.declared.tree.CondTree.{CondTree, the_lemmas}
 use Rattle.lv_parser.specs.declared.tree.CondTree.TheVariants as c
 use Rattle.lv_parser.specs.declared.tree.CondTree.TheVariants.{rolls-And, rolls-Or}
 use Rattle.lv_parser.specs.declared.tree.CondTree.TheOpen.{CondTree-F}
-use Rattle.lv_parser.specs.declared.tree.CondTree.TheFolds.{fold-CondTree, fold-roll-CondTree}
+use Rattle.lv_parser.specs.declared.tree.CondTree.TheFolds.{fold-roll-CondTree}
 use Rattle.lv_parser.specs.Trees.{gathered}
 use Rattle.lv_parser.specs.Bare.{bare_cond, bare_step, bare_operand}
 

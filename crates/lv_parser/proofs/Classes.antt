@@ -1,5 +1,5 @@
 -- Classes by their numbers.
-use Rattle.std.proofs.Common.{◌≡◌, ℕ, zero, suc, Bool, true, false, ◌||◌, nat_eq, refl, sym, ap, ◌∙◌, eq-eqb, Option, Some, None}
+use Rattle.std.proofs.Common.{◌≡◌, true, ap, eq-eqb}
 use Rattle.std.proofs.lemmas.Bool.{eqb-true}
 use Rattle.lv_lexer.specs.declared.terminals.Class.{Class}
 use Rattle.lv_lexer.specs.contracts.terminals.Class.{the_type}

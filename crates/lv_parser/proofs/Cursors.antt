@@ -1,12 +1,12 @@
 -- The next token of a list that lies backwards, as the code takes it off.
-use Rattle.std.proofs.Common.{◌≡◌, ℕ, Bool, true, false, List, [], ◌∷◌, ◌++◌, ◌-◌, ◌<◌, zero, suc, length, reverse, arith, subst, Option, Some, None, slice_get, MatchOption, IfSome, All, Result, Ok, Err, refl, sym, ap, ◌∙◌}
+use Rattle.std.proofs.Common.{◌≡◌, ℕ, Bool, true, false, List, [], ◌∷◌, ◌++◌, ◌-◌, ◌<◌, zero, suc, length, reverse, arith, subst, Option, Some, None, slice_get, MatchOption, IfSome, Ok, Err, refl, sym, ap, ◌∙◌}
 use Rattle.std.proofs.lemmas.List.{reverse-append}
 use denote.Enum.Bare.{same_true, true_same, sameb}
 use Rattle.lv_lexer.specs.contracts.terminals.Class.{the_type}
 use Rattle.lv_lexer.specs.declared.terminals.Class.{Class}
 use Rattle.lv_lexer.specs.declared.terminals.Terminal.{Terminal}
 use Rattle.lv_parser.specs.Class.{same}
-use Rattle.lv_parser.specs.Reading.{Outcome, sees, expect, optional, next}
+use Rattle.lv_parser.specs.Reading.{sees, expect, optional, next}
 use Rattle.lv_parser.specs.Numbers.{IsSmall, AreSmall}
 use Rattle.lv_parser.proofs.Classes.{same_class, same-refl}
 

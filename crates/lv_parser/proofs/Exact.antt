@@ -1,14 +1,14 @@
 -- A reader is exact for a rule where it finds the one reading that the next token doesn't go on with, and else stops at the first token that can't stand.
-use Rattle.std.proofs.Common.{◌≡◌, ℕ, zero, suc, ◌+◌, ◌≤◌, ◌<◌, Bool, true, false, ◌||◌, ◌&&◌, nat_eq, List, [], ◌∷◌, ◌++◌, length, ◌⊎◌, inl, inr, refl, sym, ap, ◌∙◌, subst, arith, Result, Ok, Err, Option, Some, None, if◌then◌else◌}
+use Rattle.std.proofs.Common.{◌≡◌, ℕ, zero, suc, ◌≤◌, ◌<◌, Bool, true, false, ◌||◌, ◌&&◌, nat_eq, List, [], ◌∷◌, ◌++◌, length, ◌⊎◌, inl, inr, refl, sym, ap, ◌∙◌, subst, arith, Ok, Err, Option, Some, None, if◌then◌else◌}
 use Rattle.lv_lexer.specs.declared.terminals.Class.{Class}
 use Rattle.lv_lexer.specs.declared.terminals.Terminal.{Terminal}
 use Rattle.lv_parser.specs.Class.{code, same, member, starts}
 use Rattle.lv_parser.specs.Rule.{Rule, ReadsEach, ReadsIf}
 use Rattle.lv_parser.specs.Rule as rule
-use Rattle.lv_parser.specs.Fault.{IsEnd, Stops}
+use Rattle.lv_parser.specs.Fault.{IsEnd}
 use Rattle.lv_parser.specs.Reading.{Outcome, Reader, and_then, expect, choose, many_from}
 use Rattle.lv_parser.specs.Reading as reading
-use Rattle.lv_parser.proofs.Ends.{end_refl, end_trans, end_total, end_at, end_of, end_shorter, end_anti, length-end}
+use Rattle.lv_parser.proofs.Ends.{end_refl, end_trans, end_total, end_at, end_anti, length-end}
 use Rattle.std.proofs.lemmas.List.{append_assoc, append-nil}
 use Rattle.lv_parser.proofs.Classes.{same_class, same-refl}
 

@@ -1,12 +1,11 @@
 -- Each rule's reader is exact.
-use Rattle.std.proofs.Common.{◌≡◌, ℕ, zero, suc, ℤ, pos, ◌-ℤ◌, Bool, true, false, List, [], ◌∷◌, ◌++◌, Option, Some, None, unwrap_or, Ok, Err, refl, sym}
+use Rattle.std.proofs.Common.{◌≡◌, ℕ, zero, suc, pos, ◌-ℤ◌, true, false, List, [], ◌∷◌, Some, None, unwrap_or, refl}
 use Rattle.lv_lexer.specs.declared.terminals.Class.{Class}
 use Rattle.lv_lexer.specs.declared.terminals.Class.TheVariants as k
 use Rattle.lv_lexer.specs.declared.terminals.Terminal.{Terminal}
 use Rattle.lv_parser.specs.declared.conditions.Within.{Within}
 use Rattle.lv_parser.specs.declared.conditions.Within.TheVariants as w
 use Rattle.lv_parser.specs.declared.sources.Joined.{Joined}
-use Rattle.lv_parser.specs.declared.tree.Named.{Named}
 use Rattle.lv_parser.specs.declared.tree.Tuple.{Tuple}
 use Rattle.lv_parser.specs.declared.tree.ColumnKind.TheVariants as kind
 use Rattle.lv_parser.specs.declared.tree.ColumnTree.{ColumnTree}
@@ -27,11 +26,11 @@ use Rattle.lv_parser.specs.Rule as r
 use Rattle.lv_parser.specs.Trees as tree
 use Rattle.lv_parser.specs.Grammar as rule
 use Rattle.lv_parser.specs.Read as read
-use Rattle.lv_parser.specs.Reading.{Reader, Outcome, ◌>>=◌, ◌>>◌, pure, expect, sees, choice}
-use Rattle.lv_parser.proofs.Readers.{Reads, then_reads, pure_reads, token_reads, or_reads, optional_reads, many_reads, as_reads, wider_reads, sees_tests, either_tests, Tests}
-use Rattle.lv_parser.proofs.Same.{Same, same_reads, joint}
+use Rattle.lv_parser.specs.Reading.{Reader, ◌>>◌, pure, expect, sees, choice}
+use Rattle.lv_parser.proofs.Readers.{Reads, then_reads, pure_reads, token_reads, or_reads, optional_reads, as_reads, wider_reads, sees_tests, either_tests, Tests}
+use Rattle.lv_parser.proofs.Same.{same_reads}
 use Rattle.lv_parser.proofs.Regroup.{same_swapped, same_self, same_after, same_bind}
-use Rattle.lv_parser.proofs.Views.{same_item, same_update, same_delete, same_select, same_statement}
+use Rattle.lv_parser.proofs.Views.{same_item, same_update, same_delete, same_statement}
 use Rattle.lv_parser.proofs.Onward.{separated_reads, more_reads}
 use Rattle.lv_parser.proofs.Parts as part
 

@@ -1,9 +1,9 @@
 -- A loop that reads one part after the other: what is still to be read gives the same from each turn on.
-use Rattle.std.proofs.Common.{◌≡◌, ℕ, zero, suc, ◌+◌, ◌-◌, ◌≤◌, ◌<◌, Bool, true, false, List, [], ◌∷◌, ◌++◌, length, Result, Ok, Err, refl, sym, ap, ◌∙◌, arith}
+use Rattle.std.proofs.Common.{◌≡◌, ℕ, suc, ◌+◌, ◌-◌, ◌≤◌, ◌<◌, Bool, true, false, List, [], ◌∷◌, ◌++◌, length, Ok, Err, refl, sym, ap, ◌∙◌, arith}
 use Rattle.lv_lexer.specs.declared.terminals.Terminal.{Terminal}
 use Rattle.lv_parser.specs.declared.stop.Stop.{Stop}
 use Rattle.lv_parser.specs.declared.stop.Stop.TheVariants.{Syntax, NoMemory}
-use Rattle.lv_parser.specs.Reading.{Outcome, Reader, and_then, choose, pure, many_from, many_more, Gives}
+use Rattle.lv_parser.specs.Reading.{Outcome, Reader, many_from, many_more, Gives}
 
 module _ {A : Type 0} (test : List Terminal → Bool) (p : Reader A) where
   pub loop_begins : (count : ℕ) (found : List A) (all : List Terminal) → count ≡ length all → many_from test p (count - 0) found all ≡ many_more test p found all

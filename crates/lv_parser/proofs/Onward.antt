@@ -1,12 +1,12 @@
 -- Lists, read on from what was found before.
-use Rattle.std.proofs.Common.{◌≡◌, ℕ, zero, suc, Bool, true, false, List, [], ◌∷◌, ◌++◌, length, refl, sym, ap, ◌∙◌, Result, Ok, Err}
+use Rattle.std.proofs.Common.{◌≡◌, ℕ, zero, suc, Bool, true, false, List, [], ◌∷◌, ◌++◌, length, refl, sym, ap, ◌∙◌, Ok, Err}
 use Rattle.std.proofs.lemmas.List.{append_assoc}
 use Rattle.lv_lexer.specs.declared.terminals.Class.{Class}
 use Rattle.lv_lexer.specs.declared.terminals.Terminal.{Terminal}
 use Rattle.lv_parser.specs.Class.{code}
 use Rattle.lv_parser.specs.Rule.{Rule}
 use Rattle.lv_parser.specs.Rule as rule
-use Rattle.lv_parser.specs.Reading.{Outcome, Reader, and_then, choose, pure, many_from, many, many_more, sees, expect, separated, ◌>>=◌, ◌>>◌}
+use Rattle.lv_parser.specs.Reading.{Outcome, Reader, and_then, choose, pure, many_from, many, many_more, separated, ◌>>=◌}
 use Rattle.lv_parser.proofs.Exact.{joined}
 use Rattle.lv_parser.proofs.Readers.{Reads, disjoint, then_reads, many_reads, pure_reads, as_reads, token_reads, sees_tests, Tests}
 

@@ -1,5 +1,5 @@
 -- Parts of rules, grouped as their readers group them.
-use Rattle.std.proofs.Common.{ℤ, pos, ◌-ℤ◌, Bool, true, false, List, [], ◌∷◌, Option, Some, None}
+use Rattle.std.proofs.Common.{ℤ, pos, ◌-ℤ◌, Bool, true, false, List, ◌∷◌, Option, Some, None}
 use Rattle.lv_lexer.specs.declared.terminals.Class.TheVariants as k
 use Rattle.lv_lexer.specs.declared.terminals.Terminal.{Terminal}
 use Rattle.lv_parser.specs.declared.conditions.Within.{Within}

@@ -1,26 +1,26 @@
 -- What is read of a condition is read again where it is printed.
-use Rattle.std.proofs.Common.{◌≡◌, ℕ, zero, suc, Bool, true, false, cond, List, [], ◌∷◌, ◌++◌, map, Option, Some, None, ◌⊎◌, inl, inr, refl, sym, ap, ◌∙◌, subst, codes, rules, arith, length, ◌≤◌}
+use Rattle.std.proofs.Common.{◌≡◌, ℕ, zero, suc, Bool, true, false, cond, List, [], ◌∷◌, ◌++◌, map, ◌⊎◌, inl, inr, refl, sym, ap, ◌∙◌, subst, codes, rules, arith, length, ◌≤◌}
 use Rattle.lv_lexer.specs.declared.terminals.Class.{Class}
 use Rattle.lv_lexer.specs.declared.terminals.Class.TheVariants as k
 use Rattle.lv_lexer.specs.declared.terminals.Terminal.{Terminal}
-use Rattle.lv_lexer.specs.Written.{Lexeme, word, sign}
+use Rattle.lv_lexer.specs.Written.{Lexeme, sign}
 use Rattle.lv_parser.specs.declared.tree.Sign.{Sign}
 use Rattle.lv_parser.specs.declared.tree.OperandTree.{OperandTree}
 use Rattle.lv_parser.specs.declared.tree.CondTree.{CondTree, the_lemmas, out-CondTree}
 use Rattle.lv_parser.specs.declared.tree.CondTree.TheOpen.{CondTree-F}
 use Rattle.lv_parser.specs.declared.tree.CondTree.TheVariants as c
 use Rattle.lv_parser.specs.declared.conditions.Within.{Within}
-use Rattle.lv_parser.specs.Rule.{Rule, token, pure, ◌>>=◌, ◌>>◌, ◌<$>◌, ◌or◌, optional, many, separated, ReadsEach, ReadsIf}
+use Rattle.lv_parser.specs.Rule.{Rule, token, ◌>>◌, ◌<$>◌, separated, ReadsEach}
 use Rattle.lv_parser.specs.Trees.{gathered}
 use Rattle.lv_parser.specs.Grammar as rule
 use Rattle.lv_parser.specs.Bare.{bare_cond, bare_operand}
-use Rattle.lv_parser.specs.Printed.{Chain, Nothing, Single, Ands, Ors, Shown, behind, between, the, in_parens, shown, shown_step, is_wrapped, part_tokens, comparison_tokens, operand_tokens, op_token}
+use Rattle.lv_parser.specs.Printed.{Chain, Nothing, Single, Ands, Ors, Shown, behind, between, the, in_parens, shown, is_wrapped, part_tokens, comparison_tokens, operand_tokens, op_token}
 use Rattle.lv_parser.proofs.BareLemmas.{bare-Cmp, bare-And, bare-Or, bare-Not, gathered_alike}
 use Rattle.lv_parser.proofs.ShownLemmas.{shown-Cmp, shown-And, shown-Or, shown-Not}
 use Rattle.lv_parser.proofs.PrintHonest.{AreHonest}
-use Rattle.lv_parser.proofs.PrintShows.{IsSaid, Says, AllSpell, all_spell_append, Shows, then_shows, made_shows, left_shows, right_shows, EachShows, separated_shows}
+use Rattle.lv_parser.proofs.PrintShows.{AllSpell, all_spell_append, Shows, then_shows, made_shows, left_shows, right_shows, EachShows, separated_shows}
 use Rattle.lv_parser.proofs.PrintWords.{IsThe, the_and, the_or, the_not, the_left_paren, the_right_paren}
-use Rattle.lv_parser.proofs.PrintRules.{Again, Prints, left_by, same_rest, the_shows, the_then, operand_prints, op_shows, op_spelled, op_left}
+use Rattle.lv_parser.proofs.PrintRules.{left_by, same_rest, the_shows, the_then, operand_prints, op_shows, op_spelled, op_left}
 
 -- ---- a rule that reads more
 

@@ -1,12 +1,12 @@
 -- Printed tokens can stand one behind another.
-use Rattle.std.proofs.Common.{◌≡◌, ℕ, suc, ℤ, pos, negsuc, Bool, true, false, cond, ◌&&◌, List, [], ◌∷◌, ◌++◌, map, length, Option, Some, None, nat_eq, nat_le, refl, sym, ap, ◌∙◌, subst, codes}
+use Rattle.std.proofs.Common.{◌≡◌, ℕ, suc, ℤ, pos, negsuc, Bool, true, false, cond, List, [], ◌∷◌, ◌++◌, map, length, Option, Some, None, nat_eq, nat_le, refl, sym, subst, codes}
 use Rattle.std.specs.List.{slice_index}
 use Rattle.std.proofs.Math.Bool.{and-false}
 use Rattle.lv_values.specs.declared.value.Value.{Value}
 use Rattle.lv_values.specs.declared.value.Value.TheVariants as v
 use Rattle.lv_lexer.specs.declared.token.TokenKind.{TokenKind}
 use Rattle.lv_lexer.specs.declared.token.TokenKind.TheVariants as sort
-use Rattle.lv_lexer.specs.Written.{Lexeme, word, number, text, sign, can_follow, signs_part, CanBeRead}
+use Rattle.lv_lexer.specs.Written.{Lexeme, word, number, text, sign, can_follow, CanBeRead}
 use Rattle.lv_parser.specs.declared.tree.Named.{Named}
 use Rattle.lv_parser.specs.declared.tree.ColName.{ColName}
 use Rattle.lv_parser.specs.declared.tree.Literal.{Literal}
@@ -27,7 +27,6 @@ use Rattle.lv_parser.specs.declared.tree.OperandTree.TheVariants as o
 use Rattle.lv_parser.specs.declared.tree.CondTree.{CondTree}
 use Rattle.lv_parser.specs.declared.tree.CondTree.TheOpen.{CondTree-F}
 use Rattle.lv_parser.specs.declared.tree.CondTree.TheFolds.{fold-roll-CondTree, ind-CondTree, map-CondTree}
-use Rattle.lv_parser.specs.declared.tree.CondTree.TheViews.{roll-CondTree}
 use Rattle.lv_parser.specs.declared.tree.Stmt.{Stmt}
 use Rattle.lv_parser.specs.declared.tree.Stmt.TheVariants as st
 use Rattle.lv_parser.specs.Printed as p

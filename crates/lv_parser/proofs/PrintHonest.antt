@@ -1,15 +1,14 @@
 -- Terminals that come from a line: what is known of a name and of a number.
-use Rattle.std.proofs.Common.{◌≡◌, ℕ, ◌+◌, ◌^◌, ◌<◌, Bool, true, false, cond, ◌&&◌, List, [], ◌∷◌, ◌++◌, length, Option, Some, None, nat_eq, refl, sym, ap, ◌∙◌, subst}
+use Rattle.std.proofs.Common.{◌≡◌, ℕ, ◌^◌, ◌<◌, Bool, true, false, cond, ◌&&◌, List, [], ◌∷◌, ◌++◌, length, Option, Some, None, nat_eq, refl, sym, ap, ◌∙◌, subst}
 use Rattle.std.specs.List.{starts_with, list_all}
 use Rattle.std.specs.Str.{bytes_eq, str_to_ascii_lowercase}
-use Rattle.std.specs.Str.Parse.{digits_value}
 use Rattle.lv_lexer.specs.declared.terminals.Class.{Class}
 use Rattle.lv_lexer.specs.declared.terminals.Class.TheVariants as k
 use Rattle.lv_lexer.specs.declared.terminals.Terminal.{Terminal}
 use Rattle.lv_lexer.specs.declared.token.TokenKind.{TokenKind}
 use Rattle.lv_lexer.specs.declared.token.TokenKind.TheVariants.{Word, Number, Text, Sign}
 use Rattle.lv_lexer.specs.Keywords.{keywords, spelled_by, keyword_of}
-use Rattle.lv_lexer.specs.Meaning.{said, word_at, sign_of, plain_at}
+use Rattle.lv_lexer.specs.Meaning.{said, word_at, sign_of}
 use Rattle.lv_lexer.specs.Scan.{Spells}
 use Rattle.lv_lexer.specs.Signs.{first_fit, long_signs, short_signs, sign_at}
 use Rattle.lv_lexer.proofs.Said.{is_number, number_small}

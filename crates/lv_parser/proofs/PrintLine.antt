@@ -1,27 +1,25 @@
 -- The printed line of a statement reads as the statement, but for places.
-use Rattle.std.proofs.Common.{◌≡◌, ℕ, ◌+◌, false, List, [], ◌∷◌, map, Option, None, Some, refl, sym, ap, ◌∙◌, subst}
+use Rattle.std.proofs.Common.{◌≡◌, ℕ, ◌+◌, false, List, [], ◌∷◌, Option, None, Some, refl, sym, ap, ◌∙◌}
 use Rattle.std.specs.List.{All}
 use Rattle.std.specs.Str.{str_to_ascii_lowercase}
 use Rattle.std.proofs.lemmas.List.Elements.{All-head, All-tail}
-use Rattle.lv_lexer.specs.declared.terminals.Terminal.{Terminal}
 use Rattle.lv_lexer.specs.declared.token.Token.{Token}
 use Rattle.lv_lexer.specs.declared.token.TokenKind.{TokenKind}
 use Rattle.lv_lexer.specs.declared.token.TokenKind.TheVariants.{Word, Number, Text, Sign}
 use Rattle.lv_lexer.specs.declared.terminals.Class.{Class}
 use Rattle.lv_lexer.specs.Keywords.{keyword_of}
 use Rattle.lv_lexer.specs.Meaning.{said, terminal_of, word_at}
-use Rattle.lv_lexer.specs.Scan.{Scans, IsTokenOf, text_in}
-use Rattle.lv_lexer.specs.Written.{Lexeme, line_of, IsWritten, AreWritten}
+use Rattle.lv_lexer.specs.Scan.{IsTokenOf, text_in}
+use Rattle.lv_lexer.specs.Written.{Lexeme, line_of, AreWritten}
 use Rattle.lv_lexer.proofs.Again.{placed, line_again}
 use Rattle.lv_lexer.proofs.Spans.{each_token}
 use Rattle.lv_parser.specs.declared.tree.Stmt.{Stmt}
 use Rattle.lv_parser.specs.Bare.{bare}
-use Rattle.lv_parser.specs.Grammar as rule
 use Rattle.lv_parser.specs.Lines as lines
 use Rattle.lv_parser.specs.Lines.{ReadsAs}
 use Rattle.lv_parser.specs.Printed.{stmt_tokens}
 use Rattle.lv_parser.proofs.PrintFollow.{printed_can_be_read}
-use Rattle.lv_parser.proofs.PrintHonest.{IsHonest, AreHonest}
+use Rattle.lv_parser.proofs.PrintHonest.{AreHonest}
 use Rattle.lv_parser.proofs.PrintShows.{IsSaid, Says}
 use Rattle.lv_parser.proofs.PrintStmts.{line_prints}
 

@@ -1,5 +1,5 @@
 -- What is read of the parts of statements is read again where it is printed.
-use Rattle.std.proofs.Common.{◌≡◌, ℕ, zero, suc, ℤ, pos, negsuc, ◌-ℤ◌, ◌^◌, ◌<◌, Bool, true, false, List, [], ◌∷◌, ◌++◌, map, Option, Some, None, option_map, unwrap_or, ◌⊎◌, inl, inr, refl, sym, ap, ◌∙◌, subst, append_assoc, codes}
+use Rattle.std.proofs.Common.{◌≡◌, ℕ, zero, suc, ℤ, pos, negsuc, ◌-ℤ◌, ◌^◌, ◌<◌, Bool, true, false, List, [], ◌∷◌, ◌++◌, Option, Some, None, unwrap_or, inl, inr, refl, sym, ap, ◌∙◌, subst, append_assoc, codes}
 use Rattle.lv_lexer.specs.declared.terminals.Class.TheVariants as k
 use Rattle.lv_lexer.specs.declared.terminals.Terminal.{Terminal}
 use Rattle.lv_lexer.specs.Written.{Lexeme, sign, number}
@@ -15,14 +15,14 @@ use Rattle.lv_parser.specs.declared.tree.ItemTree.TheVariants as i
 use Rattle.lv_parser.specs.declared.tree.Assign.{Assign}
 use Rattle.lv_parser.specs.declared.tree.AssignValue.{AssignValue}
 use Rattle.lv_parser.specs.declared.tree.AssignValue.TheVariants as a
-use Rattle.lv_parser.specs.Rule.{Rule, token, pure, ◌>>=◌, ◌>>◌, ◌<$>◌, ◌or◌, optional, many, separated, ReadsEach, ReadsIf}
+use Rattle.lv_parser.specs.Rule.{Rule, token, pure, ◌>>=◌, ◌>>◌, ◌<$>◌, ◌or◌, optional}
 use Rattle.lv_parser.specs.Trees.{source_of}
 use Rattle.lv_parser.specs.Grammar as rule
 use Rattle.lv_parser.specs.Bare.{bare_name, bare_name_if, bare_col, bare_literal, bare_column, bare_item, bare_value, bare_assign, bare_ord}
-use Rattle.lv_parser.specs.Printed.{the, comma, in_parens, name_tokens, col_tokens, literal_tokens, kind_token, column_tokens, output_tokens, output_if, plain_tokens, sum_tokens, count_tokens, item_tokens, amount_tokens, assigned_tokens, assign_tokens, falls_tokens, ord_tokens}
-use Rattle.lv_parser.proofs.PrintHonest.{IsHonest, AreHonest, honest_number}
-use Rattle.lv_parser.proofs.PrintShows.{IsSaid, Says, AllSpell, all_spell_append, Shows, pure_shows, token_shows, then_shows, made_shows, left_shows, right_shows, some_shows, none_shows, weaker, as_tokens_of}
-use Rattle.lv_parser.proofs.PrintWords.{IsThe, the_as, the_count, the_desc, the_int, the_sum, the_text, the_left_paren, the_right_paren, the_star, the_plus, the_minus, the_equal}
+use Rattle.lv_parser.specs.Printed.{the, in_parens, name_tokens, col_tokens, literal_tokens, kind_token, column_tokens, output_tokens, output_if, item_tokens, amount_tokens, assigned_tokens, assign_tokens, falls_tokens, ord_tokens}
+use Rattle.lv_parser.proofs.PrintHonest.{AreHonest, honest_number}
+use Rattle.lv_parser.proofs.PrintShows.{AllSpell, all_spell_append, Shows, token_shows, then_shows, made_shows, left_shows, right_shows, some_shows, none_shows, as_tokens_of}
+use Rattle.lv_parser.proofs.PrintWords.{the_as, the_count, the_desc, the_int, the_sum, the_text, the_left_paren, the_right_paren, the_star, the_plus, the_minus, the_equal}
 use Rattle.lv_parser.proofs.PrintRules.{Again, Prints, left_by, same_rest, the_shows, the_then, number_is, minus_is, name_prints, col_prints, literal_prints}
 
 -- ---- columns

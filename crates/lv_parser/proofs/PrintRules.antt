@@ -1,13 +1,10 @@
 -- What each rule reads is read again where it is printed.
-use Rattle.std.proofs.Common.{◌≡◌, ℕ, zero, suc, ℤ, pos, negsuc, ◌-ℤ◌, ◌^◌, ◌<◌, Bool, true, false, List, [], ◌∷◌, ◌++◌, map, Option, Some, None, option_map, ◌⊎◌, inl, inr, refl, sym, ap, ◌∙◌, subst, arith, codes, decimal}
+use Rattle.std.proofs.Common.{◌≡◌, ℕ, zero, suc, ℤ, pos, negsuc, ◌-ℤ◌, ◌^◌, ◌<◌, List, [], ◌∷◌, ◌++◌, map, Option, Some, None, option_map, inl, inr, refl, sym, ap, ◌∙◌, subst, arith, codes}
 use Rattle.std.proofs.lemmas.Int.{ints}
-use Rattle.lv_values.specs.declared.value.Value.{Value}
 use Rattle.lv_values.specs.declared.value.Value.TheVariants as v
-use Rattle.lv_values.specs.Print.{quoted}
 use Rattle.lv_lexer.specs.declared.terminals.Class.{Class}
 use Rattle.lv_lexer.specs.declared.terminals.Class.TheVariants as k
 use Rattle.lv_lexer.specs.declared.terminals.Terminal.{Terminal}
-use Rattle.lv_lexer.specs.Meaning.{said}
 use Rattle.lv_lexer.specs.Written.{Lexeme, word, number, text, sign}
 use Rattle.lv_lexer.proofs.Spelling.{number_spells, number_says, text_spells, text_says}
 use Rattle.lv_parser.specs.declared.tree.Named.{Named}
@@ -19,13 +16,13 @@ use Rattle.lv_parser.specs.declared.tree.Sign.TheVariants as s
 use Rattle.lv_parser.specs.declared.tree.OperandTree.{OperandTree}
 use Rattle.lv_parser.specs.declared.tree.OperandTree.TheVariants as o
 use Rattle.lv_parser.specs.declared.conditions.Within.{Within}
-use Rattle.lv_parser.specs.Rule.{Rule, token, pure, ◌>>=◌, ◌>>◌, ◌<$>◌, ◌or◌, optional, many, separated, ReadsEach, ReadsIf}
-use Rattle.lv_parser.specs.Trees.{named_of, column_of, number_at, text_at}
+use Rattle.lv_parser.specs.Rule.{Rule, token, pure, ◌>>◌, separated, ReadsEach}
+use Rattle.lv_parser.specs.Trees.{named_of, column_of, number_at}
 use Rattle.lv_parser.specs.Grammar as rule
-use Rattle.lv_parser.specs.Bare.{bare_name, bare_name_if, bare_col, bare_literal, bare_tuple, bare_operand}
-use Rattle.lv_parser.specs.Printed.{behind, between, name_tokens, qualifier_tokens, col_tokens, number_tokens, literal_tokens, tuple_tokens, comma, op_token, operand_tokens, comparison_tokens}
+use Rattle.lv_parser.specs.Bare.{bare_name, bare_col, bare_literal, bare_tuple, bare_operand}
+use Rattle.lv_parser.specs.Printed.{behind, between, name_tokens, col_tokens, number_tokens, literal_tokens, tuple_tokens, comma, op_token, operand_tokens}
 use Rattle.lv_parser.proofs.PrintHonest.{IsHonest, AreHonest, IsNameText, honest_name, honest_number}
-use Rattle.lv_parser.proofs.PrintShows.{IsSaid, Says, AllSpell, all_spell_append, Shows, pure_shows, token_shows, then_shows, made_shows, left_shows, right_shows, some_shows, none_shows, weaker, EachShows, separated_shows}
+use Rattle.lv_parser.proofs.PrintShows.{IsSaid, AllSpell, all_spell_append, Shows, token_shows, then_shows, made_shows, left_shows, right_shows, some_shows, none_shows, EachShows, separated_shows}
 use Rattle.lv_parser.proofs.PrintWords.{IsThe, the_dot, the_minus, the_left_paren, the_right_paren, the_comma_sign, the_equal, the_not_equal, the_less, the_less_equal, the_greater, the_greater_equal}
 
 -- what is printed of a tree spells and is read again, but for places

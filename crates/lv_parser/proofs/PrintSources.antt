@@ -1,9 +1,9 @@
 -- What is read after FROM, with its condition, is read again where it is printed.
-use Rattle.std.proofs.Common.{◌≡◌, ℕ, zero, suc, ◌+◌, ◌≤◌, Bool, true, false, List, [], ◌∷◌, ◌++◌, map, length, Option, Some, None, option_map, ◌⊎◌, inl, inr, refl, sym, ap, ◌∙◌, subst, append_assoc, codes, arith}
+use Rattle.std.proofs.Common.{◌≡◌, ℕ, suc, ◌+◌, ◌≤◌, List, [], ◌∷◌, ◌++◌, map, length, Option, Some, None, option_map, inl, inr, refl, sym, ap, ◌∙◌, subst, append_assoc, arith}
 use Rattle.std.proofs.lemmas.Bool.{cases_lt}
 use Rattle.lv_lexer.specs.declared.terminals.Class.TheVariants as k
 use Rattle.lv_lexer.specs.declared.terminals.Terminal.{Terminal}
-use Rattle.lv_lexer.specs.Written.{Lexeme, sign}
+use Rattle.lv_lexer.specs.Written.{Lexeme}
 use Rattle.lv_parser.specs.declared.tree.Named.{Named}
 use Rattle.lv_parser.specs.declared.tree.RefTree.{RefTree}
 use Rattle.lv_parser.specs.declared.tree.CondTree.{CondTree, out-CondTree, roll-CondTree}
@@ -13,18 +13,18 @@ use Rattle.lv_parser.specs.declared.tree.CondTree.TheOpen.{CondTree-F}
 use Rattle.lv_parser.specs.declared.tree.CondTree.TheVariants as c
 use Rattle.lv_parser.specs.declared.conditions.Within.{Within}
 use Rattle.lv_parser.specs.declared.sources.Joined.{Joined}
-use Rattle.lv_parser.specs.Rule.{Rule, token, pure, ◌>>=◌, ◌>>◌, ◌<$>◌, ◌or◌, optional, many, separated, ReadsEach, ReadsIf}
+use Rattle.lv_parser.specs.Rule.{Rule, token, pure, ◌>>=◌, ◌>>◌, ◌or◌, optional, many, ReadsEach, ReadsIf}
 use Rattle.lv_parser.specs.Trees.{gathered, cond_or_true, with_on, tables_of, parts_of, condition_of}
 use Rattle.lv_parser.specs.Grammar as rule
 use Rattle.lv_parser.specs.Bare.{bare_name, bare_ref, bare_cond}
 use Rattle.lv_parser.specs.Printed.{Chain, Nothing, Single, Ands, Ors, Shown, the, comma, shown, name_tokens, alias_tokens, ref_tokens, where_tokens, whole, join_tokens, joined_tokens, placed_parts, from_tokens, filter_tokens}
-use Rattle.lv_parser.proofs.BareLemmas.{bare-True, bare-And}
+use Rattle.lv_parser.proofs.BareLemmas.{bare-And}
 use Rattle.lv_parser.proofs.ShownLemmas.{shown-True, shown-Cmp, shown-And, shown-Or, shown-Not, whole-Some, whole-True, placed-And_few, placed-And_many}
 use Rattle.lv_parser.proofs.PrintHonest.{AreHonest}
-use Rattle.lv_parser.proofs.PrintShows.{IsSaid, Says, says_parts, AllSpell, all_spell_append, Shows, then_shows, made_shows, left_shows, right_shows, some_shows, none_shows, weaker, as_tokens_of}
-use Rattle.lv_parser.proofs.PrintWords.{IsThe, the_as, the_from, the_join, the_on, the_where, the_comma_sign}
-use Rattle.lv_parser.proofs.PrintRules.{Again, Prints, left_by, same_rest, the_shows, the_then, name_prints}
-use Rattle.lv_parser.proofs.PrintConds.{Each, each_part, Alike, Levels, IsAlone, IsParted, IsCond, IsConj, IsUnit, cond_known, unit_known}
+use Rattle.lv_parser.proofs.PrintShows.{says_parts, AllSpell, all_spell_append, Shows, then_shows, made_shows, left_shows, right_shows, some_shows, none_shows, weaker, as_tokens_of}
+use Rattle.lv_parser.proofs.PrintWords.{the_from, the_join, the_on, the_where, the_comma_sign}
+use Rattle.lv_parser.proofs.PrintRules.{Again, Prints, left_by, same_rest, the_then, name_prints}
+use Rattle.lv_parser.proofs.PrintConds.{Each, each_part, Alike, Levels, IsAlone, IsParted, cond_known, unit_known}
 
 -- ---- references
 

@@ -1,5 +1,5 @@
 -- What is read of a statement is read again where it is printed.
-use Rattle.std.proofs.Common.{◌≡◌, ℕ, Bool, true, false, List, [], ◌∷◌, ◌++◌, map, Option, Some, None, option_map, ◌⊎◌, inl, inr, refl, sym, ap, ◌∙◌, subst, append_assoc, codes}
+use Rattle.std.proofs.Common.{◌≡◌, Bool, List, [], ◌∷◌, ◌++◌, map, Option, Some, None, option_map, inl, inr, refl, sym, ap, ◌∙◌, subst, append_assoc, codes}
 use Rattle.lv_lexer.specs.declared.terminals.Class.{Class}
 use Rattle.lv_lexer.specs.declared.terminals.Class.TheVariants as k
 use Rattle.lv_lexer.specs.declared.terminals.Terminal.{Terminal}
@@ -14,19 +14,18 @@ use Rattle.lv_parser.specs.declared.tree.Assign.{Assign}
 use Rattle.lv_parser.specs.declared.tree.CondTree.{CondTree}
 use Rattle.lv_parser.specs.declared.tree.Stmt.{Stmt}
 use Rattle.lv_parser.specs.declared.tree.Stmt.TheVariants as st
-use Rattle.lv_parser.specs.declared.conditions.Within.{Within}
 use Rattle.lv_parser.specs.declared.conditions.Within.TheVariants as stands
 use Rattle.lv_parser.specs.declared.sources.Joined.{Joined}
-use Rattle.lv_parser.specs.Rule.{Rule, token, pure, ◌>>=◌, ◌>>◌, ◌<$>◌, ◌or◌, optional, many, separated, ReadsEach, ReadsIf}
+use Rattle.lv_parser.specs.Rule.{Rule, token, pure, ◌>>◌, ◌<$>◌, ◌or◌, optional, separated}
 use Rattle.lv_parser.specs.Trees.{cond_or_true, list_or_none, tables_of, condition_of}
 use Rattle.lv_parser.specs.Grammar as rule
 use Rattle.lv_parser.specs.Bare.{bare, bare_name, bare_col, bare_tuple, bare_column, bare_item, bare_ref, bare_assign, bare_ord, bare_cond}
-use Rattle.lv_parser.specs.Printed.{the, comma, between, in_parens, name_tokens, col_tokens, tuple_tokens, column_tokens, item_tokens, assign_tokens, ord_tokens, filter_tokens, from_tokens, groups_tokens, order_tokens, listed_tokens, key_tokens, create_table_tokens, view_name_tokens, create_view_tokens, insert_tokens, update_tokens, delete_tokens, select_tokens, stmt_tokens}
+use Rattle.lv_parser.specs.Printed.{the, comma, between, in_parens, name_tokens, col_tokens, tuple_tokens, column_tokens, item_tokens, assign_tokens, ord_tokens, filter_tokens, from_tokens, groups_tokens, order_tokens, listed_tokens, key_tokens, create_table_tokens, view_name_tokens, create_view_tokens, update_tokens, select_tokens, stmt_tokens}
 use Rattle.lv_parser.proofs.PrintHonest.{AreHonest}
-use Rattle.lv_parser.proofs.PrintShows.{AllSpell, all_spell_append, Shows, then_shows, made_shows, left_shows, right_shows, some_shows, none_shows, weaker, as_tokens_of}
+use Rattle.lv_parser.proofs.PrintShows.{AllSpell, all_spell_append, Shows, then_shows, made_shows, left_shows, right_shows, some_shows, none_shows, as_tokens_of}
 use Rattle.lv_parser.proofs.PrintWords.{IsThe, the_as, the_begin, the_by, the_commit, the_create, the_delete, the_from, the_group, the_insert, the_into, the_key, the_order, the_primary, the_rollback, the_select, the_set, the_show, the_table, the_tasks, the_update, the_values, the_view, the_left_paren, the_right_paren, the_comma_sign, the_star}
-use Rattle.lv_parser.proofs.PrintRules.{Again, Prints, left_by, same_rest, the_shows, the_then, name_prints, col_prints, tuple_prints, separated_prints, list_again}
-use Rattle.lv_parser.proofs.PrintSources.{IsFrom, IsFilter, PrintsFrom, AlikeFrom, AlikeRefs, from_known, filter_known, sources_again, filter_again}
+use Rattle.lv_parser.proofs.PrintRules.{Again, Prints, left_by, same_rest, the_shows, the_then, name_prints, col_prints, tuple_prints, separated_prints}
+use Rattle.lv_parser.proofs.PrintSources.{IsFilter, PrintsFrom, from_known, filter_known, sources_again, filter_again}
 use Rattle.lv_parser.proofs.PrintParts.{column_prints, item_prints, assign_prints, ord_prints, parens_spell, parens_then}
 
 -- lists with commas

@@ -1,7 +1,6 @@
 -- The classes of the tokens that are printed, and that they spell their kinds.
 use Rattle.std.proofs.Common.{◌≡◌, ℕ, refl, codes}
 use Rattle.lv_lexer.specs.declared.terminals.Class.TheVariants as k
-use Rattle.lv_lexer.specs.declared.token.TokenKind.TheVariants.{Word, Sign}
 use Rattle.lv_lexer.specs.Keywords.{keyword_of}
 use Rattle.lv_lexer.specs.Piece.{piece}
 use Rattle.lv_lexer.specs.Scan.{Spells}

@@ -1,5 +1,5 @@
 -- Rules put together in another order, with the same readings and fronts.
-use Rattle.std.proofs.Common.{◌≡◌, ℕ, Bool, List, ◌⊎◌, inl, inr, refl, sym, subst}
+use Rattle.std.proofs.Common.{List, inl, inr, refl, sym, subst}
 use Rattle.lv_lexer.specs.declared.terminals.Terminal.{Terminal}
 use Rattle.lv_parser.specs.Rule.{Rule}
 use Rattle.lv_parser.specs.Rule as rule

@@ -1,15 +1,11 @@
 -- Two rules with the same readings and fronts.
-use Rattle.std.proofs.Common.{◌≡◌, ℕ, Bool, true, false, List, [], ◌∷◌, ◌++◌, ◌⊎◌, inl, inr, refl, sym, ◌∙◌, Result, Ok, Err}
+use Rattle.std.proofs.Common.{ℕ, Bool, List, inl, inr, Ok, Err}
 use Rattle.lv_lexer.specs.declared.terminals.Terminal.{Terminal}
-use Rattle.lv_parser.specs.Class.{starts}
 use Rattle.lv_parser.specs.Rule.{Rule}
 use Rattle.lv_parser.specs.Rule as rule
-use Rattle.lv_parser.specs.Fault.{IsEnd}
-use Rattle.lv_parser.specs.Reading.{Outcome, Reader, choose}
-use Rattle.lv_parser.specs.Reading as reading
-use Rattle.lv_parser.proofs.Ends.{end_at}
-use Rattle.lv_parser.proofs.Exact.{Starts, Apart, Begins, Exact, Halts, Found, Fails, starts_left, starts_right, moved, begun, unread, unread_front}
-use Rattle.lv_parser.proofs.Readers.{Reads, Tests, disjoint, apart_of}
+use Rattle.lv_parser.specs.Reading.{Outcome, Reader}
+use Rattle.lv_parser.proofs.Exact.{Exact, Halts}
+use Rattle.lv_parser.proofs.Readers.{Reads}
 
 pub record Same {A : Type 0} (g h : Rule A) : Type 0 where
   pub reads : (all : List Terminal) (a : A) (rest : List Terminal) → g.reads all a rest → h.reads all a rest

@@ -1,5 +1,5 @@
 -- The printed form of a condition, level by level.
-use Rattle.std.proofs.Common.{◌≡◌, ℕ, ◌≤◌, ◌<◌, Bool, true, false, cond, nat_le, List, [], ◌∷◌, ◌++◌, map, length, refl, sym, ap, ◌∙◌, rules, arith, le-leb, suc}
+use Rattle.std.proofs.Common.{◌≡◌, ℕ, ◌≤◌, ◌<◌, Bool, true, false, cond, nat_le, List, [], ◌∷◌, map, length, refl, sym, ap, ◌∙◌, rules, le-leb, suc}
 use Rattle.std.proofs.lemmas.Bool.{lt-leb}
 use Rattle.lv_lexer.specs.Written.{Lexeme}
 use Rattle.lv_parser.specs.declared.tree.Sign.{Sign}
@@ -8,8 +8,8 @@ use Rattle.lv_parser.specs.declared.tree.CondTree.{CondTree, the_lemmas}
 use Rattle.lv_parser.specs.declared.tree.CondTree.TheVariants as c
 use Rattle.lv_parser.specs.declared.tree.CondTree.TheVariants.{rolls-And, rolls-Or}
 use Rattle.lv_parser.specs.declared.tree.CondTree.TheOpen.{CondTree-F}
-use Rattle.lv_parser.specs.declared.tree.CondTree.TheFolds.{fold-CondTree, fold-roll-CondTree}
-use Rattle.lv_parser.specs.Printed.{Chain, Shown, Nothing, Single, Ands, Ors, shown, shown_step, single, no_condition, part_tokens, between, the, comparison_tokens, whole, placed_parts}
+use Rattle.lv_parser.specs.declared.tree.CondTree.TheFolds.{fold-roll-CondTree}
+use Rattle.lv_parser.specs.Printed.{Chain, Shown, Nothing, Single, Ands, Ors, shown, shown_step, single, no_condition, comparison_tokens, whole, placed_parts}
 
 pub shown-True : shown c.True ≡ no_condition
 shown-True = search (rules, the_lemmas)

@@ -1,10 +1,10 @@
 -- A comparison's sign, as the code reads it.
-use Rattle.std.proofs.Common.{◌≡◌, List, [], ◌∷◌, drop, Option, Some, None, Result, Ok, Err, refl, sym, ap, subst}
+use Rattle.std.proofs.Common.{◌≡◌, List, [], ◌∷◌, drop, Some, None, Ok, Err, refl}
 use Rattle.lv_parser.specs.declared.tree.Sign.{Sign}
 use Rattle.lv_lexer.specs.declared.terminals.Class.{Class}
 use Rattle.lv_lexer.specs.declared.terminals.Terminal.{Terminal}
-use Rattle.lv_parser.specs.Reading.{Outcome, next_class}
-use Rattle.lv_parser.specs.Read.{op, op_at, sign_of}
+use Rattle.lv_parser.specs.Reading.{next_class}
+use Rattle.lv_parser.specs.Read.{op, sign_of}
 
 pub op_none : (all : List Terminal) → None ≡ next_class all → op all ≡ Err all
 unfolding op

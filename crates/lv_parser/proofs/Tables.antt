@@ -1,5 +1,5 @@
 -- CREATE TABLE, as it is printed and as it is read: `{ "," column } "," PRIMARY` is `"," { column "," } PRIMARY`.
-use Rattle.std.proofs.Common.{◌≡◌, List, [], ◌∷◌, inl, inr, refl}
+use Rattle.std.proofs.Common.{List, ◌∷◌, inl, inr, refl}
 use Rattle.lv_lexer.specs.declared.terminals.Class.TheVariants as k
 use Rattle.lv_lexer.specs.declared.terminals.Terminal.{Terminal}
 use Rattle.lv_parser.specs.declared.tree.Named.{Named}
@@ -11,7 +11,7 @@ use Rattle.lv_parser.specs.Rule as rule
 use Rattle.lv_parser.specs.Grammar.{column}
 use Rattle.lv_parser.proofs.Parts as part
 use Rattle.lv_parser.proofs.Same.{Same}
-use Rattle.lv_parser.proofs.Regroup.{same_self, same_then, same_after, same_back, then_flat, same_given}
+use Rattle.lv_parser.proofs.Regroup.{same_then, same_after, same_back, then_flat, same_given}
 use Rattle.lv_parser.proofs.Shift.{shifted}
 
 module _ (table : Named) where

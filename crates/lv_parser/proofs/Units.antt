@@ -1,10 +1,10 @@
 -- Where a unit ends in parentheses, and where it is a comparison.
-use Rattle.std.proofs.Common.{◌≡◌, ℕ, suc, Bool, true, false, List, Result, Ok, Err, refl, sym, ap, ◌∙◌}
+use Rattle.std.proofs.Common.{◌≡◌, ℕ, suc, true, false, List, Ok, Err, refl}
 use Rattle.lv_lexer.specs.declared.terminals.Class.TheVariants.{Not, LeftParen, RightParen}
 use Rattle.lv_lexer.specs.declared.terminals.Terminal.{Terminal}
 use Rattle.lv_parser.specs.declared.conditions.Within.{Within}
 use Rattle.lv_parser.specs.declared.tree.CondTree.{CondTree}
-use Rattle.lv_parser.specs.Reading.{Outcome, sees, expect}
+use Rattle.lv_parser.specs.Reading.{sees, expect}
 use Rattle.lv_parser.specs.Read.{unit, cond_of, comparison}
 
 pub unit_other : (within : Within) (d depth : ℕ) (all : List Terminal) → depth ≡ suc d → sees Not all ≡ false → sees LeftParen all ≡ false

@@ -1,5 +1,5 @@
 -- Ends of statements, and CREATE by what is made.
-use Rattle.std.proofs.Common.{◌≡◌, List, [], ◌∷◌, inl, inr, refl}
+use Rattle.std.proofs.Common.{List, refl}
 use Rattle.lv_lexer.specs.declared.terminals.Class.TheVariants as k
 use Rattle.lv_parser.specs.declared.tree.Stmt.{Stmt}
 use Rattle.lv_parser.specs.Rule.{Rule}

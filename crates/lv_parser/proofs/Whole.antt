@@ -1,10 +1,10 @@
 -- From an exact reader to the answer for all tokens.
-use Rattle.std.proofs.Common.{◌≡◌, ℕ, Bool, true, false, ◌&&◌, List, [], ◌∷◌, ◌⊎◌, inl, inr, Result, Ok, Err, refl, sym, ◌∙◌, subst}
+use Rattle.std.proofs.Common.{◌≡◌, ℕ, Bool, true, false, ◌&&◌, List, [], ◌∷◌, ◌⊎◌, inl, inr, Ok, Err, refl, sym, ◌∙◌, subst}
 use Rattle.lv_lexer.specs.declared.terminals.Terminal.{Terminal}
 use Rattle.lv_parser.specs.Rule.{Rule}
 use Rattle.lv_parser.specs.Fault.{IsEnd, Stops, IsFault, byte_of}
 use Rattle.lv_parser.specs.Reading.{Outcome, Reader, is_nothing}
-use Rattle.lv_parser.proofs.Ends.{end_trans, end_of, end_shorter, end_refl, end_total, end_anti}
+use Rattle.lv_parser.proofs.Ends.{end_trans, end_of, end_shorter, end_refl, end_total}
 use Rattle.lv_parser.proofs.Exact.{Starts, Halts, Found, Fails, Exact}
 use Rattle.lv_parser.proofs.Readers.{Reads}
 

@@ -1,5 +1,5 @@
 -- Trees without their places.
-use Rattle.std.specs.Prelude.{ℕ, Bool, List, [], ◌∷◌, map, Option, Some, None, option_map}
+use Rattle.std.specs.Prelude.{Bool, map, Option, option_map}
 use Rattle.lv_parser.specs.declared.tree.Named.{Named}
 use Rattle.lv_parser.specs.declared.tree.ColName.{ColName}
 use Rattle.lv_parser.specs.declared.tree.Literal.{Literal}

@@ -1,5 +1,5 @@
 -- The grammar of a line, from the bottom: a block for each line of the grammar that docs/LANGUAGE.md prints.
-use Rattle.std.specs.Prelude.{ℕ, zero, suc, ℤ, pos, ◌-ℤ◌, Bool, true, false, List, [], ◌∷◌, Option, Some, None, unwrap_or}
+use Rattle.std.specs.Prelude.{ℕ, zero, suc, pos, ◌-ℤ◌, Bool, true, false, List, ◌∷◌, Option, Some, None, unwrap_or}
 use Rattle.lv_lexer.specs.declared.terminals.Class.TheVariants as k
 use Rattle.lv_parser.specs.declared.conditions.Within.{Within}
 use Rattle.lv_parser.specs.declared.conditions.Within.TheVariants as w
@@ -8,14 +8,12 @@ use Rattle.lv_parser.specs.declared.tree.Named.{Named}
 use Rattle.lv_parser.specs.declared.tree.ColName.{ColName}
 use Rattle.lv_parser.specs.declared.tree.Literal.{Literal}
 use Rattle.lv_parser.specs.declared.tree.Tuple.{Tuple}
-use Rattle.lv_parser.specs.declared.tree.ColumnKind.{ColumnKind}
 use Rattle.lv_parser.specs.declared.tree.ColumnKind.TheVariants as kind
 use Rattle.lv_parser.specs.declared.tree.ColumnTree.{ColumnTree}
 use Rattle.lv_parser.specs.declared.tree.ItemTree.{ItemTree}
 use Rattle.lv_parser.specs.declared.tree.ItemTree.TheVariants as i
 use Rattle.lv_parser.specs.declared.tree.RefTree.{RefTree}
 use Rattle.lv_parser.specs.declared.tree.Assign.{Assign}
-use Rattle.lv_parser.specs.declared.tree.AssignValue.{AssignValue}
 use Rattle.lv_parser.specs.declared.tree.AssignValue.TheVariants as a
 use Rattle.lv_parser.specs.declared.tree.Sign.{Sign}
 use Rattle.lv_parser.specs.declared.tree.Sign.TheVariants as s

@@ -1,7 +1,7 @@
 -- The printed form of a statement, as the tokens that are written: keywords in lower case, `join` without `inner`, an alias
 -- without `as`, no `asc`, no `;`. Parentheses stand only round an Or in an And or an Or, round an And in an And, and round
 -- an And or an Or under NOT.
-use Rattle.std.specs.Prelude.{ℕ, suc, ℤ, pos, negsuc, Bool, true, false, if◌then◌else◌, ◌&&◌, nat_le, List, [], ◌∷◌, ◌++◌, map, length, Option, Some, None, codes}
+use Rattle.std.specs.Prelude.{ℕ, suc, ℤ, pos, negsuc, Bool, true, false, if◌then◌else◌, nat_le, List, [], ◌∷◌, ◌++◌, map, length, Option, Some, None, codes}
 use Prim.Native.String.{String}
 use Rattle.lv_values.specs.declared.value.Value.{Value}
 use Rattle.lv_values.specs.declared.value.Value.TheVariants as v

@@ -1,6 +1,6 @@
 -- What a rule of a grammar reads, and what its fronts are. A list of tokens is given by two of its ends:
 -- the tokens of `all` up to `rest`.
-use Rattle.std.specs.Prelude.{◌≡◌, Bool, List, [], ◌∷◌, ◌⊎◌, Option, Some, None}
+use Rattle.std.specs.Prelude.{◌≡◌, List, [], ◌∷◌, ◌⊎◌, Option, Some, None}
 use Rattle.lv_lexer.specs.declared.terminals.Class.{Class}
 use Rattle.lv_lexer.specs.declared.terminals.Terminal.{Terminal}
 

@@ -1,5 +1,5 @@
 -- What the rules make of what they read.
-use Rattle.std.specs.Prelude.{ℕ, ℤ, pos, ◌-ℤ◌, List, [], ◌∷◌, ◌++◌, map, Option, Some, None}
+use Rattle.std.specs.Prelude.{ℤ, pos, ◌-ℤ◌, List, [], ◌∷◌, map, Option, Some, None}
 use Rattle.lv_values.specs.declared.value.Value.TheVariants as v
 use Rattle.lv_lexer.specs.declared.terminals.Terminal.{Terminal}
 use Rattle.lv_parser.specs.declared.sources.Joined.{Joined}

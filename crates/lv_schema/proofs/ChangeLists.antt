@@ -1,29 +1,22 @@
 -- Lists of changes are equal where they say the same of each row; entries that add up to what becomes of the rows are
 -- the difference once added up; and differences add up along three lists of tuples.
-use Rattle.std.proofs.Common.{◌≡◌, ℕ, zero, suc, ◌<◌, ℤ, pos, neg_ℤ, ◌+ℤ◌, ◌-ℤ◌, Bool, true, false, cond, not, ◌&&◌, ◌||◌, Some, None, Option, List, [], ◌∷◌, ◌++◌, map, length, get_or, refl, sym, ap, ◌∙◌, subst, arith}
-use Rattle.std.proofs.lemmas.Int.{ints, int_wrap-add_same, int_wrap-add_left}
-use Rattle.std.proofs.lemmas.List.{get_or-map, map-append, length-map}
-use Rattle.std.proofs.lemmas.List.Elements.{filter-append}
+use Rattle.std.proofs.Common.{◌≡◌, ℕ, ℤ, pos, ◌-ℤ◌, Bool, true, false, cond, not, ◌&&◌, ◌||◌, Some, None, Option, List, [], ◌∷◌, ◌++◌, map, length, get_or, refl, sym, ap, ◌∙◌}
+use Rattle.std.proofs.lemmas.List.{map-append}
 use Rattle.std.proofs.lemmas.List.Folds.{list_any-append}
-use Rattle.std.proofs.lemmas.List.FromFn.{fill_by_all}
 use Rattle.std.proofs.lemmas.Map.Views.{any-filter_same}
 use Rattle.std.specs.List.{filter, list_any, list_all, range_with_len}
 use Rattle.std.specs.Int.{int_wrap, w128}
 use Rattle.std.specs.Ordering.{int_eq}
-use Rattle.std.specs.FinMap.{int_cmp-IsAntisymmetric}
 use Rattle.lv_values.specs.declared.value.Value.{Value}
 use Rattle.lv_values.specs.Order.{row_cmp, row_eq}
 use Rattle.lv_values.specs.OrderLaws.{row_total, row_exact}
-use Rattle.lv_schema.specs.declared.cond.Col.{Col}
 use Rattle.lv_schema.specs.declared.signed.SignedRow.{SignedRow}
 use Rattle.lv_schema.specs.declared.view.ViewDef.{ViewDef}
 use Rattle.lv_schema.specs.Differences.{summed_columns, key_of, tuples_of, change_of, is_change, changes}
 use Rattle.lv_schema.specs.Groups.{total, number_at}
-use Rattle.lv_schema.specs.Once.{once}
-use Rattle.lv_schema.specs.SignedRows.{entries_of, summed, netted}
+use Rattle.lv_schema.specs.SignedRows.{entries_of, summed}
 use Rattle.lv_schema.specs.Tuples.{Tuple}
 use Rattle.lv_schema.proofs.OnceLists.{is_equal, entry_at, same_tables}
-use Rattle.lv_schema.proofs.Totals.{total_same, total-append, total-ones}
 
 abbrev pub ARow : Type 0
 ARow = List Value

@@ -1,12 +1,12 @@
 -- Where the points stand after forced steps.
-use Rattle.std.proofs.Common.{◌≡◌, ℕ, zero, suc, ◌+◌, ◌-◌, ◌<◌, ◌≤◌, List, [], ◌∷◌, ◌++◌, refl, sym, ◌∙◌, ap, subst, arith, length, get_or, set, Option, Some, None}
+use Rattle.std.proofs.Common.{◌≡◌, ℕ, ◌-◌, ◌<◌, List, [], ◌∷◌, ◌++◌, refl, sym, ◌∙◌, ap, subst, arith, length, get_or}
 use Rattle.std.specs.Prelude.{◌⊎◌, slice_index, slice_set}
 use Rattle.std.specs.List.{flat_map}
 use Rattle.std.proofs.lemmas.List.{get_or-set_same, get_or-set_other, length-set}
 use mathlib.Core.Logic.{inl, inr}
 use Rattle.lv_schema.specs.declared.forced.Forced.{Forced}
 use Rattle.lv_schema.specs.Greatest.{Among, IsChain, end_of}
-use Rattle.lv_schema.specs.Upkeep.{pending, planned_from, then_more, forced_from, forced, advanced}
+use Rattle.lv_schema.specs.Upkeep.{pending, forced_from, forced, advanced}
 use Rattle.lv_schema.specs.UpkeepCases.{with_steps}
 use Rattle.lv_schema.specs.World.{Visible, World, view_at, point}
 use Rattle.lv_schema.proofs.Numbers.{Each}

@@ -1,24 +1,21 @@
 -- The counts that a clean-up shows are those of what it keeps.
-use Rattle.std.proofs.Common.{◌≡◌, ℕ, zero, suc, ◌+◌, ◌-◌, ◌<◌, ◌≤◌, Bool, true, false, cond, not, ◌&&◌, ◌||◌, List, [], ◌∷◌, ◌++◌, map, length, Option, Some, None, refl, sym, ap, ap₂, ◌∙◌, subst, arith, sum}
-use Rattle.std.specs.Prelude.{◌⊎◌, nat_lt}
-use Rattle.std.specs.List.{filter, list_any, flat_map, sum_by, AllByRecursion}
-use Rattle.std.specs.Ordering.{is_eq, ordering_reverse}
+use Rattle.std.proofs.Common.{◌≡◌, ℕ, zero, suc, ◌+◌, ◌-◌, ◌<◌, ◌≤◌, Bool, true, false, cond, not, ◌&&◌, ◌||◌, List, [], ◌∷◌, ◌++◌, map, length, Option, Some, None, refl, sym, ap, ap₂, ◌∙◌, subst, arith}
+use Rattle.std.specs.Prelude.{nat_lt}
+use Rattle.std.specs.List.{filter, flat_map, sum_by}
 use Rattle.std.proofs.lemmas.Bool.Decides.{nat_tests}
 use Rattle.std.proofs.lemmas.List.{length-append, length-map}
 use Rattle.std.proofs.lemmas.List.Elements.{filter-append}
 use Rattle.std.proofs.lemmas.List.Sums.{sum_by-cons, sum_by_push}
-use mathlib.Core.Logic.{inl, inr}
 use Rattle.lv_values.specs.declared.value.Value.{Value}
-use Rattle.lv_values.specs.Order.{row_cmp, row_eq}
-use Rattle.lv_values.specs.OrderLaws.{row_total}
+use Rattle.lv_values.specs.Order.{row_eq}
 use Rattle.lv_values.specs.Rows.{key_cmp}
 use Rattle.lv_schema.specs.declared.action.Action.{Action}
 use Rattle.lv_schema.specs.declared.action.DeltaEntry.{DeltaEntry}
 use Rattle.lv_schema.specs.Nets.{has_row, lacking}
 use Rattle.lv_schema.specs.Once.{Ascends}
 use Rattle.lv_schema.specs.Databases.{rows_of}
-use Rattle.lv_schema.specs.Upkeep.{commits_above, deltas_kept, rows_gained, table_versions}
-use Rattle.lv_schema.specs.Versions.{RowVersion, new_version, end_by, ended, versions_of, ends_after, kept_versions, delta_entry, delta_entries, kept_entries}
+use Rattle.lv_schema.specs.Upkeep.{deltas_kept, rows_gained, table_versions}
+use Rattle.lv_schema.specs.Versions.{RowVersion, new_version, end_by, ended, versions_of, ends_after, kept_versions, delta_entry, kept_entries}
 use Rattle.lv_schema.specs.World.{Visible, last, snap, commit_at, numbers}
 use Rattle.lv_schema.proofs.Numbers.{Each, each_append, each_weaker, numbers_each}
 use Rattle.lv_schema.proofs.NetsLead.{row_itself, same_row, key_total, not_above}

@@ -1,6 +1,6 @@
 -- The net change of two databases leads from the one to the other.
 use Rattle.std.proofs.Common.{◌≡◌, ℕ, Bool, true, false, cond, not, ◌&&◌, ◌||◌, List, [], ◌∷◌, ◌++◌, refl, sym, ap, ap₂, ◌∙◌, subst, append_assoc}
-use Rattle.std.specs.List.{filter, list_any, AllByRecursion, AllZip}
+use Rattle.std.specs.List.{filter, AllByRecursion}
 use Rattle.std.specs.Ordering.{is_eq, is_gt, ordering_reverse}
 use Rattle.std.specs.declared.cmp.Ordering.{Ordering}
 use Rattle.std.specs.declared.cmp.Ordering.TheVariants.{Less, Equal, Greater}
@@ -10,11 +10,11 @@ use Rattle.std.proofs.lemmas.List.Folds.{list_any-append}
 use Rattle.std.proofs.lemmas.Map.Views.{any-filter_same}
 use Rattle.lv_values.specs.declared.value.Value.{Value}
 use Rattle.lv_values.specs.Ascending.{placed, ascending}
-use Rattle.lv_values.specs.Order.{row_cmp, row_eq}
+use Rattle.lv_values.specs.Order.{row_eq}
 use Rattle.lv_values.specs.OrderLaws.{row_total, row_exact}
 use Rattle.lv_values.specs.Rows.{values_at, key_cmp}
 use Rattle.lv_schema.specs.declared.table.TableDef.{TableDef}
-use Rattle.lv_schema.specs.Databases.{Db, IsTable, IsDatabase}
+use Rattle.lv_schema.specs.Databases.{Db, IsDatabase}
 use Rattle.lv_schema.specs.Nets.{has_row, lacking, net_of, nets_of, with_net, with_nets}
 use Rattle.lv_schema.specs.Once.{Ascends}
 use Rattle.lv_schema.proofs.Apart.{Apart, Untied, all_weaker, all_filter, apart_filter, apart_append, all_both, ascends_ascending, ascends_apart}

@@ -1,5 +1,5 @@
 -- Numbers in ascending order, filters of them, and what is among them.
-use Rattle.std.proofs.Common.{◌≡◌, ℕ, zero, suc, ◌+◌, ◌<◌, ◌≤◌, Bool, true, false, cond, List, [], ◌∷◌, ◌++◌, refl, sym, ◌∙◌, ap, subst, arith, length, get_or, Option, Some, None}
+use Rattle.std.proofs.Common.{◌≡◌, ℕ, zero, suc, ◌<◌, ◌≤◌, Bool, true, false, cond, List, [], ◌∷◌, ◌++◌, refl, sym, ap, subst, arith, length, get_or}
 use Rattle.std.specs.Prelude.{◌⊎◌, filter}
 use mathlib.Core.Logic.{inl, inr}
 use Rattle.lv_schema.specs.Greatest.{Among}

@@ -1,13 +1,12 @@
 -- The planned step takes the greatest lawful number of tasks; forced steps are a chain of planned ones that leaves
 -- nothing pending.
-use Rattle.std.proofs.Common.{◌≡◌, ℕ, zero, suc, ◌+◌, ◌-◌, ◌<◌, ◌≤◌, Bool, true, false, cond, not, List, [], ◌∷◌, ◌++◌, refl, sym, ◌∙◌, ap, subst, arith, length, get_or, take, Option, Some, None}
-use Rattle.std.specs.Prelude.{◌⊎◌, ◌&&◌, ◌||◌, nat_lt, nat_le, option_map}
+use Rattle.std.proofs.Common.{◌≡◌, ℕ, zero, suc, ◌+◌, ◌-◌, ◌<◌, ◌≤◌, Bool, true, false, cond, not, List, [], ◌∷◌, refl, sym, ◌∙◌, ap, subst, arith, length, get_or, take, Option, Some, None}
+use Rattle.std.specs.Prelude.{◌⊎◌, option_map}
 use Rattle.std.specs.List.{take_while, prefix_len, last_or}
 use mathlib.Core.Logic.{inl, inr}
 use Rattle.lv_schema.specs.declared.forced.Forced.{Forced}
-use Rattle.lv_schema.specs.declared.view.ViewDef.{ViewDef}
-use Rattle.lv_schema.specs.Greatest.{Among, IsLive, IsLawful, TakesMost, IsPlannedStep, IsChain, end_of}
-use Rattle.lv_schema.specs.Upkeep.{is_task, pending, is_inside, step_tasks, step_end, step_of, planned_from, then_more, forced_from}
+use Rattle.lv_schema.specs.Greatest.{IsLawful, TakesMost, IsPlannedStep, IsChain, end_of}
+use Rattle.lv_schema.specs.Upkeep.{is_task, pending, is_inside, step_end, step_of, planned_from, then_more, forced_from}
 use Rattle.lv_schema.specs.World.{Visible, live, last, view_at}
 use Rattle.lv_schema.proofs.Numbers.{Each, Rises, each_get}
 use Rattle.lv_schema.proofs.PendingTasks.{Pends, pending_each, pending_rises, inside_none, not_inside, inside_more, inside_some}

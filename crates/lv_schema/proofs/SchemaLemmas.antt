@@ -1,6 +1,6 @@
 -- A schema stays sound when a bound table or view is added to it.
-use Rattle.std.proofs.Common.{◌≡◌, ◌<◌, ◌≤◌, ◌+◌, ℕ, suc, zero, Bool, true, false, cond, not, List, [], ◌∷◌, ◌++◌, map, length, get_or, take, Option, Some, None, refl, sym, ap, ◌∙◌, subst, arith, ◌&&◌, ◌||◌, nat_lt, inl, inr, ⊎_elim, ◌⊎◌}
-use Rattle.std.specs.List.{position, position_from, list_all, list_any, flat_map, enumerate_from}
+use Rattle.std.proofs.Common.{◌≡◌, ◌<◌, ◌≤◌, ◌+◌, ℕ, suc, zero, Bool, true, false, cond, not, List, [], ◌∷◌, ◌++◌, map, length, take, Option, Some, None, refl, sym, ap, ◌∙◌, subst, arith, ◌||◌, nat_lt, ⊎_elim}
+use Rattle.std.specs.List.{position, position_from, list_all, flat_map, enumerate_from}
 use Rattle.std.specs.Str.{bytes_eq}
 use Rattle.std.proofs.lemmas.Bool.{and_parts, cases_lt}
 use Rattle.std.proofs.lemmas.Bool.Decides.{nat_tests}
@@ -11,7 +11,7 @@ use Rattle.std.proofs.lemmas.Slice.Eq.{bytes_eq-Decides}
 use Rattle.indexmap.specs.IndexMap.{insert_entry}
 use Rattle.lv_schema.specs.declared.table.TableDef.{TableDef}
 use Rattle.lv_schema.specs.declared.view.ViewDef.{ViewDef}
-use Rattle.lv_schema.specs.Bound.{IsBoundTable, IsBoundView, IsProfile, IsPlainList, alias_columns, key_cols, all_key_cols}
+use Rattle.lv_schema.specs.Bound.{IsBoundTable, IsBoundView, IsProfile, alias_columns, key_cols, all_key_cols}
 use Rattle.lv_schema.specs.Catalog.{Catalog}
 use Rattle.lv_schema.specs.Names.{has_name, is_free}
 use Rattle.lv_schema.specs.Sound.{IsSchema}

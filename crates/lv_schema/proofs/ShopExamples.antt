@@ -1,12 +1,11 @@
 -- Worked examples of views, computed from the definitions alone: items with prices, and sales of items.
-use Rattle.std.proofs.Common.{◌≡◌, ℕ, ◌+◌, ℤ, pos, negsuc, Bool, true, false, List, [], ◌∷◌, ◌++◌, map, refl, ap, ◌∙◌, Option, Some, None, Ok, Err}
+use Rattle.std.proofs.Common.{◌≡◌, ℕ, ℤ, pos, negsuc, Bool, true, false, List, [], ◌∷◌, ◌++◌, map, refl, ap, ◌∙◌}
 use Rattle.std.specs.Prelude.{codes, filter}
 use Rattle.std.specs.Int.{int_wrap}
 use Rattle.lv_values.specs.declared.value.Value.{Value}
 use Rattle.lv_values.specs.declared.value.Value.TheVariants.{Num}
 use Rattle.lv_schema.specs.declared.cond.Col.{Col}
-use Rattle.lv_schema.specs.declared.cond.Cond.{Cond}
-use Rattle.lv_schema.specs.declared.cond.Cond.TheVariants.{True, Cmp, And, Or, Not}
+use Rattle.lv_schema.specs.declared.cond.Cond.TheVariants.{Cmp, Not}
 use Rattle.lv_schema.specs.declared.cond.Op.{Op}
 use Rattle.lv_schema.specs.declared.cond.Op.TheVariants.{Eq, Lt}
 use Rattle.lv_schema.specs.declared.cond.Operand.{Operand}

@@ -1,5 +1,5 @@
 -- The truth of a condition, by the kind of the condition.
-use Rattle.std.proofs.Common.{◌≡◌, ℤ, List, map, refl, sym, ap, ◌∙◌}
+use Rattle.std.proofs.Common.{◌≡◌, List, map, sym, ap, ◌∙◌}
 use Rattle.lv_schema.specs.declared.cond.Cond.{Cond}
 use Rattle.lv_schema.specs.declared.cond.Cond.TheOpen.{Cond-F}
 use Rattle.lv_schema.specs.declared.cond.Cond.TheFolds.{fold-roll-Cond}
@@ -7,7 +7,7 @@ use Rattle.lv_schema.specs.declared.cond.Cond.TheVariants.{True, Cmp, And, Or, N
 use Rattle.lv_schema.specs.declared.cond.Op.{Op}
 use Rattle.lv_schema.specs.declared.cond.Operand.{Operand}
 use Rattle.lv_schema.specs.declared.logic.Truth.{Truth}
-use Rattle.lv_schema.specs.declared.logic.Truth.TheVariants.{No, Unknown, Yes}
+use Rattle.lv_schema.specs.declared.logic.Truth.TheVariants.{Yes}
 use Rattle.lv_schema.specs.Tuples.{Tuple}
 use Rattle.lv_schema.specs.Truth.{operand_value, compared, opposite, all_of, any_of, truth_step, truth}
 

@@ -1,7 +1,7 @@
 -- The rows of a view ascend strictly, so none is there twice.
-use Rattle.std.proofs.Common.{◌≡◌, ℕ, zero, suc, ◌+◌, ◌<◌, ◌≤◌, Bool, true, false, cond, not, ◌&&◌, ◌||◌, List, [], ◌∷◌, ◌++◌, map, length, get_or, refl, sym, ap, ◌∙◌, subst, arith, append_assoc}
+use Rattle.std.proofs.Common.{◌≡◌, ℕ, zero, suc, ◌+◌, ◌<◌, Bool, true, false, cond, ◌&&◌, ◌||◌, List, [], ◌∷◌, ◌++◌, map, length, get_or, refl, sym, ap, ◌∙◌, subst, arith, append_assoc}
 use Rattle.std.specs.Prelude.{nat_lt, ◌==◌, slice_index_or}
-use Rattle.std.specs.List.{filter, flat_map, filter_map, list_any, list_all, enumerate_from, AllByRecursion, AllZip}
+use Rattle.std.specs.List.{flat_map, list_any, list_all, enumerate_from, AllByRecursion, AllZip}
 use Rattle.std.specs.declared.cmp.Ordering.{Ordering}
 use Rattle.std.specs.declared.cmp.Ordering.TheVariants.{Less, Equal, Greater}
 use Rattle.std.proofs.lemmas.Cmp.{tied_itself}
@@ -10,10 +10,9 @@ use Rattle.std.specs.FinMap.Entries.{by_order}
 use Rattle.std.specs.Ordering.{is_eq}
 use Rattle.std.proofs.lemmas.Bool.Decides.{nat_tests}
 use Rattle.lv_values.specs.declared.value.Value.{Value}
-use Rattle.lv_values.specs.Ascending.{ascending}
 use Rattle.lv_values.specs.Order.{row_cmp, row_eq}
 use Rattle.lv_values.specs.OrderLaws.{row_total, row_exact}
-use Rattle.lv_values.specs.Rows.{value_in, values_at, key_cmp}
+use Rattle.lv_values.specs.Rows.{values_at, key_cmp}
 use Rattle.lv_schema.specs.declared.cond.Col.{Col}
 use Rattle.lv_schema.specs.declared.table.TableDef.{TableDef}
 use Rattle.lv_schema.specs.declared.view.Item.{Item}
@@ -21,13 +20,13 @@ use Rattle.lv_schema.specs.declared.view.Item.TheVariants.{Plain, Sum, Count}
 use Rattle.lv_schema.specs.declared.view.ViewDef.{ViewDef}
 use Rattle.lv_schema.specs.Bound.{same_col, has_col, key_cols, all_key_cols, IsGroupList, IsPlainList, IsProfile}
 use Rattle.lv_schema.specs.Databases.{Db, rows_of, IsTable, IsDatabase}
-use Rattle.lv_schema.specs.Groups.{members, item_value, group_row, grouped_rows, view_rows_over, view_rows}
-use Rattle.lv_schema.specs.JoinViews.{parts_of, selected, plain_column, plain_columns, join_rows}
+use Rattle.lv_schema.specs.Groups.{members, item_value, group_row, grouped_rows, view_rows}
+use Rattle.lv_schema.specs.JoinViews.{parts_of, selected, plain_columns, join_rows}
 use Rattle.lv_schema.specs.Once.{Ascends, put_once, once}
 use Rattle.lv_schema.specs.Truth.{holds}
 use Rattle.lv_schema.specs.Tuples.{Tuple, tuples, value_at, listed}
 use Rattle.lv_schema.specs.World.{table_at}
-use Rattle.lv_schema.proofs.Apart.{Apart, Untied, all_weaker, all_map, all_append, all_flat_map, all_true, apart_weaker, apart_filter, apart_map, apart_append, apart_both, ascends_ascending, ascends_apart}
+use Rattle.lv_schema.proofs.Apart.{Apart, Untied, all_weaker, all_map, all_flat_map, all_true, apart_weaker, apart_filter, apart_map, apart_append, apart_both, ascends_ascending, ascends_apart}
 use Rattle.lv_schema.proofs.OnceLists.{once_up}
 
 abbrev ARow : Type 0

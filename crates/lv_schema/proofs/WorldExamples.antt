@@ -1,5 +1,5 @@
 -- Worked examples of transactions and upkeep, computed from the definitions alone.
-use Rattle.std.proofs.Common.{◌≡◌, ℕ, ◌+◌, ℤ, pos, negsuc, true, false, List, [], ◌∷◌, refl, ap, ◌∙◌, Option, Some, None, Result, Ok, Err, replicate}
+use Rattle.std.proofs.Common.{◌≡◌, ℕ, pos, negsuc, false, List, [], ◌∷◌, refl, ap, Option, Some, None, Err, replicate}
 use Rattle.std.specs.Prelude.{Bool, codes, filter, slice_set}
 use Rattle.lv_values.specs.declared.value.Value.TheVariants.{Num}
 use Rattle.lv_schema.specs.declared.action.Action.{Action}
@@ -22,15 +22,15 @@ use Rattle.lv_schema.specs.declared.table.TableDef.{TableDef}
 use Rattle.lv_schema.specs.declared.view.ViewDef.{ViewDef}
 use Rattle.lv_schema.specs.Commits.{conflict_of, merged}
 use Rattle.lv_schema.specs.Databases.{Db}
-use Rattle.lv_schema.specs.Effects.{Effect, change_fault, effect_on, acted_all, first_wide, option_fault}
+use Rattle.lv_schema.specs.Effects.{change_fault, effect_on, acted_all, first_wide, option_fault}
 use Rattle.lv_schema.specs.Nets.{nets_of}
 use Rattle.lv_schema.specs.Records.{record_size, table_record}
 use Rattle.lv_schema.specs.Tuples.{Tuple}
 use Rattle.lv_schema.specs.Truth.{all_of, any_of, opposite}
 use Rattle.lv_schema.specs.Upkeep.{planned, forced, unclaimed, chosen, pending_tasks}
-use Rattle.lv_schema.specs.UpkeepCases.{Cleaned, cleaning, installing, moved, fetching, fetched}
-use Rattle.lv_schema.specs.World.{Open, Visible, Upkeep, World}
-use Rattle.lv_schema.proofs.ShopExamples.{ARow, n, at, meets, holds-Cmp}
+use Rattle.lv_schema.specs.UpkeepCases.{cleaning, installing, moved, fetching, fetched}
+use Rattle.lv_schema.specs.World.{Open, World}
+use Rattle.lv_schema.proofs.ShopExamples.{ARow, n, at, holds-Cmp}
 
 -- item (id, price, primary key (id)) and sale (no, item, qty, primary key (no)), and two views over both
 abbrev item : TableDef

@@ -1,6 +1,6 @@
 -- The order of an answer's rows: by the values of the ORDER BY columns, each up or down, and then by the rows.
-use Rattle.std.specs.Prelude.{◌≡◌, ℕ, pos, List, Bool, refl}
-use Rattle.std.proofs.Common.{ap, ap₂, sym}
+use Rattle.std.specs.Prelude.{◌≡◌, ℕ, pos, Bool, refl}
+use Rattle.std.proofs.Common.{ap, sym}
 use Rattle.std.specs.Cmp.{IsTotalOrder, IsPartialEquivalence, IsEquivalence, eq_by_cmp_equiv, partial_equiv_from_equiv}
 use Rattle.std.specs.Cmp.Lexicographic.{slice_cmp}
 use Rattle.std.specs.FinMap.{IsAntisymmetric, slice_cmp-IsAntisymmetric, nat_cmp-IsAntisymmetric}

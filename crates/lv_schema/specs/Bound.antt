@@ -1,9 +1,8 @@
 -- What it means that a statement is bound against a schema: what it names is in use, its columns are in range, kinds
 -- agree, and it is inside the limits.
-use Rattle.std.specs.Prelude.{◌≡◌, ℕ, ◌+◌, ◌^◌, ◌<◌, ◌≤◌, max, ℤ, nat_abs, Bool, true, false, not, ◌&&◌, ◌||◌, ◌==◌, nat_eq, nat_lt, nat_le, if◌then◌else◌, List, [], ◌∷◌, map, length, sum, slice_get, slice_index_or, Option, Some, None, is_some, option_map}
+use Rattle.std.specs.Prelude.{◌≡◌, ℕ, ◌+◌, ◌^◌, ◌<◌, ◌≤◌, max, nat_abs, Bool, true, false, not, ◌&&◌, ◌==◌, nat_eq, nat_lt, nat_le, if◌then◌else◌, List, [], ◌∷◌, map, length, sum, slice_get, slice_index_or, Option, Some, None, is_some, option_map}
 use Rattle.std.specs.List.{list_all, list_any, flat_map, count_by, enumerate_from}
 use Rattle.std.specs.Str.{bytes_eq}
-use Rattle.lv_values.specs.declared.value.Value.{Value}
 use Rattle.lv_schema.specs.declared.bound.Bound.{Bound}
 use Rattle.lv_schema.specs.declared.bound.Bound.TheVariants as bound
 use Rattle.lv_schema.specs.declared.change.Change.{Change}

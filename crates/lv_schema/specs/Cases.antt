@@ -1,7 +1,7 @@
 -- One case for each kind of statement: what it answers, what statements see after it, and the record that it writes.
 -- Whether a record can be written is an argument: it depends on the journal and the disk, of which statements see
 -- nothing else.
-use Rattle.std.specs.Prelude.{ℕ, ◌+◌, Bool, if◌then◌else◌, ◌==◌, List, [], ◌∷◌, ◌++◌, map, length, slice_set, Option, Some, None, Result, Ok, Err}
+use Rattle.std.specs.Prelude.{ℕ, ◌+◌, if◌then◌else◌, ◌==◌, List, [], ◌∷◌, ◌++◌, map, length, slice_set, Option, Some, None, Result, Ok, Err}
 use Rattle.lv_schema.specs.declared.action.Action.{Action}
 use Rattle.lv_values.specs.declared.value.Value.{Value}
 use Rattle.lv_schema.specs.declared.change.Change.{Change}

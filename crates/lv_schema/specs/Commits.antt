@@ -1,5 +1,5 @@
 -- COMMIT: conflicts, and the state that a commit leaves. The first committer of a key wins.
-use Rattle.std.specs.Prelude.{ℕ, ◌+◌, ◌==◌, nat_lt, Bool, not, ◌&&◌, List, [], ◌∷◌, ◌++◌, map, filter, length, slice_get, Option, None, option_map}
+use Rattle.std.specs.Prelude.{ℕ, ◌==◌, nat_lt, Bool, not, ◌&&◌, List, [], ◌∷◌, map, filter, length, slice_get, Option, None, option_map}
 use Rattle.std.specs.List.{list_any, filter_map, range_with_len, last_or}
 use Rattle.std.specs.Ordering.{nat_cmp, ordering_then}
 use Rattle.std.specs.declared.cmp.Ordering.{Ordering}

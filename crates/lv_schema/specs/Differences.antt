@@ -1,5 +1,5 @@
 -- The difference of a view over two lists of rows for each alias: what becomes of each of its rows or groups.
-use Rattle.std.specs.Prelude.{ℕ, ℤ, pos, ◌-ℤ◌, Bool, not, if◌then◌else◌, ◌&&◌, List, [], ◌∷◌, ◌++◌, map, filter, length, Option, Some, None}
+use Rattle.std.specs.Prelude.{pos, ◌-ℤ◌, Bool, not, if◌then◌else◌, ◌&&◌, List, [], ◌++◌, map, filter, length, Option, Some, None}
 use Rattle.std.specs.List.{filter_map, list_all}
 use Rattle.std.specs.Int.{int_wrap, w128}
 use Rattle.std.specs.Ordering.{int_eq}

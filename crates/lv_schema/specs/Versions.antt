@@ -1,5 +1,5 @@
 -- Versions of rows, and the entries of the deltas: what a clean-up keeps of them.
-use Rattle.std.specs.Prelude.{ℕ, zero, suc, Bool, true, cond, if◌then◌else◌, nat_lt, List, ◌++◌, map, filter, Option, Some, None}
+use Rattle.std.specs.Prelude.{ℕ, zero, suc, Bool, true, if◌then◌else◌, nat_lt, List, ◌++◌, map, filter, Option, Some, None}
 use Rattle.std.specs.List.{flat_map}
 use Rattle.lv_values.specs.declared.value.Value.{Value}
 use Rattle.lv_schema.specs.declared.action.Action.{Action}

@@ -1,7 +1,5 @@
-use Rattle.std.proofs.Common.{◌∙◌, sym, ap, subst}
-use Rattle.lv_parser.specs.Fault.{IsAnswer}
-use Rattle.lv_parser.specs.Grammar.{line}
-use Rattle.lv_parser.specs.Lines.{said, end_byte}
+use Rattle.std.proofs.Common.{◌∙◌, ap}
+use Rattle.lv_parser.specs.Lines.{said}
 use Rattle.lv_parser.proofs.Answered.{stopped_within, ends_at, found_line, fault_line, only_line}
 use Rattle.lv_parser.proofs.parsing.parse.Goals as goal
 

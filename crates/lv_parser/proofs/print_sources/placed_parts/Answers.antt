@@ -1,5 +1,4 @@
-use Rattle.std.proofs.Common.{◌≡◌, ◌∙◌, List, sym, ap, map, arith}
-use Rattle.lv_lexer.specs.Written.{Lexeme}
+use Rattle.std.proofs.Common.{◌∙◌, List, sym, ap, map, arith}
 use Rattle.lv_parser.specs.declared.tree.CondTree.{CondTree}
 use Rattle.lv_parser.specs.Printed.{shown, whole, placed_parts}
 use Rattle.lv_parser.proofs.ShownLemmas.{placed-And_few, placed-And_many}

@@ -1,6 +1,6 @@
 use Rattle.std.proofs.Common.{◌∷◌, [], ◌++◌, ◌∙◌, sym, ap}
 use Rattle.std.proofs.lemmas.List.{map-append}
-use Rattle.lv_parser.specs.Trees.{tables_of, with_on}
+use Rattle.lv_parser.specs.Trees.{with_on}
 use Rattle.lv_parser.proofs.Apart.{part_behind}
 use Rattle.lv_parser.proofs.sources.split.Goals as goal
 

@@ -1,8 +1,5 @@
 use Rattle.std.proofs.Common.{◌≡◌, drop}
-use Rattle.std.specs.List.{list_all}
-use Rattle.lv_schema.specs.Bound.{has_col, is_plain}
-use Rattle.lv_schema.specs.JoinViews.{plain_columns}
-use Rattle.lv_schema.specs.Profile.{are_among}
+use Rattle.lv_schema.specs.Bound.{has_col}
 use Rattle.lv_schema.proofs.profile.has_col.Given as goal
 
 abbrev pub invariant-loop-other : goal.invariant-loop-other

@@ -1,4 +1,4 @@
-use Rattle.std.proofs.Common.{◌≡◌, drop, map}
+use Rattle.std.proofs.Common.{◌≡◌, drop}
 use Rattle.std.specs.List.{flat_map, enumerate_from}
 use Rattle.lv_schema.specs.Bound.{key_cols, all_key_cols}
 use Rattle.lv_schema.specs.JoinViews.{plain_columns}
