@@ -1,0 +1,11 @@
+//! Live snapshots, whoever keeps them.
+ghost use Rattle.std.specs.Prelude.{◌≡◌, ℕ, Bool};
+
+/// What knows the snapshots of the live transactions.
+pub trait Live {
+    ghost inside: { Self → ℕ → ℕ → Bool };
+
+    /// Whether a live snapshot is at or above the one number and below the other.
+    fn inside(&self, from: u64, below: u64) -> bool
+        ensures { result ≡ inside self.now from below };
+}
