@@ -6,7 +6,8 @@ use Rattle.lv_plain.specs.declared.program.Program.{Program}
 use Rattle.lv_plain.specs.Events.{Event}
 use Rattle.lv_plain.specs.Legal.{MayCome, after_entry, Legal, after, events_by, event_of, events_of}
 use Rattle.lv_plain.specs.LegalTurns.{Turning, MayTurn, LegalTurns, after_turns, after_turn, session_of}
-use Rattle.lv_plain.specs.Machine.{Settings, State}
+use Rattle.lv_schema.specs.World.{Settings}
+use Rattle.lv_plain.specs.Machine.{State}
 use Rattle.lv_plain.specs.Turns.{Reading}
 
 module _ (reading : Reading) (p : Program) where

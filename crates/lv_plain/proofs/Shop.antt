@@ -17,12 +17,12 @@ use Rattle.lv_schema.specs.declared.table.Kind.TheVariants.{Int}
 use Rattle.lv_schema.specs.declared.table.TableDef.{TableDef}
 use Rattle.lv_schema.specs.declared.view.Item.TheVariants.{Plain, Sum, Count}
 use Rattle.lv_schema.specs.declared.view.ViewDef.{ViewDef}
-use Rattle.lv_schema.specs.World.{World}
+use Rattle.lv_schema.specs.World.{World, Settings}
 use Rattle.lv_plain.specs.declared.entry.Entry.{Entry}
 use Rattle.lv_plain.specs.declared.program.OrderItem.{OrderItem}
 use Rattle.lv_plain.specs.declared.program.Program.{Program}
 use Rattle.lv_plain.specs.Events.{Event, schedule}
-use Rattle.lv_plain.specs.Machine.{Settings, State, give}
+use Rattle.lv_plain.specs.Machine.{State, give}
 use Rattle.lv_plain.specs.Programs.{first_places}
 use Rattle.lv_plain.specs.Turns.{Reading}
 

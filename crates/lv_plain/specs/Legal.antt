@@ -4,7 +4,7 @@ use Rattle.lv_schema.specs.declared.fault.Fault.{Fault}
 use Rattle.lv_schema.specs.declared.fault.Fault.TheVariants.{Store}
 use Rattle.lv_schema.specs.Names.{is_lower_name}
 use Rattle.lv_schema.specs.UpkeepCases.{claim_of}
-use Rattle.lv_schema.specs.World.{World, view_at}
+use Rattle.lv_schema.specs.World.{World, view_at, Settings}
 use Rattle.lv_plain.specs.declared.entry.Entry.{Entry}
 use Rattle.lv_plain.specs.declared.entry.Entry.TheVariants as entry
 use Rattle.lv_plain.specs.declared.entry.MarkOutcome.{MarkOutcome}
@@ -13,7 +13,7 @@ use Rattle.lv_plain.specs.declared.entry.Reply.{Reply}
 use Rattle.lv_plain.specs.declared.entry.Reply.TheVariants as reply
 use Rattle.lv_plain.specs.declared.program.Program.{Program}
 use Rattle.lv_plain.specs.Events.{Event, turn_of, fetch_of, install_of, release_of, mark_of, clean_up}
-use Rattle.lv_plain.specs.Machine.{Settings, State, give}
+use Rattle.lv_plain.specs.Machine.{State, give}
 use Rattle.lv_plain.specs.Programs.{first_places, may_turn, setup_answered, all_answered}
 use Rattle.lv_plain.specs.Turns.{Reading}
 

@@ -7,9 +7,9 @@ use Rattle.lv_schema.specs.declared.bound.Bound.TheVariants as bound
 use Rattle.lv_schema.specs.declared.fault.Fault.{Fault}
 use Rattle.lv_schema.specs.declared.forced.Forced.{Forced}
 use Rattle.lv_schema.specs.declared.view.ViewDef.{ViewDef}
-use Rattle.lv_schema.specs.Upkeep.{pending_tasks}
+use Rattle.lv_schema.specs.Tasks.{pending_tasks}
 use Rattle.lv_schema.specs.UpkeepCases.{outcome_of, with_record, with_steps, forced_by, Fetched, Installed, busy, idle, fetched, empty, installed, moved, fetching, installing, released, marking, cleaning}
-use Rattle.lv_schema.specs.World.{Upkeep, World}
+use Rattle.lv_schema.specs.World.{Upkeep, World, Settings}
 use Rattle.lv_plain.specs.declared.entry.Entry.{Entry}
 use Rattle.lv_plain.specs.declared.entry.Entry.TheVariants as entry
 use Rattle.lv_plain.specs.declared.entry.MarkOutcome.{MarkOutcome}
@@ -18,12 +18,6 @@ use Rattle.lv_plain.specs.declared.program.Program.{Program}
 use Rattle.lv_plain.specs.Events.{Event, turn_of, fetch_of, install_of, release_of, mark_of, clean_up}
 use Rattle.lv_plain.specs.Programs.{Places, next_line}
 use Rattle.lv_plain.specs.Turns.{Reading, bound_line, read_turn}
-
--- how many tasks one step may combine, the limit of the journal's length, and the kind of the policy
-pub record Settings : Type 0 where
-  pub combine : ℕ
-  pub limit : ℕ
-  pub policy : ℕ
 
 -- the world, and how many statements of each session are answered
 pub record State : Type 0 where
@@ -45,7 +39,7 @@ module _ (settings : Settings) (reading : Reading) (p : Program) (fails : Bool) 
   steps_of session (Ok (bound.Table def)) w = []
   steps_of session (Ok (bound.View def)) w = []
   steps_of session (Ok (bound.Change change)) w = []
-  steps_of session (Ok (bound.Query query)) w = forced_by settings.combine session query w
+  steps_of session (Ok (bound.Query query)) w = forced_by settings session query w
   steps_of session (Ok (bound.Begin)) w = []
   steps_of session (Ok (bound.Commit)) w = []
   steps_of session (Ok (bound.Rollback)) w = []
@@ -58,7 +52,7 @@ module _ (settings : Settings) (reading : Reading) (p : Program) (fails : Bool) 
       let place = slice_index s.places session in
       let line = bound_line reading session (next_line p s.places session) w.visible in
       let steps = steps_of session line w in
-      let turn = read_turn (outcome_of settings.limit fails w.upkeep) (pending_tasks w) session line w.visible in
+      let turn = read_turn (outcome_of settings fails w.upkeep) (pending_tasks w) session line w.visible in
       record {
         entry = entry.Session session (place + 1) steps turn.reply;
         next = record {
@@ -74,7 +68,7 @@ module _ (settings : Settings) (reading : Reading) (p : Program) (fails : Bool) 
   fetch_entry worker (fetched f) = entry.Fetched worker f.view f.lo f.hi
 
   abbrev pub fetch_given : ℕ → State → Given
-  fetch_given worker s = let done = fetching settings.combine settings.policy worker s.world in record { entry = fetch_entry worker done.0; next = with_upkeep s done.1 }
+  fetch_given worker s = let done = fetching settings worker s.world in record { entry = fetch_entry worker done.0; next = with_upkeep s done.1 }
 
   -- an install
   abbrev pub install_entry : ℕ → Installed → Entry
@@ -94,7 +88,7 @@ module _ (settings : Settings) (reading : Reading) (p : Program) (fails : Bool) 
   abbrev pub mark_by : Option ℕ → List ℕ → State → Given
   mark_by None name s = record { entry = entry.MarkUnknown name; next = s }
   mark_by (Some v) name s =
-      let done = marking (outcome_of settings.limit fails s.world.upkeep) v s.world.upkeep in
+      let done = marking (outcome_of settings fails s.world.upkeep) v s.world.upkeep in
       record { entry = entry.Marked v (mark_outcome done.answer); next = with_upkeep s done.next }
 
   abbrev pub view_named : List ViewDef → List ℕ → Option ℕ

@@ -5,7 +5,8 @@ use Rattle.std.proofs.lemmas.Bool.Decides.{nat_tests}
 use mathlib.Core.Logic.{inl, inr}
 use Rattle.lv_schema.specs.declared.view.ViewDef.{ViewDef}
 use Rattle.lv_schema.specs.Greatest.{Among}
-use Rattle.lv_schema.specs.Upkeep.{is_task, is_pending, pending, is_inside}
+use Rattle.lv_schema.specs.Tasks.{is_task, is_pending, pending}
+use Rattle.lv_schema.specs.StepPlans.{is_inside}
 use Rattle.lv_schema.specs.World.{Visible, last, numbers}
 use Rattle.lv_schema.proofs.Numbers.{Each, Rises, each_weaker, each_both, each_filter, filter_each, rises_filter, numbers_each, numbers_rise, among_numbers, among_filter, among_each}
 

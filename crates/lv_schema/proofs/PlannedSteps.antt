@@ -6,8 +6,9 @@ use Rattle.std.specs.List.{take_while, prefix_len, last_or}
 use mathlib.Core.Logic.{inl, inr}
 use Rattle.lv_schema.specs.declared.forced.Forced.{Forced}
 use Rattle.lv_schema.specs.Greatest.{IsLawful, TakesMost, IsPlannedStep, IsChain, end_of}
-use Rattle.lv_schema.specs.Upkeep.{is_task, pending, is_inside, step_end, step_of, planned_from, then_more, forced_from}
-use Rattle.lv_schema.specs.World.{Visible, live, last, view_at}
+use Rattle.lv_schema.specs.Tasks.{is_task, pending}
+use Rattle.lv_schema.specs.StepPlans.{is_inside, step_end, step_of, planned_from, then_more, at_point, forced_within}
+use Rattle.lv_schema.specs.World.{Visible, live, last, view_at, Settings}
 use Rattle.lv_schema.proofs.Numbers.{Each, Rises, each_get}
 use Rattle.lv_schema.proofs.PendingTasks.{Pends, pending_each, pending_rises, inside_none, not_inside, inside_more, inside_some}
 
@@ -110,12 +111,12 @@ takes_most s combine t ts pos up =
         let i = inside_some (live s.sessions) t (get_or (t ∷ ts) (k - 1) 0) (r.cut (k - 1) (omega arith) (omega (arith, law.few)) (omega (arith, law.there))) in
         absurd (law.clear i.0 i.1 i.2 i.3)
 
-pub planned_is_greatest : (combine : ℕ) (s : Visible) (v m lo : ℕ) → 0 < combine → IsPlannedStep combine s v m lo (planned_from combine s v m lo)
-planned_is_greatest combine s v m lo pos = by (pending s (view_at s.views v) lo m) refl (pending_rises s (view_at s.views v) lo m)
+pub planned_is_greatest : (settings : Settings) (s : Visible) (v m lo : ℕ) → 0 < settings.combine → IsPlannedStep settings s (at_point v lo) m (planned_from settings s (at_point v lo) m)
+planned_is_greatest settings s v m lo pos = by (pending s (view_at s.views v) lo m) refl (pending_rises s (view_at s.views v) lo m)
   where
-    by : (ts : List ℕ) → pending s (view_at s.views v) lo m ≡ ts → Rises ts → IsPlannedStep combine s v m lo (option_map (step_of v lo) (step_end (is_inside (live s.sessions)) combine ts))
+    by : (ts : List ℕ) → pending s (view_at s.views v) lo m ≡ ts → Rises ts → IsPlannedStep settings s (at_point v lo) m (option_map (step_of v lo) (step_end (is_inside (live s.sessions)) settings.combine ts))
     by [] e up = e
-    by (t ∷ ts) e up = rw (step_end_is (is_inside (live s.sessions)) combine t ts) (refl, refl, rw e (takes_most s combine t ts pos up))
+    by (t ∷ ts) e up = rw (step_end_is (is_inside (live s.sessions)) settings.combine t ts) (refl, refl, rw e (takes_most s settings.combine t ts pos up))
 
 -- a planned step goes up from lo, to a task that is at most m
 pub record IsPlanned (s : Visible) (v m lo : ℕ) (f : Forced) : Type 0 where
@@ -126,53 +127,53 @@ pub record IsPlanned (s : Visible) (v m lo : ℕ) (f : Forced) : Type 0 where
   pub within : f.hi ≤ last s
   pub task : is_task s (view_at s.views v) f.hi ≡ true
 
-pub planned_is : (combine : ℕ) (s : Visible) (v m lo : ℕ) (f : Forced) → planned_from combine s v m lo ≡ Some f → IsPlanned s v m lo f
-planned_is combine s v m lo f e = by (pending s (view_at s.views v) lo m) (pending_each s (view_at s.views v) lo m) e
+pub planned_is : (settings : Settings) (s : Visible) (v m lo : ℕ) (f : Forced) → planned_from settings s (at_point v lo) m ≡ Some f → IsPlanned s v m lo f
+planned_is settings s v m lo f e = by (pending s (view_at s.views v) lo m) (pending_each s (view_at s.views v) lo m) e
   where
     some_is : (x y : Forced) → Some x ≡ Some y → x ≡ y
     some_is x y h = cc
 
-    by : (ts : List ℕ) → Each (Pends s (view_at s.views v) lo m) ts → option_map (step_of v lo) (step_end (is_inside (live s.sessions)) combine ts) ≡ Some f → IsPlanned s v m lo f
+    by : (ts : List ℕ) → Each (Pends s (view_at s.views v) lo m) ts → option_map (step_of v lo) (step_end (is_inside (live s.sessions)) settings.combine ts) ≡ Some f → IsPlanned s v m lo f
     by [] each h = cc
     by (t ∷ ts) each h =
-        let hi = reached (is_inside (live s.sessions)) t t (combine - 1) ts in
-        let f_is : step_of v lo hi ≡ f = some_is (step_of v lo hi) f (ap (option_map (step_of v lo)) (sym (step_end_is (is_inside (live s.sessions)) combine t ts)) ∙ h) in
-        let at : Pends s (view_at s.views v) lo m hi = reached_keeps (Pends s (view_at s.views v) lo m) (is_inside (live s.sessions)) t t (combine - 1) ts each.0 each.1 in
+        let hi = reached (is_inside (live s.sessions)) t t (settings.combine - 1) ts in
+        let f_is : step_of v lo hi ≡ f = some_is (step_of v lo hi) f (ap (option_map (step_of v lo)) (sym (step_end_is (is_inside (live s.sessions)) settings.combine t ts)) ∙ h) in
+        let at : Pends s (view_at s.views v) lo m hi = reached_keeps (Pends s (view_at s.views v) lo m) (is_inside (live s.sessions)) t t (settings.combine - 1) ts each.0 each.1 in
         subst (IsPlanned s v m lo) f_is (record { view = refl; lo_is = refl; rises = at.above; upto = at.upto; within = at.within; task = at.task })
 
 -- forced steps are a chain
-pub forced_chain : (combine : ℕ) (s : Visible) (v m turns lo : ℕ) → m ≤ lo + turns → IsChain combine s v m lo (forced_from combine s v m turns lo)
-forced_chain combine s v m zero lo le = by (planned_from combine s v m lo) refl
+pub forced_chain : (settings : Settings) (s : Visible) (v m turns lo : ℕ) → m ≤ lo + turns → IsChain settings s (at_point v lo) m (forced_within settings s v m turns lo)
+forced_chain settings s v m zero lo le = by (planned_from settings s (at_point v lo) m) refl
   where
-    by : (x : Option Forced) → planned_from combine s v m lo ≡ x → planned_from combine s v m lo ≡ None
+    by : (x : Option Forced) → planned_from settings s (at_point v lo) m ≡ x → planned_from settings s (at_point v lo) m ≡ None
     by None e = e
-    by (Some f) e = let p = planned_is combine s v m lo f e in absurd (omega (arith, p.rises, p.upto))
-forced_chain combine s v m (suc turns) lo le = by (planned_from combine s v m lo) refl (λ h a. forced_chain combine s v m turns h a)
+    by (Some f) e = let p = planned_is settings s v m lo f e in absurd (omega (arith, p.rises, p.upto))
+forced_chain settings s v m (suc turns) lo le = by (planned_from settings s (at_point v lo) m) refl (λ h a. forced_chain settings s v m turns h a)
   where
-    by : (x : Option Forced) → planned_from combine s v m lo ≡ x → ((h : ℕ) → m ≤ h + turns → IsChain combine s v m h (forced_from combine s v m turns h)) → IsChain combine s v m lo (then_more x (forced_from combine s v m turns))
+    by : (x : Option Forced) → planned_from settings s (at_point v lo) m ≡ x → ((h : ℕ) → m ≤ h + turns → IsChain settings s (at_point v h) m (forced_within settings s v m turns h)) → IsChain settings s (at_point v lo) m (then_more x (forced_within settings s v m turns))
     by None e ih = e
-    by (Some f) e ih = let p = planned_is combine s v m lo f e in (e, ih f.hi (omega (arith, p.rises)))
+    by (Some f) e ih = let p = planned_is settings s v m lo f e in (e, ih f.hi (omega (arith, p.rises)))
 
 -- there is one chain
-pub chain_only : (combine : ℕ) (s : Visible) (v m lo : ℕ) (fs gs : List Forced) → IsChain combine s v m lo fs → IsChain combine s v m lo gs → fs ≡ gs
-chain_only combine s v m lo [] [] a b = refl
-chain_only combine s v m lo [] (g ∷ gs) a b = let e = b.0 in cc
-chain_only combine s v m lo (f ∷ fs) [] a b = let e = a.0 in cc
-chain_only combine s v m lo (f ∷ fs) (g ∷ gs) a b =
+pub chain_only : (settings : Settings) (s : Visible) (v m lo : ℕ) (fs gs : List Forced) → IsChain settings s (at_point v lo) m fs → IsChain settings s (at_point v lo) m gs → fs ≡ gs
+chain_only settings s v m lo [] [] a b = refl
+chain_only settings s v m lo [] (g ∷ gs) a b = let e = b.0 in cc
+chain_only settings s v m lo (f ∷ fs) [] a b = let e = a.0 in cc
+chain_only settings s v m lo (f ∷ fs) (g ∷ gs) a b =
     let e = a.0 in
     let d = b.0 in
     let same : f ≡ g = cc in
-    let rest = chain_only combine s v m f.hi fs gs a.1 (subst (λ x. IsChain combine s v m x.hi gs) (sym same) b.1) in
+    let rest = chain_only settings s v m f.hi fs gs a.1 (subst (λ x. IsChain settings s (at_point v x.hi) m gs) (sym same) b.1) in
     cc
 
 -- where a chain ends nothing up to m is pending
-none_planned : (combine : ℕ) (s : Visible) (v m lo : ℕ) → planned_from combine s v m lo ≡ None → pending s (view_at s.views v) lo m ≡ []
-none_planned combine s v m lo e = by (pending s (view_at s.views v) lo m) refl e
+none_planned : (settings : Settings) (s : Visible) (v m lo : ℕ) → planned_from settings s (at_point v lo) m ≡ None → pending s (view_at s.views v) lo m ≡ []
+none_planned settings s v m lo e = by (pending s (view_at s.views v) lo m) refl e
   where
-    by : (ts : List ℕ) → pending s (view_at s.views v) lo m ≡ ts → option_map (step_of v lo) (step_end (is_inside (live s.sessions)) combine ts) ≡ None → pending s (view_at s.views v) lo m ≡ []
+    by : (ts : List ℕ) → pending s (view_at s.views v) lo m ≡ ts → option_map (step_of v lo) (step_end (is_inside (live s.sessions)) settings.combine ts) ≡ None → pending s (view_at s.views v) lo m ≡ []
     by [] g h = g
-    by (t ∷ ts) g h = let some : option_map (step_of v lo) (step_end (is_inside (live s.sessions)) combine (t ∷ ts)) ≡ Some (step_of v lo (reached (is_inside (live s.sessions)) t t (combine - 1) ts)) = ap (option_map (step_of v lo)) (step_end_is (is_inside (live s.sessions)) combine t ts) in cc
+    by (t ∷ ts) g h = let some : option_map (step_of v lo) (step_end (is_inside (live s.sessions)) settings.combine (t ∷ ts)) ≡ Some (step_of v lo (reached (is_inside (live s.sessions)) t t (settings.combine - 1) ts)) = ap (option_map (step_of v lo)) (step_end_is (is_inside (live s.sessions)) settings.combine t ts) in cc
 
-pub chain_ends : (combine : ℕ) (s : Visible) (v m lo : ℕ) (fs : List Forced) → IsChain combine s v m lo fs → pending s (view_at s.views v) (end_of lo fs) m ≡ []
-chain_ends combine s v m lo [] a = none_planned combine s v m lo a
-chain_ends combine s v m lo (f ∷ fs) a = chain_ends combine s v m f.hi fs a.1
+pub chain_ends : (settings : Settings) (s : Visible) (v m lo : ℕ) (fs : List Forced) → IsChain settings s (at_point v lo) m fs → pending s (view_at s.views v) (end_of lo fs) m ≡ []
+chain_ends settings s v m lo [] a = none_planned settings s v m lo a
+chain_ends settings s v m lo (f ∷ fs) a = chain_ends settings s v m f.hi fs a.1

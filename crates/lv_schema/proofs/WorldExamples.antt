@@ -27,9 +27,11 @@ use Rattle.lv_schema.specs.Nets.{nets_of}
 use Rattle.lv_schema.specs.Records.{record_size, table_record}
 use Rattle.lv_schema.specs.Tuples.{Tuple}
 use Rattle.lv_schema.specs.Truth.{all_of, any_of, opposite}
-use Rattle.lv_schema.specs.Upkeep.{planned, forced, unclaimed, chosen, pending_tasks}
+use Rattle.lv_schema.specs.StepPlans.{planned, forced}
+use Rattle.lv_schema.specs.Policies.{unclaimed, chosen}
+use Rattle.lv_schema.specs.Tasks.{pending_tasks}
 use Rattle.lv_schema.specs.UpkeepCases.{cleaning, installing, moved, fetching, fetched}
-use Rattle.lv_schema.specs.World.{Open, World}
+use Rattle.lv_schema.specs.World.{Settings, Open, World}
 use Rattle.lv_schema.proofs.ShopExamples.{ARow, n, at, holds-Cmp}
 
 -- item (id, price, primary key (id)) and sale (no, item, qty, primary key (no)), and two views over both
@@ -76,30 +78,33 @@ commits =
 abbrev no_claims : List (Option Forced)
 no_claims = replicate 9 None
 
+abbrev combining : ℕ → Settings
+combining combine = record { combine = combine; limit = 1073741824; policy = 0 }
+
 abbrev behind : List (Option Open) → World
 behind sessions = world_of snaps commits sessions (0 ∷ 0 ∷ []) no_claims
 
 -- a planned step takes all pending tasks; a live snapshot between the first and the last of them cuts it
-planned_whole : planned 16 (behind []) 0 3 ≡ Some (step 0 0 3)
+planned_whole : planned (combining 16) 0 (behind []) 3 ≡ Some (step 0 0 3)
 planned_whole = refl
 
-planned_few : planned 2 (behind []) 0 3 ≡ Some (step 0 0 2)
+planned_few : planned (combining 2) 0 (behind []) 3 ≡ Some (step 0 0 2)
 planned_few = refl
 
-planned_cut : planned 16 (behind (opened_at 2 [] ∷ [])) 0 3 ≡ Some (step 0 0 2)
+planned_cut : planned (combining 16) 0 (behind (opened_at 2 [] ∷ [])) 3 ≡ Some (step 0 0 2)
 planned_cut = refl
 
-planned_past : planned 16 (behind (opened_at 0 [] ∷ [])) 0 3 ≡ Some (step 0 0 3)
+planned_past : planned (combining 16) 0 (behind (opened_at 0 [] ∷ [])) 3 ≡ Some (step 0 0 3)
 planned_past = refl
 
 -- forced steps with the combine numbers 1 and 16
-forced_singly : forced 1 (behind []) (1 ∷ []) 3 ≡ step 1 0 1 ∷ step 1 1 2 ∷ step 1 2 3 ∷ []
+forced_singly : forced (combining 1) (behind []) (1 ∷ []) 3 ≡ step 1 0 1 ∷ step 1 1 2 ∷ step 1 2 3 ∷ []
 forced_singly = refl
 
-forced_together : forced 16 (behind []) (0 ∷ 1 ∷ []) 3 ≡ step 0 0 3 ∷ step 1 0 3 ∷ []
+forced_together : forced (combining 16) (behind []) (0 ∷ 1 ∷ []) 3 ≡ step 0 0 3 ∷ step 1 0 3 ∷ []
 forced_together = refl
 
-forced_around : forced 16 (behind (opened_at 2 [] ∷ [])) (1 ∷ []) 3 ≡ step 1 0 2 ∷ step 1 2 3 ∷ []
+forced_around : forced (combining 16) (behind (opened_at 2 [] ∷ [])) (1 ∷ []) 3 ≡ step 1 0 2 ∷ step 1 2 3 ∷ []
 forced_around = refl
 
 tasks_by_view : pending_tasks (world_of snaps commits [] (3 ∷ 1 ∷ []) no_claims) ≡ (1, 2) ∷ (1, 3) ∷ []
@@ -159,7 +164,7 @@ most_actions = refl
 first_view : chosen 2 two_views ≡ 0
 first_view = refl
 
-worker_fetches : (fetching 16 0 1 (world_of snaps commits [] (2 ∷ 0 ∷ []) no_claims)).0 ≡ fetched (step 1 0 3)
+worker_fetches : (fetching (combining 16) 1 (world_of snaps commits [] (2 ∷ 0 ∷ []) no_claims)).0 ≡ fetched (step 1 0 3)
 worker_fetches = refl
 
 -- a step that was claimed at 0 is not installed where the view has moved on to 3

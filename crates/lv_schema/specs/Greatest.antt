@@ -1,8 +1,9 @@
 -- The rule of a planned step in its own words, and forced steps as a chain of planned ones.
 use Rattle.std.specs.Prelude.{◌≡◌, ℕ, ◌-◌, ◌≤◌, ◌<◌, ◌⊎◌, List, [], ◌∷◌, length, slice_index, Option, Some, None}
 use Rattle.lv_schema.specs.declared.forced.Forced.{Forced}
-use Rattle.lv_schema.specs.Upkeep.{pending, planned_from}
-use Rattle.lv_schema.specs.World.{Visible, live, view_at}
+use Rattle.lv_schema.specs.StepPlans.{ViewPoint, at_point, planned_from}
+use Rattle.lv_schema.specs.Tasks.{pending}
+use Rattle.lv_schema.specs.World.{Visible, Settings, live, view_at}
 
 -- the number is one of them
 abbrev pub Among : List ℕ → ℕ → Type 0
@@ -28,15 +29,15 @@ pub record TakesMost (s : Visible) (combine : ℕ) (tasks : List ℕ) (hi : ℕ)
   pub hi_is : hi ≡ slice_index tasks (taken - 1)
   pub greatest : (k : ℕ) → IsLawful s combine tasks k → k ≤ taken
 
--- the step of view v from lo to at most m: there is none where nothing is pending
-abbrev pub IsPlannedStep : ℕ → Visible → ℕ → ℕ → ℕ → Option Forced → Type 0
-IsPlannedStep combine s v m lo None = pending s (view_at s.views v) lo m ≡ []
-IsPlannedStep combine s v m lo (Some f) = (f.view ≡ v) × (f.lo ≡ lo) × TakesMost s combine (pending s (view_at s.views v) lo m) f.hi
+-- the step of a view from a point to at most m: there is none where nothing is pending
+abbrev pub IsPlannedStep : Settings → Visible → ViewPoint → ℕ → Option Forced → Type 0
+IsPlannedStep settings s at m None = pending s (view_at s.views at.view) at.lo m ≡ []
+IsPlannedStep settings s at m (Some f) = (f.view ≡ at.view) × (f.lo ≡ at.lo) × TakesMost s settings.combine (pending s (view_at s.views at.view) at.lo m) f.hi
 
 -- each step is the planned one from where the one before ends, and then there is none
-abbrev pub IsChain : ℕ → Visible → ℕ → ℕ → ℕ → List Forced → Type 0
-IsChain combine s v m lo [] = planned_from combine s v m lo ≡ None
-IsChain combine s v m lo (f ∷ fs) = (planned_from combine s v m lo ≡ Some f) × IsChain combine s v m f.hi fs
+abbrev pub IsChain : Settings → Visible → ViewPoint → ℕ → List Forced → Type 0
+IsChain settings s at m [] = planned_from settings s at m ≡ None
+IsChain settings s at m (f ∷ fs) = (planned_from settings s at m ≡ Some f) × IsChain settings s (at_point at.view f.hi) m fs
 
 -- where the steps of one view end
 abbrev pub end_of : ℕ → List Forced → ℕ

@@ -15,16 +15,18 @@ use Rattle.lv_schema.specs.declared.rec.Rec.TheVariants.{Table, View, Commit, Ma
 use Rattle.lv_schema.specs.Cases.{Outcome, good, failed, full}
 use Rattle.lv_schema.specs.Once.{once}
 use Rattle.lv_schema.specs.Records.{record_size}
-use Rattle.lv_schema.specs.Upkeep.{planned, forced, advanced, unclaimed, chosen, floor, deltas_kept, versions_kept}
-use Rattle.lv_schema.specs.World.{Upkeep, World, last, point, transaction}
+use Rattle.lv_schema.specs.StepPlans.{planned, forced, advanced}
+use Rattle.lv_schema.specs.Policies.{unclaimed, chosen}
+use Rattle.lv_schema.specs.CleanUps.{floor, deltas_kept, versions_kept}
+use Rattle.lv_schema.specs.World.{Upkeep, World, Settings, last, point, transaction}
 
 -- the length that the journal would have with one more record, which is a length of 4 bytes, the record, and a gate
 abbrev pub need : Upkeep → Rec → ℕ
 need u rec = min (u.journal + record_size rec + 5) (2 ^ 64 - 1)
 
 -- a record is refused where the journal's length would be past the limit; else it is for the disk
-abbrev pub outcome_of : ℕ → Bool → Upkeep → Rec → Outcome
-outcome_of limit fails u rec = if nat_lt limit (need u rec) then full (need u rec) limit else if fails then failed else good
+abbrev pub outcome_of : Settings → Bool → Upkeep → Rec → Outcome
+outcome_of settings fails u rec = if nat_lt settings.limit (need u rec) then full (need u rec) settings.limit else if fails then failed else good
 
 -- what maintenance sees of a record that is written: a view is maintained to its creation, and marked there
 abbrev pub noted : Rec → Upkeep → Upkeep
@@ -45,8 +47,8 @@ view_number (rel.View v) = Some v
 abbrev pub views_of : Query → List ℕ
 views_of query = once nat_cmp (filter_map view_number query.rels)
 
-abbrev pub forced_by : ℕ → ℕ → Query → World → List Forced
-forced_by combine session query w = forced combine w (views_of query) (transaction session w.visible).snapshot
+abbrev pub forced_by : Settings → ℕ → Query → World → List Forced
+forced_by settings session query w = forced settings w (views_of query) (transaction session w.visible).snapshot
 
 abbrev pub with_steps : List Forced → Upkeep → Upkeep
 with_steps steps u = record u { points = advanced u.points steps }
@@ -75,16 +77,16 @@ abbrev pub fetched_step : Option Forced → ℕ → Upkeep → Fetched × Upkeep
 fetched_step None worker u = (idle, u)
 fetched_step (Some f) worker u = (fetched f, with_claim worker (Some f) u)
 
-abbrev pub fetch_among : List Pending → ℕ → ℕ → ℕ → World → Fetched × Upkeep
-fetch_among [] combine kind worker w = (idle, w.upkeep)
-fetch_among (p ∷ ps) combine kind worker w = fetched_step (planned combine w (chosen_view kind w) (last w.visible)) worker w.upkeep
+abbrev pub fetch_among : List Pending → Settings → ℕ → World → Fetched × Upkeep
+fetch_among [] settings worker w = (idle, w.upkeep)
+fetch_among (p ∷ ps) settings worker w = fetched_step (planned settings (chosen_view settings.policy w) w (last w.visible)) worker w.upkeep
 
-abbrev pub fetch_by : Option Forced → ℕ → ℕ → ℕ → World → Fetched × Upkeep
-fetch_by (Some f) combine kind worker w = (busy, w.upkeep)
-fetch_by None combine kind worker w = fetch_among (unclaimed w) combine kind worker w
+abbrev pub fetch_by : Option Forced → Settings → ℕ → World → Fetched × Upkeep
+fetch_by (Some f) settings worker w = (busy, w.upkeep)
+fetch_by None settings worker w = fetch_among (unclaimed w) settings worker w
 
-abbrev pub fetching : ℕ → ℕ → ℕ → World → Fetched × Upkeep
-fetching combine kind worker w = fetch_by (claim_of w.upkeep worker) combine kind worker w
+abbrev pub fetching : Settings → ℕ → World → Fetched × Upkeep
+fetching settings worker w = fetch_by (claim_of w.upkeep worker) settings worker w
 
 -- a worker installs: it has no claim, its step is installed where the view is still where the step begins, or the view
 -- has moved on; the claim ends
@@ -111,19 +113,20 @@ released worker u = with_claim worker None u
 pub record Marking : Type 0 where
   pub answer : Result (Option ℕ) Fault
   pub next : Upkeep
+  pub attempted : Option Rec
 
 abbrev pub mark_record : ℕ → Upkeep → Rec
 mark_record v u = Mark v (point u v)
 
 abbrev pub marked_by : Outcome → ℕ → Upkeep → Marking
-marked_by good v u = record { answer = Ok (Some (point u v)); next = with_record (Some (mark_record v u)) u }
-marked_by failed v u = record { answer = Err Store; next = u }
-marked_by (full needed limit) v u = record { answer = Err (JournalFull needed limit); next = u }
+marked_by good v u = record { answer = Ok (Some (point u v)); next = with_record (Some (mark_record v u)) u; attempted = Some (mark_record v u) }
+marked_by failed v u = record { answer = Err Store; next = u; attempted = Some (mark_record v u) }
+marked_by (full needed limit) v u = record { answer = Err (JournalFull needed limit); next = u; attempted = None }
 
 abbrev pub marking : (Rec → Outcome) → ℕ → Upkeep → Marking
 marking outcome v u =
     if slice_index u.marks v == point u v
-    then record { answer = Ok None; next = u }
+    then record { answer = Ok None; next = u; attempted = None }
     else marked_by (outcome (mark_record v u)) v u
 
 -- a clean-up drops what nobody needs below the floor, and shows what it keeps

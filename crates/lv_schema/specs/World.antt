@@ -1,6 +1,7 @@
 -- The plain world: what statements see, and beside it what maintenance sees. It keeps every snapshot whole. A
--- statement's case is a function of what statements see alone, so no answer can depend on maintenance.
-use Rattle.std.specs.Prelude.{ℕ, zero, suc, false, Option, Some, None, List, [], ◌∷◌, ◌++◌, length, slice_index, slice_index_or, replicate, unwrap_or}
+-- statement's case is a function of what statements see and of what becomes of its record, so maintenance reaches an
+-- answer through the journal alone: a mark lengthens it, and it may then be too long for a record.
+use Rattle.std.specs.Prelude.{ℕ, zero, suc, false, Option, Some, None, List, [], ◌∷◌, ◌++◌, length, slice_index, slice_index_or, replicate, unwrap_or, min}
 use Rattle.lv_schema.specs.declared.action.Action.{Action}
 use Rattle.lv_schema.specs.declared.cond.Cond.TheVariants.{True}
 use Rattle.lv_schema.specs.declared.forced.Forced.{Forced}
@@ -30,6 +31,13 @@ pub record Upkeep : Type 0 where
 pub record World : Type 0 where
   pub visible : Visible
   pub upkeep : Upkeep
+
+-- what a store is run with: how many tasks one step may combine, the limit of the journal's length, and the kind of the
+-- policy by which workers choose
+pub record Settings : Type 0 where
+  pub combine : ℕ
+  pub limit : ℕ
+  pub policy : ℕ
 
 -- the setup is session 0, and the others are 1 to 16
 abbrev pub nothing_visible : Visible
@@ -78,6 +86,15 @@ abbrev pub live : List (Option Open) → List ℕ
 live [] = []
 live (None ∷ sessions) = live sessions
 live (Some o ∷ sessions) = o.snapshot ∷ live sessions
+
+-- the least of a number and others
+abbrev pub least : ℕ → List ℕ → ℕ
+least n [] = n
+least n (x ∷ xs) = min x (least n xs)
+
+-- the least state that a reader may still ask for: the least live snapshot, or the last commit where none is live
+abbrev pub least_read : Visible → ℕ
+least_read s = least (last s) (live s.sessions)
 
 -- a transaction that begins now
 abbrev pub opened : Visible → Open

@@ -26,7 +26,8 @@ pub struct SortedRow {
 }
 
 impl PartialEq for Directed {
-    ghost use Rattle.lv_schema.specs.AnswerOrder.{directed_eq, directed_per};
+    ghost use Rattle.lv_schema.specs.AnswerOrder.{directed_eq};
+    ghost use Rattle.lv_schema.specs.AnswerOrderLaws.{directed_per};
 
     ghost eq = { directed_eq };
 
@@ -38,13 +39,14 @@ impl PartialEq for Directed {
 }
 
 impl Eq for Directed {
-    ghost use Rattle.lv_schema.specs.AnswerOrder.{directed_equiv};
+    ghost use Rattle.lv_schema.specs.AnswerOrderLaws.{directed_equiv};
 
     ghost laws = { directed_equiv };
 }
 
 impl PartialOrd for Directed {
-    ghost use Rattle.lv_schema.specs.AnswerOrder.{directed_cmp, directed_total};
+    ghost use Rattle.lv_schema.specs.AnswerOrder.{directed_cmp};
+    ghost use Rattle.lv_schema.specs.AnswerOrderLaws.{directed_total};
 
     ghost partial_cmp = { as_partial_cmp directed_cmp };
 
@@ -56,7 +58,8 @@ impl PartialOrd for Directed {
 }
 
 impl Ord for Directed {
-    ghost use Rattle.lv_schema.specs.AnswerOrder.{directed_cmp, directed_total};
+    ghost use Rattle.lv_schema.specs.AnswerOrder.{directed_cmp};
+    ghost use Rattle.lv_schema.specs.AnswerOrderLaws.{directed_total};
 
     ghost cmp = { directed_cmp };
 
@@ -77,13 +80,14 @@ impl Ord for Directed {
 }
 
 impl Exact for Directed {
-    ghost use Rattle.lv_schema.specs.AnswerOrder.{directed_exact};
+    ghost use Rattle.lv_schema.specs.AnswerOrderLaws.{directed_exact};
 
     ghost exact = { directed_exact };
 }
 
 impl PartialEq for SortedRow {
-    ghost use Rattle.lv_schema.specs.AnswerOrder.{sorted_eq, sorted_per};
+    ghost use Rattle.lv_schema.specs.AnswerOrder.{sorted_eq};
+    ghost use Rattle.lv_schema.specs.AnswerOrderLaws.{sorted_per};
 
     ghost eq = { sorted_eq };
 
@@ -95,13 +99,14 @@ impl PartialEq for SortedRow {
 }
 
 impl Eq for SortedRow {
-    ghost use Rattle.lv_schema.specs.AnswerOrder.{sorted_equiv};
+    ghost use Rattle.lv_schema.specs.AnswerOrderLaws.{sorted_equiv};
 
     ghost laws = { sorted_equiv };
 }
 
 impl PartialOrd for SortedRow {
-    ghost use Rattle.lv_schema.specs.AnswerOrder.{sorted_cmp, sorted_total};
+    ghost use Rattle.lv_schema.specs.AnswerOrder.{sorted_cmp};
+    ghost use Rattle.lv_schema.specs.AnswerOrderLaws.{sorted_total};
 
     ghost partial_cmp = { as_partial_cmp sorted_cmp };
 
@@ -113,7 +118,8 @@ impl PartialOrd for SortedRow {
 }
 
 impl Ord for SortedRow {
-    ghost use Rattle.lv_schema.specs.AnswerOrder.{sorted_cmp, sorted_total};
+    ghost use Rattle.lv_schema.specs.AnswerOrder.{sorted_cmp};
+    ghost use Rattle.lv_schema.specs.AnswerOrderLaws.{sorted_total};
 
     ghost cmp = { sorted_cmp };
 
@@ -129,7 +135,7 @@ impl Ord for SortedRow {
 }
 
 impl Exact for SortedRow {
-    ghost use Rattle.lv_schema.specs.AnswerOrder.{sorted_exact};
+    ghost use Rattle.lv_schema.specs.AnswerOrderLaws.{sorted_exact};
 
     ghost exact = { sorted_exact };
 }
