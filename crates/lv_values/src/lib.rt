@@ -10,8 +10,6 @@ mod printing;
 mod room;
 mod rows;
 mod steps;
-#[cfg(test)]
-mod tests;
 mod text;
 mod value;
 

@@ -1,7 +1,7 @@
 //! Calls with ample memory, and values worked out by hand.
 ghost use Rattle.std.specs.Prelude.{◌≡◌, ◌<◌};
 
-use crate::{
+use lv_values::{
     Boxed, Bytes, Copying, Edit, Items, NoMemory, Room, Row, Rows, Steps, Test, Text, TextFault,
     Value, compare_keys, compare_to_key, print_natural, print_row,
 };
