@@ -1,0 +1,4 @@
+"""An order line that is too long and has an item that is none."""
+import sys
+
+sys.stdout.write("@order" + " " * 65536 + "x")
