@@ -128,3 +128,7 @@ module _ {A : Type 0} (R : A → A → Ordering) (o : IsTotalOrder R) (same : (x
   -- what a sort leaves
   pub ascending_from_sort : (xs ys : List A) → IsPermutation xs ys → IsSorted R ys → ys ≡ ascending R xs
   ascending_from_sort xs ys p s = unique ys (ascending R xs) (up_from_sorted ys s) (up_ascending xs) (λ z. sum_by-IsPermutation (one z) xs ys p ∙ sym (hits_ascending z xs))
+
+  -- lists on which every weight sums up to the same have one ascending order
+  pub ascending_alike : (xs ys : List A) → ((weight : A → ℕ) → sum_by weight xs ≡ sum_by weight ys) → ascending R xs ≡ ascending R ys
+  ascending_alike xs ys h = unique (ascending R xs) (ascending R ys) (up_ascending xs) (up_ascending ys) (λ z. hits_ascending z xs ∙ h (one z) ∙ sym (hits_ascending z ys))
