@@ -1,0 +1,13 @@
+use Rattle.std.proofs.Common.{◌-◌, ◌≡◌, ◌≤◌, ◌<◌, ℕ, length, get_or, true, false}
+use Rattle.lv_shelf.proofs.shelf.Shelf.cut.Given as goal
+
+abbrev pub invariant-loop-low : goal.invariant-loop-low
+invariant-loop-low g l = record {
+  order : l.low ≤ l.high;
+  within : l.high ≤ length l.self.list;
+  below : (k : ℕ) (d : g.row.T.Denot) → k < l.low → g.P.Test.passed l.test (get_or l.self.list k d) ≡ true;
+  above : (k : ℕ) (d : g.row.T.Denot) → l.high ≤ k → k < length l.self.list → g.P.Test.passed l.test (get_or l.self.list k d) ≡ false;
+}
+
+abbrev pub decreases-loop-low : goal.decreases-loop-low
+decreases-loop-low g l = l.high - l.low

@@ -1,0 +1,38 @@
+use Rattle.std.proofs.Common.{◌≡◌, ◌++◌, ◌∷◌, [], ◌∙◌, ap, subst, length, set, Some, option_to_list, insert, vec_capacity, arith}
+use Rattle.std.specs.List.{AllByRecursion}
+use Rattle.lv_shelf.specs.Shelves.{IsShelf, IsEmpty, items_at}
+use Rattle.lv_shelf.proofs.Shelved.{all_last, inserted_items, inserted_shelf, length_items}
+use Rattle.lv_shelf.proofs.shelf.Shelf.insert.Goals as goal
+
+pub insert-requires : goal.insert-requires
+insert-requires g c =
+    let s = c.self.inside in
+    let long = length_items s.slots.items s.order.items c.self.invariant.held in
+    let is = ap (λ r. length r.list) c.self.view_is in
+    omega (arith, long, is, s.order.ok.0, c.requires.place)
+
+pub invariant_of-self : goal.invariant_of-self
+invariant_of-self g c =
+    let s = c.self.inside in
+    let slot = c.unwrap-slot.result in
+    let popped : s.free.items ≡ c.pop.new.self.items ++ slot ∷ [] = c.pop.ensures.items ∙ ap (λ o. c.pop.new.self.items ++ option_to_list o) c.unwrap-slot.ensures in
+    let shelf = subst (λ l. IsShelf s.slots.items s.order.items l (vec_capacity s.order) (vec_capacity s.free)) popped c.self.invariant in
+    let inserted : c.insert.new.self.items ≡ insert s.order.items c.args.at slot = rw c.unwrap.ensures at c.insert.ensures.items in
+    let long = length_items s.slots.items s.order.items c.self.invariant.held in
+    let is = ap (λ r. length r.list) c.self.view_is in
+    rw inserted
+    (inserted_shelf s.slots.items s.order.items c.pop.new.self.items c.args.at slot c.args.item (vec_capacity s.order) (vec_capacity s.free) (vec_capacity c.insert.new.self) (vec_capacity c.pop.new.self)
+    (omega (arith, long, is, c.requires.place)) c.insert.ensures.capacity (omega (arith, c.pop.ensures.capacity)) shelf)
+
+pub returns-clause-added : goal.returns-clause-added
+returns-clause-added g c =
+    let s = c.self.inside in
+    let slot = c.unwrap-slot.result in
+    let popped : s.free.items ≡ c.pop.new.self.items ++ slot ∷ [] = c.pop.ensures.items ∙ ap (λ o. c.pop.new.self.items ++ option_to_list o) c.unwrap-slot.ensures in
+    let inserted : c.insert.new.self.items ≡ insert s.order.items c.args.at slot = rw c.unwrap.ensures at c.insert.ensures.items in
+    let long = length_items s.slots.items s.order.items c.self.invariant.held in
+    let is = ap (λ r. length r.list) c.self.view_is in
+    let empty = all_last (IsEmpty s.slots.items) c.pop.new.self.items slot (subst (AllByRecursion (IsEmpty s.slots.items)) popped c.self.invariant.empty) in
+    ap (items_at (set s.slots.items slot (Some c.args.item))) inserted
+    ∙ inserted_items s.slots.items s.order.items c.args.at slot c.args.item c.self.invariant.held empty.1 (omega (arith, long, is, c.requires.place))
+    ∙ ap (λ r. insert r.list c.args.at c.args.item) c.self.view_is
