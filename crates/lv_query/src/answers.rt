@@ -2,7 +2,7 @@
 ghost use Rattle.std.specs.Prelude.{◌≡◌, map, IfOk};
 ghost use Rattle.lv_schema.specs.Answers.{answer_over, directed, order_value, sorted_row};
 
-use lv_join::{Picked, Projection, join_projected};
+use lv_join::{Picked, Projection, join_in_any_order};
 use lv_schema::{Col, Directed, DirectedValues, Query, SortedRow, listed, value_at};
 use lv_values::{Items, NoMemory, Rows, Value};
 use std::alloc::Global;
@@ -72,7 +72,7 @@ pub fn answer(alloc: Global, query: &Query, parts: Items<Rows>) -> Result<Rows, 
     ensures { IfOk result (λ rows. rows ≡ answer_over query.now parts) }
 {
     let list = ListedInOrder { query };
-    let mut found = join_projected(alloc, parts.as_slice(), &query.cond, &list)?;
+    let mut found = join_in_any_order(alloc, parts.as_slice(), &query.cond, &list)?;
     found.sort();
     listed_rows(alloc, found)
 }
