@@ -2,7 +2,7 @@
 ghost use Rattle.std.specs.Prelude.{◌≡◌, IfOk};
 
 use crate::listing::listed_rows;
-use lv_schema::{Cols, SignedRow, ViewItems};
+use lv_schema::{Cols, Signed, SignedRow, ViewItems};
 use lv_values::{NoMemory, Rows};
 use std::alloc::Global;
 use std::marker::Model;
@@ -35,6 +35,18 @@ impl Groups {
         ensures groups { result.groups ≡ groups.items }
     {
         Groups { by, items, groups }
+    }
+
+    /// The groups themselves. Cost: constant.
+    pub fn into_groups(self) -> Signed
+        ensures { result ≡ self.groups }
+    {
+        let Groups {
+            by: _,
+            items: _,
+            groups,
+        } = self;
+        Signed::from_vec(groups)
     }
 
     /// The row of each group with the view's listed values, in ascending order. Cost: a copy of the listed values,

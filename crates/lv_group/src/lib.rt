@@ -13,3 +13,4 @@ mod tests;
 pub use gathering::fold;
 pub use grouped::Groups;
 pub use laws::rows_of_groups_are_the_view_s;
+pub use listing::listed_row;

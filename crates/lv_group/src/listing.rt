@@ -48,8 +48,14 @@ fn push_item(
     }
 }
 
-/// The listed values of a group.
-fn listed_row(alloc: Global, by: &[Col], items: &[Item], group: &SignedRow) -> Result<Row, NoMemory>
+/// The values that a view lists of a group, told from the columns that tell its groups apart and its list. Cost: a copy
+/// of each listed value.
+pub fn listed_row(
+    alloc: Global,
+    by: &[Col],
+    items: &[Item],
+    group: &SignedRow,
+) -> Result<Row, NoMemory>
     ensures { IfOk result (λ row. row ≡ listed_values by.now group.now items.now group.now.sums) }
 {
     let mut row = Row::new(alloc);
