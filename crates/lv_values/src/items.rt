@@ -252,13 +252,37 @@ impl Copying for i128 {
     }
 }
 
+impl Copying for bool {
+    fn copy(&self, _alloc: Global) -> Result<Self, NoMemory> {
+        Ok(*self)
+    }
+}
+
+impl<A: Copying, B: Copying> Copying for (A, B) {
+    fn copy(&self, alloc: Global) -> Result<Self, NoMemory> {
+        let (first, second) = self;
+        let first = first.copy(alloc)?;
+        Ok((first, second.copy(alloc)?))
+    }
+}
+
+impl<T: Copying> Copying for Option<T> {
+    fn copy(&self, alloc: Global) -> Result<Self, NoMemory> {
+        match self {
+            Some(value) => Ok(Some(value.copy(alloc)?)),
+            None => Ok(None),
+        }
+    }
+}
+
+/// A copy takes room for as many elements as there are, once.
 impl<T: Copying> Copying for Items<T> {
     fn copy(&self, alloc: Global) -> Result<Self, NoMemory> {
-        let mut out = Items::new(alloc);
+        let mut items = Vec::with_capacity(alloc, self.len())?;
         for item in self.as_slice() {
-            out.push(item.copy(alloc)?)?;
+            items.push_reserved(item.copy(alloc)?);
         }
-        Ok(out)
+        Ok(Items { items })
     }
 }
 

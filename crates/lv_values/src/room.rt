@@ -1,6 +1,7 @@
 //! A list with room: elements go in without memory while there is spare room.
 ghost use Rattle.std.specs.Prelude.{◌≡◌, ◌≤◌, ◌<◌, ◌+◌, ◌∷◌, ◌++◌, [], length, slice_index_or, slice_set, take, OnOk, map, filter};
 ghost use Rattle.std.specs.List.{insert, remove};
+ghost use Rattle.std.specs.Prelude.{◌-◌, vec_len, vec_capacity};
 
 use crate::edits::{Edit, Test, edit_all, keep_passing};
 use crate::items::Items;
@@ -37,7 +38,8 @@ impl<T> Room<T> {
         }
     }
 
-    /// The elements of a list, with the room that it has. Cost: constant.
+    /// The elements of a list. Of the room nothing is said, for contracts see none at a list: `reserve` before
+    /// elements go in. Cost: constant.
     pub fn from_items(items: Items<T>) -> Self
         ensures { result.list ≡ items }
     {
@@ -52,6 +54,23 @@ impl<T> Room<T> {
     {
         let Room { items } = self;
         Items::from_vec(items)
+    }
+
+    /// The elements of a vector, with the room that it has. Cost: constant.
+    pub fn from_vec(items: Vec<T>) -> Self
+        ensures same { result.list ≡ items.items }
+        ensures room { result.spare ≡ vec_capacity items - vec_len items }
+    {
+        Room { items }
+    }
+
+    /// The elements as a vector, which keeps the room. Cost: constant.
+    pub fn into_vec(self) -> Vec<T>
+        ensures same { result.items ≡ self.list }
+        ensures room { vec_capacity result - vec_len result ≡ self.spare }
+    {
+        let Room { items } = self;
+        items
     }
 
     /// The number of elements.
@@ -107,6 +126,16 @@ impl<T> Room<T> {
 }
 
 impl<T: Drop> Room<T> {
+    /// Moves the elements of a list to the end. It takes no memory. Cost: linear in `more`.
+    pub fn append(&mut self, more: Items<T>)
+        requires { length more ≤ self.old.spare }
+        ensures added { self.new.list ≡ self.old.list ++ more }
+        ensures room { self.old.spare ≤ self.new.spare + length more }
+    {
+        let mut items = more.into_vec();
+        self.items.append(&mut items).unwrap();
+    }
+
     /// Keeps the elements that pass, in their order. Cost: one test for each.
     pub fn keep<P: Test<T>>(&mut self, test: &P)
         ensures kept { self.new.list ≡ filter (P.passed test.now) self.old.list }
