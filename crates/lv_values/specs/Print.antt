@@ -1,5 +1,5 @@
 -- The printed form of values and rows.
-use Rattle.std.specs.Prelude.{ℕ, List, [], ◌∷◌, ◌++◌, codes, cond, ◌==◌}
+use Rattle.std.specs.Prelude.{◌≡◌, ℕ, ◌≤◌, List, [], ◌∷◌, ◌++◌, codes, cond, length, take, ◌==◌}
 use Rattle.std.specs.Fmt.{signed_decimal}
 use Rattle.lv_values.specs.declared.value.Value.{Value}
 use Rattle.lv_values.specs.declared.value.Value.TheVariants.{Num, Text}
@@ -31,3 +31,7 @@ values_text separator (v ∷ vs) = value_text v ++ values_behind separator vs
 -- a row's line: a bar, the values joined by bars, a line feed
 abbrev pub row_line : List Value → List ℕ
 row_line row = codes "| " ++ values_text (codes " | ") row ++ codes "\n"
+
+-- what was there stands in front of what is there now
+abbrev pub StaysInFront : List ℕ → List ℕ → Type 0
+StaysInFront old new = (n : ℕ) → n ≤ length old → take n new ≡ take n old
