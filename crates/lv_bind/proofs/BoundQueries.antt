@@ -75,7 +75,7 @@ cols_in_range sources [] h = refl
 cols_in_range sources (c ∷ cols) h = and_from (is_in_range (all_columns sources) (bound_col sources c)) _ (ap is_some (kind_known sources c h.0)) (cols_in_range sources cols h.1)
 
 order_range : (sources : List Alias) (order : List (ColName × Bool)) → AllByRecursion (IsKnown sources) (map (λ by. by.0) order)
-    → list_all (λ by. is_in_range (all_columns sources) by.0) (bound_order sources order) ≡ true
+    → list_all (λ by. is_in_range (all_columns sources) by.col) (bound_order sources order) ≡ true
 order_range sources [] h = refl
 order_range sources (o ∷ order) h = and_from (is_in_range (all_columns sources) (bound_col sources o.0)) _ (ap is_some (kind_known sources o.0 h.0)) (order_range sources order h.1)
 
@@ -174,8 +174,8 @@ module _ (tables : List TableDef) (views : List ViewDef) (sound : IsSchema table
     some_list = some_listed tables views sound list refs spoken.0 spoken.1 there;
     few_list = rw (list_size sources list) (none_over 64 (list_length sources list ∷ []) clean.small.1.1.1.1.0).0;
     list_in_range = subst (λ columns. list_all (is_in_range columns) (bound_list sources list) ≡ true) same_columns (list_range sources list known.0);
-    few_order = rw (length-map {B = Col × Bool} order (λ by. (bound_col sources by.0, by.1))) (none_over 16 (length order ∷ []) clean.small.1.1.1.1.1.0).0;
-    order_in_range = subst (λ columns. list_all (λ by. is_in_range columns by.0) (bound_order sources order) ≡ true) same_columns (order_range sources order known_after.1);
+    few_order = rw (length-map order (λ by. record { col = bound_col sources by.0; descending = by.1 })) (none_over 16 (length order ∷ []) clean.small.1.1.1.1.1.0).0;
+    order_in_range = subst (λ columns. list_all (λ by. is_in_range columns by.col) (bound_order sources order) ≡ true) same_columns (order_range sources order known_after.1);
   }
 
 pub fits_query : (tables : List TableDef) (views : List ViewDef) (s : Stmt) (q : Query) → IsSchema tables views → IsSpoken s → IsFaultless tables views s

@@ -38,6 +38,7 @@ use Rattle.lv_schema.specs.declared.cond.Op.{Op}
 use Rattle.lv_schema.specs.declared.cond.Op.TheVariants as op
 use Rattle.lv_schema.specs.declared.cond.Operand.{Operand}
 use Rattle.lv_schema.specs.declared.cond.Operand.TheVariants as operand
+use Rattle.lv_schema.specs.declared.query.OrderCol.{OrderCol}
 use Rattle.lv_schema.specs.declared.query.Rel.{Rel}
 use Rattle.lv_schema.specs.declared.query.Rel.TheVariants.{Table, View}
 use Rattle.lv_schema.specs.declared.table.Column.{Column}
@@ -123,8 +124,8 @@ abbrev pub bound_list : List Alias → Option (List ColName) → List Col
 bound_list sources None = columns_from 0 sources
 bound_list sources (Some cols) = map (bound_col sources) cols
 
-abbrev pub bound_order : List Alias → List (ColName × Bool) → List (Col × Bool)
-bound_order sources order = map (λ by. (bound_col sources by.0, by.1)) order
+abbrev pub bound_order : List Alias → List (ColName × Bool) → List OrderCol
+bound_order sources order = map (λ by. record { col = bound_col sources by.0; descending = by.1 }) order
 
 -- CREATE TABLE
 abbrev pub bound_kind : ColumnKind → Kind

@@ -12,7 +12,7 @@ use lv_parser::{
     Tuple,
 };
 use lv_schema::{
-    Col, Cols, Cond, Conds, Op, Operand, OrderCols, Rel, Rels, Schema, Set, SetValue, Sets,
+    Col, Cols, Cond, Conds, Op, Operand, OrderCol, OrderCols, Rel, Rels, Schema, Set, SetValue, Sets,
 };
 use lv_values::{Boxed, Copying, Items, NoMemory, Row, Rows, Value};
 use std::alloc::Global;
@@ -211,8 +211,11 @@ pub(crate) fn bound_order(
     ensures { IfOk result (λ cols. cols ≡ bound_order (map (alias_seen schema.now.tables schema.now.views) sources.now) order.now) }
 {
     let mut out = OrderCols::new(alloc);
-    for (column, falls) in order {
-        out.push((bound_col(schema, sources, Mention::of(column)), *falls))?;
+    for (column, descending) in order {
+        out.push(OrderCol {
+            col: bound_col(schema, sources, Mention::of(column)),
+            descending: *descending,
+        })?;
     }
     Ok(out)
 }

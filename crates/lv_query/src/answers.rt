@@ -3,15 +3,15 @@ ghost use Rattle.std.specs.Prelude.{◌≡◌, map, IfOk};
 ghost use Rattle.lv_schema.specs.Answers.{answer_over, directed, order_value, sorted_row};
 
 use lv_join::{Picked, Projection, join_in_any_order};
-use lv_schema::{Col, Directed, DirectedValues, Query, SortedRow, listed, value_at};
+use lv_schema::{Directed, DirectedValues, OrderCol, Query, SortedRow, listed, value_at};
 use lv_values::{Items, NoMemory, Rows, Value};
 use std::alloc::Global;
 
 /// A value in the direction of its column.
-fn directed(down: bool, value: Value) -> Directed
-    ensures { result ≡ directed down value }
+fn directed(descending: bool, value: Value) -> Directed
+    ensures { result ≡ directed descending value }
 {
-    if down {
+    if descending {
         Directed::Down(value)
     } else {
         Directed::Up(value)
@@ -22,14 +22,14 @@ fn directed(down: bool, value: Value) -> Directed
 fn order_values(
     alloc: Global,
     tuple: &Picked<'_>,
-    order: &[(Col, bool)],
+    order: &[OrderCol],
 ) -> Result<DirectedValues, NoMemory>
     ensures { IfOk result (λ values. values ≡ map (order_value tuple.now) order.now) }
 {
     let mut values = DirectedValues::new(alloc);
     for by in order {
-        let (col, down) = *by;
-        values.push(directed(down, value_at(alloc, tuple, col)?))?;
+        let value = value_at(alloc, tuple, by.col)?;
+        values.push(directed(by.descending, value))?;
     }
     Ok(values)
 }

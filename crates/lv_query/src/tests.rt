@@ -1,7 +1,7 @@
 //! Answers worked out by hand.
 
 use crate::answer;
-use lv_schema::{Col, Cols, Cond, Op, Operand, OrderCols, Query, Rel, Rels};
+use lv_schema::{Col, Cols, Cond, Op, Operand, OrderCol, OrderCols, Query, Rel, Rels};
 use lv_values::{Bytes, Items, Row, Rows, Text, Value, print_row};
 use std::test::Fail;
 
@@ -23,7 +23,7 @@ fn answered(
     rt: &HostRuntime,
     above: i128,
     list: &[Col],
-    order: &[(Col, bool)],
+    order: &[OrderCol],
 ) -> Result<Bytes, Fail> {
     let mut rels = Rels::new(rt.alloc());
     rels.push(Rel::Table(0))?;
@@ -63,6 +63,20 @@ const WORD: Col = Col {
     column: 1,
 };
 
+fn rising(col: Col) -> OrderCol {
+    OrderCol {
+        col,
+        descending: false,
+    }
+}
+
+fn falling(col: Col) -> OrderCol {
+    OrderCol {
+        col,
+        descending: true,
+    }
+}
+
 #[test]
 fn without_order_rows_ascend_and_equal_ones_stay(rt: HostRuntime) -> Result<(), Fail> {
     let found = answered(&rt, -9, &[NUMBER, WORD], &[])?;
@@ -75,21 +89,21 @@ fn without_order_rows_ascend_and_equal_ones_stay(rt: HostRuntime) -> Result<(), 
 
 #[test]
 fn rows_that_tie_ascend(rt: HostRuntime) -> Result<(), Fail> {
-    let down = answered(&rt, 0, &[NUMBER, WORD], &[(NUMBER, true)])?;
+    let down = answered(&rt, 0, &[NUMBER, WORD], &[falling(NUMBER)])?;
     assert_eq!(rt;
         down.as_slice(),
         b"| 2 | 'a'\n| 2 | 'b'\n| 1 | 'a'\n| 1 | 'a'\n".as_slice()
     );
-    let up = answered(&rt, 0, &[NUMBER], &[(WORD, false)])?;
+    let up = answered(&rt, 0, &[NUMBER], &[rising(WORD)])?;
     assert_eq!(rt; up.as_slice(), b"| 1\n| 1\n| 2\n| 2\n".as_slice());
     Ok(())
 }
 
 #[test]
 fn columns_up_and_down(rt: HostRuntime) -> Result<(), Fail> {
-    let found = answered(&rt, -9, &[NUMBER], &[(WORD, true), (NUMBER, false)])?;
+    let found = answered(&rt, -9, &[NUMBER], &[falling(WORD), rising(NUMBER)])?;
     assert_eq!(rt; found.as_slice(), b"| 2\n| -3\n| 1\n| 1\n| 2\n".as_slice());
-    let found = answered(&rt, -9, &[WORD], &[(NUMBER, true), (WORD, true)])?;
+    let found = answered(&rt, -9, &[WORD], &[falling(NUMBER), falling(WORD)])?;
     assert_eq!(rt;
         found.as_slice(),
         b"| 'b'\n| 'a'\n| 'a'\n| 'a'\n| 'aa'\n".as_slice()

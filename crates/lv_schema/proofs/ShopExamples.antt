@@ -123,7 +123,7 @@ abbrev items : List ARow
 items = (n 1 ∷ n 10 ∷ []) ∷ (n 2 ∷ n 10 ∷ []) ∷ (n 3 ∷ n 15 ∷ []) ∷ (n 4 ∷ n 5 ∷ []) ∷ []
 
 abbrev dear : Query
-dear = record { rels = Table 0 ∷ []; cond = Not (Cmp Lt (Column (at 0 1)) (Number (pos 10))); list = at 0 0 ∷ at 0 1 ∷ []; order = (at 0 1, true) ∷ [] }
+dear = record { rels = Table 0 ∷ []; cond = Not (Cmp Lt (Column (at 0 1)) (Number (pos 10))); list = at 0 0 ∷ at 0 1 ∷ []; order = record { col = at 0 1; descending = true } ∷ [] }
 
 abbrev answer_by : Query → (Tuple → Bool) → List (List ARow) → List ARow
 answer_by query keeps parts = map (λ r. r.row) (ascending sorted_cmp (map (sorted_row query) (filter keeps (tuples parts))))

@@ -3,10 +3,10 @@
 use Rattle.std.specs.Prelude.{Bool, true, false, List, map}
 use Rattle.lv_values.specs.declared.value.Value.{Value}
 use Rattle.lv_values.specs.Ascending.{ascending}
-use Rattle.lv_schema.specs.declared.cond.Col.{Col}
 use Rattle.lv_schema.specs.declared.directed.Directed.{Directed}
 use Rattle.lv_schema.specs.declared.directed.Directed.TheVariants.{Up, Down}
 use Rattle.lv_schema.specs.declared.directed.SortedRow.{SortedRow}
+use Rattle.lv_schema.specs.declared.query.OrderCol.{OrderCol}
 use Rattle.lv_schema.specs.declared.query.Query.{Query}
 use Rattle.lv_schema.specs.declared.query.Rel.{Rel}
 use Rattle.lv_schema.specs.declared.query.Rel.TheVariants.{Table, View}
@@ -23,8 +23,8 @@ abbrev pub directed : Bool → Value → Directed
 directed true v = Down v
 directed false v = Up v
 
-abbrev pub order_value : Tuple → Col × Bool → Directed
-order_value tuple by = directed by.1 (value_at tuple by.0)
+abbrev pub order_value : Tuple → OrderCol → Directed
+order_value tuple by = directed by.descending (value_at tuple by.col)
 
 -- the listed row, with the values of the ORDER BY columns
 abbrev pub sorted_row : Query → Tuple → SortedRow

@@ -279,7 +279,7 @@ pub record IsBoundQuery (tables : List TableDef) (views : List ViewDef) (query :
   pub few_list : length query.list ≤ 64
   pub list_in_range : list_all (is_in_range (map (rel_columns tables views) query.rels)) query.list ≡ true
   pub few_order : length query.order ≤ 16
-  pub order_in_range : list_all (λ by. is_in_range (map (rel_columns tables views) query.rels) by.0) query.order ≡ true
+  pub order_in_range : list_all (λ by. is_in_range (map (rel_columns tables views) query.rels) by.col) query.order ≡ true
 
 -- any statement
 abbrev pub IsBound : List TableDef → List ViewDef → Bound → Type 0

@@ -16,8 +16,15 @@ pub enum Rel {
 /// The tables and views of FROM, one for each alias.
 pub type Rels = Items<Rel>;
 
-/// The columns of ORDER BY, each with whether it goes down.
-pub type OrderCols = Items<(Col, bool)>;
+/// A column of ORDER BY: the order goes down by it, or up.
+#[derive(Clone, Copy, Debug, PartialEq, Eq)]
+pub struct OrderCol {
+    pub col: Col,
+    pub descending: bool,
+}
+
+/// The columns of ORDER BY, the first deciding first.
+pub type OrderCols = Items<OrderCol>;
 
 /// A query: what each alias stands for, the condition, the listed columns, and the columns of ORDER BY.
 #[derive(Drop)]
@@ -29,6 +36,12 @@ pub struct Query {
 }
 
 impl Copying for Rel {
+    fn copy(&self, _alloc: Global) -> Result<Self, NoMemory> {
+        Ok(*self)
+    }
+}
+
+impl Copying for OrderCol {
     fn copy(&self, _alloc: Global) -> Result<Self, NoMemory> {
         Ok(*self)
     }
