@@ -1,0 +1,208 @@
+-- What a search of a key finds, and what a clean-up leaves.
+use Rattle.std.proofs.Common.{◌≡◌, ℕ, zero, suc, ◌+◌, ◌<◌, ◌≤◌, Bool, true, false, cond, List, [], ◌∷◌, ◌++◌, append_assoc, drop, length, map, filter, get_or, Option, Some, None, refl, sym, ap, ◌∙◌, subst, arith}
+use Rattle.std.specs.Prelude.{◌&&◌, nat_lt, nat_le, slice_get}
+use Rattle.std.specs.List.{AllByRecursion}
+use Rattle.std.specs.Ordering.{is_eq, ordering_reverse}
+use Rattle.std.specs.declared.cmp.Ordering.{Ordering}
+use Rattle.std.specs.declared.cmp.Ordering.TheVariants.{Less, Equal, Greater}
+use Rattle.std.proofs.lemmas.Bool.Decides.{nat_tests}
+use Rattle.std.proofs.lemmas.List.{drop_more}
+use Rattle.lv_values.specs.declared.value.Value.{Value}
+use Rattle.lv_values.specs.Order.{row_cmp, row_eq}
+use Rattle.lv_values.specs.OrderLaws.{row_total}
+use Rattle.lv_values.specs.Rows.{key_cmp, values_at}
+use Rattle.lv_schema.proofs.Apart.{all_both, all_filter, all_weaker}
+use Rattle.lv_schema.proofs.NetsLead.{same_row}
+use Rattle.lv_schema.specs.declared.version.RowVersion.{RowVersion}
+use Rattle.lv_shelf.specs.Cuts.{Apart, IsCut}
+use Rattle.lv_versions.specs.Versions.{EndsAtMost, EndsBy, EndsFrom, IsBy, Precedes, ends_after, hits, is_at, precedes_by, reaches, reaches_by, row_with, rows_hit, rows_with, state_at}
+use Rattle.lv_shelf.proofs.Cutting.{all_at, cut_at, cut_long, got}
+use Rattle.lv_shelf.proofs.Shelved.{all_kept}
+
+both : (a b : Bool) → (a && b) ≡ true → (a ≡ true) × (b ≡ true)
+both true b h = (refl, h)
+both false b h = cc
+
+equal_of : (o : Ordering) → is_eq o ≡ true → o ≡ Equal
+equal_of Less h = cc
+equal_of Equal h = refl
+equal_of Greater h = cc
+
+-- the first row with the key, version by version
+found_step : (ps : List ℕ) (key : List Value) (n : ℕ) (v : RowVersion) (vs : List RowVersion) → row_with ps key (state_at n (v ∷ vs)) ≡ cond (hits ps key n v) (Some v.row) (row_with ps key (state_at n vs))
+found_step ps key n v vs = by (is_at n v)
+  where
+    at : (b : Bool) → slice_get (cond b (v.row ∷ filter (λ row. row_eq (values_at ps row) key) (state_at n vs)) (filter (λ row. row_eq (values_at ps row) key) (state_at n vs))) 0
+        ≡ cond b (Some v.row) (row_with ps key (state_at n vs))
+    at true = refl
+    at false = refl
+
+    by : (a : Bool) → row_with ps key (map (λ (w : RowVersion). w.row) (cond a (v ∷ filter (is_at n) vs) (filter (is_at n) vs))) ≡ cond (a && row_eq (values_at ps v.row) key) (Some v.row) (row_with ps key (state_at n vs))
+    by true = at (row_eq (values_at ps v.row) key)
+    by false = refl
+
+over_end : (n : ℕ) (u : Option ℕ) (from : ℕ) → EndsBy from u → nat_le from n ≡ true → ends_after n u ≡ false
+over_end n None from e t = absurd e
+over_end n (Some k) from e t = grind (arith, nat_tests)
+
+-- behind the place no version hits
+later_misses : (ps : List ℕ) (key : List Value) (n : ℕ) (v : RowVersion) → reaches ps key n v ≡ false → hits ps key n v ≡ false
+later_misses ps key n v h = by (hits ps key n v) refl
+  where
+    by : (b : Bool) → hits ps key n v ≡ b → b ≡ false
+    by false e = refl
+    by true e =
+        let parts = both (is_at n v) (row_eq (values_at ps v.row) key) e in
+        let came = both (nat_le v.from n) (ends_after n v.until) parts.0 in
+        let there : reaches ps key n v ≡ true = ap (λ o. reaches_by o (nat_le v.from n)) (equal_of (row_cmp (values_at ps v.row) key) parts.1) ∙ came.0 in
+        cc
+
+-- nor does one before the last that reaches the key
+earlier_misses : (ps : List ℕ) (key : List Value) (n : ℕ) (v w : RowVersion) → Precedes ps v w → reaches ps key n w ≡ true → hits ps key n v ≡ false
+earlier_misses ps key n v w r h = by (hits ps key n v) refl
+  where
+    at : values_at ps v.row ≡ key → is_at n v ≡ true → (o : Ordering) → key_cmp ps v.row w.row ≡ o → precedes_by o v w → ⊥
+    at same alive Less e r' =
+        let less : row_cmp key (values_at ps w.row) ≡ Less = ap (λ k. row_cmp k (values_at ps w.row)) (sym same) ∙ e in
+        let greater : row_cmp (values_at ps w.row) key ≡ Greater = row_total.antisymm (values_at ps w.row) key ∙ ap ordering_reverse less in
+        let f = ap (λ o. reaches_by o (nat_le w.from n)) greater in
+        cc
+    at same alive Equal e r' =
+        let tied : row_cmp key (values_at ps w.row) ≡ Equal = ap (λ k. row_cmp k (values_at ps w.row)) (sym same) ∙ e in
+        let back : row_cmp (values_at ps w.row) key ≡ Equal = row_total.antisymm (values_at ps w.row) key ∙ ap ordering_reverse tied in
+        let came : nat_le w.from n ≡ true = sym (ap (λ o. reaches_by o (nat_le w.from n)) back) ∙ h in
+        let over = over_end n v.until w.from r'.1 came in
+        let parts = both (nat_le v.from n) (ends_after n v.until) alive in
+        let f = parts.1 in
+        cc
+    at same alive Greater e r' = r'
+
+    by : (b : Bool) → hits ps key n v ≡ b → b ≡ false
+    by false e = refl
+    by true e =
+        let parts = both (is_at n v) (row_eq (values_at ps v.row) key) e in
+        absurd (at (same_row (values_at ps v.row) key parts.1) parts.0 (key_cmp ps v.row w.row) refl r)
+
+missed : (ps : List ℕ) (key : List Value) (n : ℕ) (vs : List RowVersion) → AllByRecursion (λ v. reaches ps key n v ≡ false) vs → row_with ps key (state_at n vs) ≡ None
+missed ps key n [] a = refl
+missed ps key n (v ∷ vs) a = found_step ps key n v vs ∙ ap (λ b. cond b (Some v.row) (row_with ps key (state_at n vs))) (later_misses ps key n v a.0) ∙ missed ps key n vs a.1
+
+abbrev found_in : List ℕ → List Value → ℕ → RowVersion → Option (List Value)
+found_in ps key n v = cond (hits ps key n v) (Some v.row) None
+
+found_at : (ps : List ℕ) (key : List Value) (n i : ℕ) (vs : List RowVersion) (d : RowVersion) → Apart (Precedes ps) vs → IsCut (reaches ps key n) (suc i) vs → row_with ps key (state_at n vs) ≡ found_in ps key n (get_or vs i d)
+found_at ps key n i [] d a cut = absurd cut
+found_at ps key n zero (v ∷ vs) d a cut = found_step ps key n v vs ∙ ap (λ o. cond (hits ps key n v) (Some v.row) o) (missed ps key n vs cut.1)
+found_at ps key n (suc i) (v ∷ vs) d a cut =
+    let p = reaches ps key n in
+    let long = cut_long p (suc i) vs cut.1 in
+    let w = get_or vs i d in
+    found_step ps key n v vs
+    ∙ ap (λ b. cond b (Some v.row) (row_with ps key (state_at n vs))) (earlier_misses ps key n v w (all_at (Precedes ps v) vs i d (omega (arith, long)) a.0) (cut_at p (suc i) i vs d cut.1 (omega arith)))
+    ∙ found_at ps key n i vs d a.1 cut.1
+
+pub found_here : (ps : List ℕ) (key : List Value) (n i at : ℕ) (vs : List RowVersion) (item : RowVersion) (b : Bool) → suc i ≡ at → Apart (Precedes ps) vs → IsCut (reaches ps key n) at vs → slice_get vs i ≡ Some item
+    → hits ps key n item ≡ b → row_with ps key (state_at n vs) ≡ cond b (Some item.row) None
+found_here ps key n i at vs item b is a cut e h =
+    found_at ps key n i vs item a (subst (λ k. IsCut (reaches ps key n) k vs) (sym is) cut) ∙ ap (found_in ps key n) (got vs i item item e) ∙ ap (λ t. cond t (Some item.row) None) h
+
+pub none_found : (ps : List ℕ) (key : List Value) (n at : ℕ) (vs : List RowVersion) → at ≡ 0 → IsCut (reaches ps key n) at vs → row_with ps key (state_at n vs) ≡ None
+none_found ps key n at vs is cut = missed ps key n vs (subst (λ k. IsCut (reaches ps key n) k vs) is cut)
+
+-- ---- a clean-up
+alive_ends_after : (n floor : ℕ) (u : Option ℕ) → floor ≤ n → ends_after n u ≡ true → ends_after floor u ≡ true
+alive_ends_after n floor None le h = refl
+alive_ends_after n floor (Some k) le h = grind (arith, nat_tests)
+
+pub pruned_state : (n floor : ℕ) (vs : List RowVersion) → floor ≤ n → state_at n (filter (λ v. ends_after floor v.until) vs) ≡ state_at n vs
+pruned_state n floor [] le = refl
+pruned_state n floor (v ∷ vs) le = by (ends_after floor v.until) refl (is_at n v) refl (pruned_state n floor vs le)
+  where
+    by : (k : Bool) → ends_after floor v.until ≡ k → (a : Bool) → is_at n v ≡ a → state_at n (filter (λ (w : RowVersion). ends_after floor w.until) vs) ≡ state_at n vs
+        → state_at n (cond k (v ∷ filter (λ (w : RowVersion). ends_after floor w.until) vs) (filter (λ (w : RowVersion). ends_after floor w.until) vs)) ≡ state_at n (v ∷ vs)
+    by true e true f ih = rw f (ap (λ l. v.row ∷ l) ih)
+    by true e false f ih = rw f ih
+    by false e true f ih = let t = alive_ends_after n floor v.until le (both (nat_le v.from n) (ends_after n v.until) f).1 in cc
+    by false e false f ih = rw f ih
+
+-- from the last commit on a version shows its row exactly where it has not ended
+ended_shows : (n last floor : ℕ) (u : Option ℕ) → last ≤ n → EndsAtMost last u → ends_after floor u ≡ false → ends_after n u ≡ false
+ended_shows n last floor None le h e = cc
+ended_shows n last floor (Some k) le h e = grind (arith, nat_tests)
+
+pub pruned_newest : (n last floor : ℕ) (vs : List RowVersion) → last ≤ n → AllByRecursion (IsBy last) vs → state_at n (filter (λ v. ends_after floor v.until) vs) ≡ state_at n vs
+pruned_newest n last floor [] le a = refl
+pruned_newest n last floor (v ∷ vs) le a = by (ends_after floor v.until) refl (is_at n v) refl (pruned_newest n last floor vs le a.1)
+  where
+    by : (k : Bool) → ends_after floor v.until ≡ k → (s : Bool) → is_at n v ≡ s → state_at n (filter (λ (w : RowVersion). ends_after floor w.until) vs) ≡ state_at n vs
+        → state_at n (cond k (v ∷ filter (λ (w : RowVersion). ends_after floor w.until) vs) (filter (λ (w : RowVersion). ends_after floor w.until) vs)) ≡ state_at n (v ∷ vs)
+    by true e true f ih = rw f (ap (λ l. v.row ∷ l) ih)
+    by true e false f ih = rw f ih
+    by false e true f ih = let t = ended_shows n last floor v.until le a.0.1 e in let u = (both (nat_le v.from n) (ends_after n v.until) f).1 in cc
+    by false e false f ih = rw f ih
+
+-- ---- the rows version by version
+pub state_cons : (n : ℕ) (v : RowVersion) (vs : List RowVersion) → state_at n (v ∷ []) ++ state_at n vs ≡ state_at n (v ∷ vs)
+state_cons n v vs = by (is_at n v)
+  where
+    by : (b : Bool) → map (λ (w : RowVersion). w.row) (cond b (v ∷ []) []) ++ state_at n vs ≡ map (λ (w : RowVersion). w.row) (cond b (v ∷ filter (is_at n) vs) (filter (is_at n) vs))
+    by true = refl
+    by false = refl
+
+-- one version of those that a loop goes over
+pub shown_step : (n i : ℕ) (rows : List (List Value)) (v : RowVersion) (vs : List RowVersion) → i < length vs → slice_get vs i ≡ Some v → (rows ++ state_at n (v ∷ [])) ++ state_at n (drop (i + 1) vs) ≡ rows ++ state_at n (drop i vs)
+shown_step n i rows v vs lt e =
+    append_assoc rows (state_at n (v ∷ [])) (state_at n (drop (i + 1) vs))
+    ∙ ap (λ l. rows ++ l) (state_cons n v (drop (i + 1) vs) ∙ ap (λ x. state_at n (x ∷ drop (i + 1) vs)) (sym (got vs i v v e)) ∙ ap (state_at n) (sym (drop_more vs i v lt)))
+
+-- ---- the soonest end
+none_dropped : (soonest floor : ℕ) (u : Option ℕ) → floor < soonest → EndsFrom soonest u → ends_after floor u ≡ true
+none_dropped soonest floor None lt h = refl
+none_dropped soonest floor (Some k) lt h = grind (arith, nat_tests)
+
+pub all_stay : (soonest floor : ℕ) (vs : List RowVersion) → floor < soonest → AllByRecursion (λ v. EndsFrom soonest v.until) vs → filter (λ v. ends_after floor v.until) vs ≡ vs
+all_stay soonest floor [] lt a = refl
+all_stay soonest floor (v ∷ vs) lt a =
+    ap (λ b. cond b (v ∷ filter (λ (w : RowVersion). ends_after floor w.until) vs) (filter (λ (w : RowVersion). ends_after floor w.until) vs)) (none_dropped soonest floor v.until lt a.0)
+    ∙ ap (λ l. v ∷ l) (all_stay soonest floor vs lt a.1)
+
+above_floor : (floor : ℕ) (u : Option ℕ) → ends_after floor u ≡ true → EndsFrom (floor + 1) u
+above_floor floor None h = tt
+above_floor floor (Some k) h = grind (arith, nat_tests)
+
+pub kept_ends : (floor : ℕ) (vs : List RowVersion) → AllByRecursion (λ v. EndsFrom (floor + 1) v.until) (filter (λ v. ends_after floor v.until) vs)
+kept_ends floor vs =
+    all_weaker (λ v. ends_after floor v.until ≡ true) (λ v. EndsFrom (floor + 1) v.until) (λ v h. above_floor floor v.until h) (filter (λ v. ends_after floor v.until) vs) (all_kept (λ v. ends_after floor v.until) vs)
+
+no_end : (last floor top : ℕ) (u : Option ℕ) → last ≤ floor → EndsAtMost last u → ends_after floor u ≡ true → EndsFrom top u
+no_end last floor top None le a h = tt
+no_end last floor top (Some k) le a h = let e : nat_lt floor k ≡ false = grind (arith, nat_tests) in cc
+
+pub none_ends : (last floor top : ℕ) (vs : List RowVersion) → last ≤ floor → AllByRecursion (IsBy last) vs → AllByRecursion (λ v. EndsFrom top v.until) (filter (λ v. ends_after floor v.until) vs)
+none_ends last floor top vs le a =
+    all_both (IsBy last) (λ v. ends_after floor v.until ≡ true) (λ v. EndsFrom top v.until) (λ v b h. no_end last floor top v.until le b.1 h) (filter (λ v. ends_after floor v.until) vs)
+    (all_filter (IsBy last) (λ v. ends_after floor v.until) vs a) (all_kept (λ v. ends_after floor v.until) vs)
+
+-- ---- the rows with these values
+pub hit_rows : (ps : List ℕ) (key : List Value) (n : ℕ) (vs : List RowVersion) → rows_hit ps key n vs ≡ rows_with ps key (state_at n vs)
+hit_rows ps key n [] = refl
+hit_rows ps key n (v ∷ vs) = by (is_at n v) (row_eq (values_at ps v.row) key) refl (hit_rows ps key n vs)
+  where
+    by : (a b : Bool) → row_eq (values_at ps v.row) key ≡ b → rows_hit ps key n vs ≡ rows_with ps key (state_at n vs)
+        → map (λ (w : RowVersion). w.row) (cond (a && b) (v ∷ filter (hits ps key n) vs) (filter (hits ps key n) vs)) ≡ rows_with ps key (map (λ (w : RowVersion). w.row) (cond a (v ∷ filter (is_at n) vs) (filter (is_at n) vs)))
+    by true true e ih = ap (λ l. v.row ∷ l) ih ∙ sym (ap (λ b. cond b (v.row ∷ rows_with ps key (state_at n vs)) (rows_with ps key (state_at n vs))) e)
+    by true false e ih = ih ∙ sym (ap (λ b. cond b (v.row ∷ rows_with ps key (state_at n vs)) (rows_with ps key (state_at n vs))) e)
+    by false b e ih = ih
+
+hit_cons : (ps : List ℕ) (key : List Value) (n : ℕ) (v : RowVersion) (vs : List RowVersion) → rows_hit ps key n (v ∷ []) ++ rows_hit ps key n vs ≡ rows_hit ps key n (v ∷ vs)
+hit_cons ps key n v vs = by (hits ps key n v)
+  where
+    by : (b : Bool) → map (λ (w : RowVersion). w.row) (cond b (v ∷ []) []) ++ rows_hit ps key n vs ≡ map (λ (w : RowVersion). w.row) (cond b (v ∷ filter (hits ps key n) vs) (filter (hits ps key n) vs))
+    by true = refl
+    by false = refl
+
+pub hit_step : (ps : List ℕ) (key : List Value) (n i : ℕ) (rows : List (List Value)) (v : RowVersion) (vs : List RowVersion) → i < length vs → slice_get vs i ≡ Some v
+    → (rows ++ rows_hit ps key n (v ∷ [])) ++ rows_hit ps key n (drop (i + 1) vs) ≡ rows ++ rows_hit ps key n (drop i vs)
+hit_step ps key n i rows v vs lt e =
+    append_assoc rows (rows_hit ps key n (v ∷ [])) (rows_hit ps key n (drop (i + 1) vs))
+    ∙ ap (λ l. rows ++ l) (hit_cons ps key n v (drop (i + 1) vs) ∙ ap (λ x. rows_hit ps key n (x ∷ drop (i + 1) vs)) (sym (got vs i v v e)) ∙ ap (rows_hit ps key n) (sym (drop_more vs i v lt)))

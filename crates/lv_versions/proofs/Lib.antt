@@ -1,0 +1,5 @@
+pub mod Standing
+pub mod Ending
+pub mod Bringing
+pub mod Finding
+pub mod Committed

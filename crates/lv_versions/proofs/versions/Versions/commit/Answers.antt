@@ -1,0 +1,62 @@
+use Rattle.std.proofs.Common.{◌<◌, ◌++◌, map, sym, ap, ◌∙◌, subst, arith, rules}
+use Rattle.std.specs.List.Sorted.{IsPermutation}
+use Rattle.lv_schema.specs.Nets.{with_net}
+use Rattle.lv_shelf.specs.Cuts.{Apart}
+use Rattle.lv_versions.specs.Versions.{Applies, Precedes, lost, new_version, state_at}
+use Rattle.lv_versions.proofs.Committed.{after_before, after_ends, after_is, after_state, after_versions, all_earlier, are_new}
+use Rattle.lv_versions.proofs.versions.Versions.commit.Goals as goal
+
+pub change-requires : goal.change-requires
+change-requires c =
+    let s = c.self.inside in
+    let vs = s.versions.list in
+    let later : s.last < c.args.number = omega (arith, c.requires.later, ap (λ v. v.last) c.self.view_is) in
+    let above : s.floor < c.args.number = omega (arith, c.requires.above, ap (λ v. v.floor) c.self.view_is) in
+    let applies : Applies s.def.key c.args.net (state_at s.last vs) = subst (λ v. Applies v.def.key c.args.net (state_at v.last v.versions)) (sym c.self.view_is) c.requires.applies in
+    rw c.as_slice.ensures (record {
+      order = c.self.invariant.are.order;
+      earlier = all_earlier s.last c.args.number vs later c.self.invariant.are.each;
+      new = are_new s.def.key s.last s.floor c.args.number c.args.net vs later above c.self.invariant.are applies;
+      room = omega (arith, c.requires.room, ap (λ v. v.spare) c.self.view_is);
+    })
+
+pub invariant_of-self : goal.invariant_of-self
+invariant_of-self c =
+    let s = c.self.inside in
+    let vs = s.versions.list in
+    let later : s.last < c.args.number = omega (arith, c.requires.later, ap (λ v. v.last) c.self.view_is) in
+    let above : s.floor < c.args.number = omega (arith, c.requires.above, ap (λ v. v.floor) c.self.view_is) in
+    let applies : Applies s.def.key c.args.net (state_at s.last vs) = subst (λ v. Applies v.def.key c.args.net (state_at v.last v.versions)) (sym c.self.view_is) c.requires.applies in
+    let changed = rw c.as_slice.ensures at c.change.ensures.changed in
+    let order = subst (Apart (Precedes s.def.key)) changed (rw c.as_slice.ensures at c.change.ensures.order) in
+    rw (changed, c.soonest_after-soonest.ensures) (record {
+      are = after_is s.def.key s.last s.floor c.args.number c.args.net vs later above c.self.invariant.are applies order;
+      ends = after_ends s.def.key s.soonest c.args.number c.args.net vs c.self.invariant.ends;
+    })
+
+pub returns : goal.returns
+returns c =
+    let s = c.self.inside in
+    let vs = s.versions.list in
+    let later : s.last < c.args.number = omega (arith, c.requires.later, ap (λ v. v.last) c.self.view_is) in
+    let above : s.floor < c.args.number = omega (arith, c.requires.above, ap (λ v. v.floor) c.self.view_is) in
+    let applies : Applies s.def.key c.args.net (state_at s.last vs) = subst (λ v. Applies v.def.key c.args.net (state_at v.last v.versions)) (sym c.self.view_is) c.requires.applies in
+    let changed = rw c.as_slice.ensures at c.change.ensures.changed in
+    let order = subst (Apart (Precedes s.def.key)) changed (rw c.as_slice.ensures at c.change.ensures.order) in
+    record {
+      state = λ n le.
+          ap (state_at n) changed
+          ∙ after_state s.def.key s.last s.floor c.args.number c.args.net vs later above c.self.invariant.are applies order n le
+          ∙ ap (λ v. with_net v.def.key c.args.net (state_at v.last v.versions)) c.self.view_is;
+      before = λ n below.
+          ap (state_at n) changed
+          ∙ after_before s.def.key s.last s.floor c.args.number c.args.net vs later above c.self.invariant.are applies n below
+          ∙ ap (λ v. state_at n v.versions) c.self.view_is;
+      versions = subst (λ v. IsPermutation (map (lost c.args.number c.args.net.minus) v.versions ++ map (new_version c.args.number) c.args.net.plus) c.change.new.versions.list) c.self.view_is
+          (subst (IsPermutation (map (lost c.args.number c.args.net.minus) vs ++ map (new_version c.args.number) c.args.net.plus)) (sym changed)
+          (after_versions s.def.key s.last s.floor c.args.number c.args.net vs later above c.self.invariant.are applies));
+      last = search rules;
+      def = ap (λ v. v.def) c.self.view_is;
+      floor = ap (λ v. v.floor) c.self.view_is;
+      room = omega (arith, c.change.ensures.room, ap (λ v. v.spare) c.self.view_is);
+    }

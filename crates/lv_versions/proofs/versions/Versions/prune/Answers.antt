@@ -1,0 +1,31 @@
+use Rattle.std.proofs.Common.{sym, ap, ◌∙◌, subst, Bool, arith}
+use Rattle.lv_schema.proofs.Apart.{all_filter, apart_filter}
+use Rattle.lv_schema.specs.declared.version.RowVersion.{RowVersion}
+use Rattle.lv_versions.specs.Versions.{AreVersions, IsBy, Precedes, ends_after, state_at}
+use Rattle.lv_versions.proofs.Finding.{pruned_newest, pruned_state}
+use Rattle.lv_shelf.proofs.Shelved.{all_kept}
+use Rattle.lv_versions.proofs.versions.Versions.prune.Goals as goal
+
+pub invariant_of-self : goal.invariant_of-self
+invariant_of-self c =
+    let s = c.self.inside in
+    let kept : RowVersion → Bool = λ v. ends_after c.args.floor v.until in
+    record {
+      are = subst (AreVersions s.def.key s.last c.args.floor) (sym c.drop_ended-soonest.ensures.kept) (record {
+        order = apart_filter (Precedes s.def.key) kept s.versions.list c.self.invariant.are.order;
+        each = all_filter (IsBy s.last) kept s.versions.list c.self.invariant.are.each;
+        kept = all_kept kept s.versions.list;
+      });
+      ends = c.drop_ended-soonest.ensures.ends;
+    }
+
+pub returns-clause-stays : goal.returns-clause-stays
+returns-clause-stays c = λ n le.
+    ap (state_at n) c.drop_ended-soonest.ensures.kept ∙ pruned_state n c.args.floor c.self.inside.versions.list le ∙ ap (λ v. state_at n v.versions) c.self.view_is
+
+pub returns-clause-newest : goal.returns-clause-newest
+returns-clause-newest c = λ n le.
+    let s = c.self.inside in
+    ap (state_at n) c.drop_ended-soonest.ensures.kept
+    ∙ pruned_newest n s.last c.args.floor s.versions.list (omega (arith, le, ap (λ v. v.last) c.self.view_is)) c.self.invariant.are.each
+    ∙ ap (λ v. state_at n v.versions) c.self.view_is

@@ -1,0 +1,146 @@
+-- What a table's versions give after a commit.
+use Rattle.std.specs.Prelude.{◌≡◌, ℕ, min, ◌<◌, ◌≤◌, Bool, true, false, not, ◌&&◌, nat_le, List, [], ◌∷◌, map, filter, slice_get, Option, Some, None, is_none}
+use Rattle.std.specs.List.{AllByRecursion}
+use Rattle.std.specs.Ordering.{nat_cmp, on, then_cmp, is_lt}
+use Rattle.std.specs.declared.cmp.Ordering.{Ordering}
+use Rattle.std.specs.declared.cmp.Ordering.TheVariants.{Less, Equal, Greater}
+use Rattle.lv_values.specs.declared.value.Value.{Value}
+use Rattle.lv_values.specs.Ascending.{placed}
+use Rattle.lv_values.specs.Order.{row_cmp, row_eq}
+use Rattle.lv_values.specs.Rows.{key_cmp, values_at}
+use Rattle.lv_schema.specs.declared.table.TableDef.{TableDef}
+use Rattle.lv_schema.specs.declared.net.Net.{Net}
+use Rattle.lv_schema.specs.Effects.{has_key}
+use Rattle.lv_schema.specs.Nets.{has_row, lacking}
+use Rattle.lv_schema.specs.Once.{Ascends}
+use Rattle.lv_schema.specs.declared.version.RowVersion.{RowVersion}
+pub use Rattle.lv_schema.specs.Versions.{ends_after, end_by, is_at, new_version}
+use Rattle.lv_shelf.specs.Cuts.{Apart}
+
+-- the rows after commit n, in the order of the versions
+abbrev pub state_at : ℕ → List RowVersion → List (List Value)
+state_at n versions = map (λ v. v.row) (filter (is_at n) versions)
+
+-- the rows that have these values in these columns, and the row that has a key, if one has
+abbrev pub rows_with : List ℕ → List Value → List (List Value) → List (List Value)
+rows_with columns values rows = filter (λ row. row_eq (values_at columns row) values) rows
+
+abbrev pub row_with : List ℕ → List Value → List (List Value) → Option (List Value)
+row_with positions key rows = slice_get (rows_with positions key rows) 0
+
+-- a net change that a table with these rows can take: what it takes away is there, and what it brings has keys
+-- of its own, in their order
+pub record Applies (positions : List ℕ) (net : Net) (rows : List (List Value)) : Type 0 where
+  pub there : AllByRecursion (λ row. has_row row rows ≡ true) net.minus
+  pub ascending : Ascends (key_cmp positions) net.plus
+  pub new : AllByRecursion (λ row. has_key positions row (lacking rows net.minus) ≡ false) net.plus
+
+-- ---- what holds of a table's versions
+-- an end, at or below n
+abbrev pub EndsBy : ℕ → Option ℕ → Type 0
+EndsBy n None = ⊥
+EndsBy n (Some k) = k ≤ n
+
+-- no end above n
+abbrev pub EndsAtMost : ℕ → Option ℕ → Type 0
+EndsAtMost n None = Unit {0}
+EndsAtMost n (Some k) = k ≤ n
+
+-- the one stands before the other: its key is less, or it ended when the other came
+abbrev pub precedes_by : Ordering → RowVersion → RowVersion → Type 0
+precedes_by Less v w = Unit {0}
+precedes_by Equal v w = (v.from < w.from) × EndsBy w.from v.until
+precedes_by Greater v w = ⊥
+
+abbrev pub Precedes : List ℕ → RowVersion → RowVersion → Type 0
+Precedes positions v w = precedes_by (key_cmp positions v.row w.row) v w
+
+-- it came, and if it ended then it ended, by commit n
+abbrev pub IsBy : ℕ → RowVersion → Type 0
+IsBy n v = (v.from ≤ n) × EndsAtMost n v.until
+
+pub record AreVersions (positions : List ℕ) (last : ℕ) (floor : ℕ) (versions : List RowVersion) : Type 0 where
+  pub order : Apart (Precedes positions) versions
+  pub each : AllByRecursion (IsBy last) versions
+  pub kept : AllByRecursion (λ v. ends_after floor v.until ≡ true) versions
+
+-- no end below a number
+abbrev pub EndsFrom : ℕ → Option ℕ → Type 0
+EndsFrom n None = Unit {0}
+EndsFrom n (Some k) = n ≤ k
+
+-- and no version that a clean-up below the soonest end would drop
+pub record AreKept (positions : List ℕ) (last floor soonest : ℕ) (versions : List RowVersion) : Type 0 where
+  pub are : AreVersions positions last floor versions
+  pub ends : AllByRecursion (λ v. EndsFrom soonest v.until) versions
+
+-- the soonest end after a commit that takes these rows away
+abbrev pub soonest_after : ℕ → ℕ → List (List Value) → ℕ
+soonest_after soonest number [] = soonest
+soonest_after soonest number (row ∷ rows) = min soonest number
+
+-- a table's versions: its definition, the versions in order, how many more rows go in without memory, the last
+-- commit that changed it, and the floor of the last clean-up
+pub record Kept : Type 0 where
+  pub def : TableDef
+  pub versions : List RowVersion
+  pub spare : ℕ
+  pub last : ℕ
+  pub floor : ℕ
+
+-- ---- what a commit does to the versions
+-- versions stand in the order of their keys, and under one key in the order in which they came
+abbrev pub version_cmp : List ℕ → RowVersion → RowVersion → Ordering
+version_cmp positions = then_cmp (on (λ v. values_at positions v.row) row_cmp) (on (λ v. v.from) nat_cmp)
+
+-- a version after a commit that takes these rows away
+abbrev pub lost : ℕ → List (List Value) → RowVersion → RowVersion
+lost number rows v = record v { until = end_by v.until (not (has_row v.row rows)) number }
+
+-- the versions after a commit that brings these rows
+abbrev pub with_versions : List ℕ → ℕ → List (List Value) → List RowVersion → List RowVersion
+with_versions positions number [] versions = versions
+with_versions positions number (row ∷ rows) versions = placed (version_cmp positions) (new_version number row) (with_versions positions number rows versions)
+
+abbrev pub ended_at : ℕ → RowVersion → RowVersion
+ended_at number v = record v { until = Some number }
+
+-- whether a version comes before the one that a commit brings, and whether it has the row and has not ended
+abbrev pub comes_before : List ℕ → List Value → ℕ → RowVersion → Bool
+comes_before positions row number v = is_lt (version_cmp positions v (new_version number row))
+
+abbrev pub is_current : List Value → RowVersion → Bool
+is_current row v = is_none v.until && row_eq v.row row
+
+-- whether a version's key is below a key, or is that key and came by commit n
+abbrev pub reaches_by : Ordering → Bool → Bool
+reaches_by Less b = true
+reaches_by Equal b = b
+reaches_by Greater b = false
+
+abbrev pub reaches : List ℕ → List Value → ℕ → RowVersion → Bool
+reaches positions key n v = reaches_by (row_cmp (values_at positions v.row) key) (nat_le v.from n)
+
+-- the row of a version that has a key and is there after commit n
+abbrev pub hits : List ℕ → List Value → ℕ → RowVersion → Bool
+hits positions key n v = is_at n v && row_eq (values_at positions v.row) key
+
+abbrev pub rows_hit : List ℕ → List Value → ℕ → List RowVersion → List (List Value)
+rows_hit positions key n versions = map (λ v. v.row) (filter (hits positions key n) versions)
+
+-- a row that a commit brings is new to a version: the version has another key, or ended by that commit
+abbrev pub new_by : Ordering → ℕ → RowVersion → Type 0
+new_by Less number v = Unit {0}
+new_by Equal number v = (v.from < number) × EndsBy number v.until
+new_by Greater number v = Unit {0}
+
+abbrev pub IsNewTo : List ℕ → ℕ → List Value → RowVersion → Type 0
+IsNewTo positions number row v = new_by (key_cmp positions row v.row) number v
+
+abbrev pub HaveOtherKeys : List ℕ → List Value → List Value → Type 0
+HaveOtherKeys positions a b = key_cmp positions a b ≡ Equal → ⊥
+
+-- rows of different keys that are new to each version
+pub record AreNew (positions : List ℕ) (number : ℕ) (rows : List (List Value)) (versions : List RowVersion) : Type 0 where
+  pub apart : Apart (HaveOtherKeys positions) rows
+  pub new : AllByRecursion (λ row. AllByRecursion (IsNewTo positions number row) versions) rows

@@ -1,0 +1,90 @@
+//! What a commit does to versions, in place.
+ghost use Rattle.std.specs.Prelude.{◌≡◌, ◌+◌, ◌<◌, ◌≤◌, ◌∷◌, [], length, map};
+ghost use Rattle.std.specs.List.{AllByRecursion};
+ghost use Rattle.lv_values.specs.Ascending.{placed};
+ghost use Rattle.lv_shelf.specs.Cuts.{Apart};
+ghost use Rattle.lv_versions.specs.Versions.{AreNew, IsNewTo, Precedes, lost, new_version, version_cmp, with_versions};
+
+use crate::version::{ComesBefore, EndAt, is_current};
+use lv_schema::{Net, RowVersion};
+use lv_shelf::Shelf;
+use lv_values::{Row, Rows};
+
+/// Ends the version that has the row and has not ended, if there is one. Cost: a binary search.
+fn end_row(positions: &[u8], row: &Row, number: u64, versions: &mut Shelf<RowVersion>)
+    requires order { Apart (Precedes positions.now) versions.old.list }
+    requires earlier { AllByRecursion (λ v. v.from < number) versions.old.list }
+    ensures ended { versions.new.list ≡ map (lost number (row.now ∷ [])) versions.old.list }
+    ensures room { versions.new.spare ≡ versions.old.spare }
+{
+    let at = versions.cut(&ComesBefore {
+        positions,
+        row,
+        number,
+    });
+    if at > 0 && is_current(versions.get(at - 1), row) {
+        versions.edit(at - 1, &EndAt { number });
+    }
+}
+
+/// Ends the versions of the rows that a commit takes away.
+fn end_rows(positions: &[u8], rows: &[Row], number: u64, versions: &mut Shelf<RowVersion>)
+    requires order { Apart (Precedes positions.now) versions.old.list }
+    requires earlier { AllByRecursion (λ v. v.from < number) versions.old.list }
+    ensures ended { versions.new.list ≡ map (lost number rows.now) versions.old.list }
+    ensures room { versions.new.spare ≡ versions.old.spare }
+{
+    for row in rows {
+        end_row(positions, row, number, versions);
+    }
+}
+
+/// Puts a version of a row that a commit brings at its place. Cost: a binary search, and a move of small numbers.
+fn put_row(positions: &[u8], row: Row, number: u64, versions: &mut Shelf<RowVersion>)
+    requires order { Apart (Precedes positions.now) versions.old.list }
+    requires room { 0 < versions.old.spare }
+    ensures put { versions.new.list ≡ placed (version_cmp positions.now) (new_version number row) versions.old.list }
+    ensures room { versions.new.spare + 1 ≡ versions.old.spare }
+{
+    let at = versions.cut(&ComesBefore {
+        positions,
+        row: &row,
+        number,
+    });
+    let version = RowVersion {
+        row,
+        from: number,
+        until: None,
+    };
+    versions.insert(at, version);
+}
+
+/// Puts versions of the rows that a commit brings at their places. It takes no memory.
+fn put_rows(positions: &[u8], mut rows: Rows, number: u64, versions: &mut Shelf<RowVersion>)
+    requires order { Apart (Precedes positions.now) versions.old.list }
+    requires new { AreNew positions.now number rows versions.old.list }
+    requires room { length rows ≤ versions.old.spare }
+    ensures put { versions.new.list ≡ with_versions positions.now number rows versions.old.list }
+    ensures order { Apart (Precedes positions.now) versions.new.list }
+    ensures room { versions.new.spare + length rows ≡ versions.old.spare }
+{
+    while let Some(row) = rows.pop() {
+        put_row(positions, row, number, versions);
+    }
+}
+
+/// Ends the versions of the rows that a net change takes away, and puts versions of those that it brings at their
+/// places. It takes no memory.
+pub(crate) fn change(positions: &[u8], net: Net, number: u64, versions: &mut Shelf<RowVersion>)
+    requires order { Apart (Precedes positions.now) versions.old.list }
+    requires earlier { AllByRecursion (λ v. v.from < number) versions.old.list }
+    requires new { AreNew positions.now number net.plus (map (lost number net.minus) versions.old.list) }
+    requires room { length net.plus ≤ versions.old.spare }
+    ensures changed { versions.new.list ≡ with_versions positions.now number net.plus (map (lost number net.minus) versions.old.list) }
+    ensures order { Apart (Precedes positions.now) versions.new.list }
+    ensures room { versions.new.spare + length net.plus ≡ versions.old.spare }
+{
+    let Net { minus, plus } = net;
+    end_rows(positions, minus.as_slice(), number, versions);
+    put_rows(positions, plus, number, versions);
+}

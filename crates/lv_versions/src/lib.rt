@@ -1,0 +1,8 @@
+//! A table's row versions: what it holds after each commit, read by key, by columns or whole.
+#![tactic(auto)]
+
+mod changing;
+mod version;
+mod versions;
+
+pub use versions::Versions;

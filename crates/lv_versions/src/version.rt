@@ -1,0 +1,133 @@
+//! Tests of row versions, and the end of one.
+ghost use Rattle.std.specs.Prelude.{◌≡◌};
+ghost use Rattle.lv_versions.specs.Versions as spec;
+
+use lv_schema::RowVersion;
+use lv_values::{Edit, Row, Test, compare_keys, compare_to_key};
+use std::cmp::Ordering;
+use std::marker::Model;
+
+/// Whether the row is there after commit n.
+pub(crate) fn is_at(version: &RowVersion, n: u64) -> bool
+    ensures { result ≡ spec.is_at n version.now }
+{
+    if version.from > n {
+        return false;
+    }
+    match version.until {
+        Some(until) => n < until,
+        None => true,
+    }
+}
+
+/// Whether the version has the row and has not ended.
+pub(crate) fn is_current(version: &RowVersion, row: &Row) -> bool
+    ensures { result ≡ spec.is_current row.now version.now }
+{
+    version.until.is_none() && version.row.cmp(row).is_eq()
+}
+
+/// Whether the version has these values at these positions and is there after commit n.
+pub(crate) fn hits(version: &RowVersion, positions: &[u8], values: &Row, n: u64) -> bool
+    ensures { result ≡ spec.hits positions.now values.now n version.now }
+{
+    is_at(version, n) && compare_to_key(positions, &version.row, values).is_eq()
+}
+
+/// Tests whether a version comes before the one that a commit brings.
+#[derive(Drop)]
+pub(crate) struct ComesBefore<'a> {
+    pub(crate) positions: &'a [u8],
+    pub(crate) row: &'a Row,
+    pub(crate) number: u64,
+}
+
+impl<'a> Model for ComesBefore<'a> {
+    ghost use Rattle.std.specs.Prelude.{ℕ, List};
+    ghost use Rattle.lv_values.specs.declared.value.Value.{Value as AValue};
+
+    ghost Value = { List ℕ × List AValue × ℕ };
+
+    ghost view = { λ t. (t.positions.now, t.row.now, t.number) };
+}
+
+impl<'a> Test<RowVersion> for ComesBefore<'a> {
+    ghost use Rattle.lv_versions.specs.Versions.{comes_before};
+
+    ghost passed = { λ t v. comes_before t.0 t.1 t.2 v };
+
+    fn passes(&self, version: &RowVersion) -> bool {
+        match compare_keys(self.positions, &version.row, self.row) {
+            Ordering::Less => true,
+            Ordering::Equal => version.from < self.number,
+            Ordering::Greater => false,
+        }
+    }
+}
+
+/// Tests whether a version's key is below a key, or is that key and came by a commit.
+#[derive(Drop)]
+pub(crate) struct Reaches<'a> {
+    pub(crate) positions: &'a [u8],
+    pub(crate) key: &'a Row,
+    pub(crate) n: u64,
+}
+
+impl<'a> Model for Reaches<'a> {
+    ghost use Rattle.std.specs.Prelude.{ℕ, List};
+    ghost use Rattle.lv_values.specs.declared.value.Value.{Value as AValue};
+
+    ghost Value = { List ℕ × List AValue × ℕ };
+
+    ghost view = { λ t. (t.positions.now, t.key.now, t.n) };
+}
+
+impl<'a> Test<RowVersion> for Reaches<'a> {
+    ghost use Rattle.lv_versions.specs.Versions.{reaches};
+
+    ghost passed = { λ t v. reaches t.0 t.1 t.2 v };
+
+    fn passes(&self, version: &RowVersion) -> bool {
+        match compare_to_key(self.positions, &version.row, self.key) {
+            Ordering::Less => true,
+            Ordering::Equal => version.from <= self.n,
+            Ordering::Greater => false,
+        }
+    }
+}
+
+/// Tests whether a version did not end at or below a floor.
+#[derive(Drop)]
+pub(crate) struct EndsAfter {
+    pub(crate) floor: u64,
+}
+
+impl Test<RowVersion> for EndsAfter {
+    ghost use Rattle.lv_versions.specs.Versions.{ends_after};
+
+    ghost passed = { λ t v. ends_after t.floor v.until };
+
+    fn passes(&self, version: &RowVersion) -> bool {
+        match version.until {
+            Some(until) => self.floor < until,
+            None => true,
+        }
+    }
+}
+
+/// Ends a version.
+#[derive(Drop)]
+pub(crate) struct EndAt {
+    pub(crate) number: u64,
+}
+
+impl Edit<RowVersion> for EndAt {
+    ghost use Rattle.std.specs.Prelude.{Some};
+    ghost use Rattle.lv_versions.specs.Versions.{ended_at};
+
+    ghost edited = { λ e v. ended_at e.number v };
+
+    fn edit(&self, version: &mut RowVersion) {
+        version.until = Some(self.number);
+    }
+}

@@ -1,0 +1,290 @@
+//! A table's row versions.
+ghost use Rattle.std.specs.Prelude.{◌≡◌, ◌+◌, ◌<◌, ◌≤◌, ◌++◌, ◌∷◌, [], ℕ, length, map, filter, Some, None, MatchOption, IfOk, OnOk, OnErr, option_to_list};
+ghost use Rattle.std.specs.Option.{option_to_list};
+ghost use Rattle.std.specs.List.{AllByRecursion};
+ghost use Rattle.std.specs.List.Sorted.{IsPermutation};
+ghost use Rattle.lv_values.specs.Rows.{key_cmp};
+ghost use Rattle.lv_schema.specs.Nets.{with_net};
+ghost use Rattle.lv_schema.specs.Once.{Ascends};
+ghost use Rattle.lv_versions.specs.Versions.{Applies, EndsFrom, IsBy, ends_after, lost, new_version, row_with, rows_hit, rows_with, soonest_after, state_at};
+
+use crate::changing::change;
+use crate::version::{EndsAfter, Reaches, hits, is_at};
+use lv_schema::{Net, RowVersion, TableDef};
+use lv_shelf::Shelf;
+use lv_values::{Copying, NoMemory, Row, Rows, Steps};
+use std::alloc::Global;
+use std::marker::Model;
+use std::sync::ledger::Ledger;
+
+/// A table's rows after each commit.
+#[derive(Drop)]
+pub struct Versions {
+    def: TableDef,
+    versions: Shelf<RowVersion>,
+    last: u64,
+    floor: u64,
+    soonest: u64,
+}
+
+impl Model for Versions {
+    ghost use Rattle.lv_versions.specs.Versions.{AreKept, Kept};
+
+    ghost Value = { Kept };
+
+    ghost view = { λ v. record { def = v.def; versions = v.versions.list; spare = v.versions.spare; last = v.last; floor = v.floor } };
+
+    ghost invariant = { λ v. AreKept v.def.key v.last v.floor v.soonest v.versions.list };
+}
+
+impl Versions {
+    /// No row after any commit. It takes no memory.
+    pub fn new(alloc: Global, def: TableDef) -> Versions
+        ensures def { result.def ≡ def }
+        ensures none { result.versions ≡ [] }
+        ensures last { result.last ≡ 0 }
+        ensures floor { result.floor ≡ 0 }
+    {
+        Versions {
+            def,
+            versions: Shelf::new(alloc),
+            last: 0,
+            floor: 0,
+            soonest: u64::MAX,
+        }
+    }
+
+    /// The table.
+    pub fn def(&self) -> &TableDef
+        ensures { result.now ≡ self.now.def }
+    {
+        &self.def
+    }
+
+    /// The row that has a key after commit n. Cost: a binary search.
+    pub fn read<L: Ledger>(&self, n: u64, key: &Row, steps: &mut Steps<L>) -> Option<&Row>
+        requires { self.now.floor ≤ n }
+        ensures found { MatchOption result (row_with self.now.def.key key.now (state_at n self.now.versions) ≡ None) (λ row. row_with self.now.def.key key.now (state_at n self.now.versions) ≡ Some row.now) }
+        ensures keyed { Ascends (key_cmp self.now.def.key) (state_at n self.now.versions) }
+        ensures cost { steps.new ≡ steps.old + length (option_to_list result) }
+    {
+        let positions = self.def.key.as_slice();
+        let at = self.versions.cut(&Reaches { positions, key, n });
+        if at == 0 {
+            return None;
+        }
+        let version = self.versions.get(at - 1);
+        if hits(version, positions, key, n) {
+            steps.tick();
+            Some(&version.row)
+        } else {
+            None
+        }
+    }
+
+    /// The rows after commit n, in the order of their keys. Cost: one pass over the versions, and a copy of each row.
+    pub fn scan<L: Ledger>(
+        &self,
+        alloc: Global,
+        n: u64,
+        steps: &mut Steps<L>,
+    ) -> Result<Rows, NoMemory>
+        requires { self.now.floor ≤ n }
+        ensures rows { IfOk result (λ rows. rows ≡ state_at n self.now.versions) }
+        ensures keyed { Ascends (key_cmp self.now.def.key) (state_at n self.now.versions) }
+        ensures cost { OnOk result (steps.new ≡ steps.old + length (state_at n self.now.versions)) }
+        ensures most { OnErr result (steps.new ≤ steps.old + length (state_at n self.now.versions)) }
+    {
+        let versions = &self.versions;
+        rows_at(alloc, n, versions, steps)
+    }
+
+    /// The rows after commit n that have these values in these columns, in the order of their keys.
+    /// Cost: one pass over the versions, and a copy of each row.
+    pub fn probe<L: Ledger>(
+        &self,
+        alloc: Global,
+        n: u64,
+        columns: &[u8],
+        values: &Row,
+        steps: &mut Steps<L>,
+    ) -> Result<Rows, NoMemory>
+        requires { self.now.floor ≤ n }
+        ensures rows { IfOk result (λ rows. rows ≡ rows_with columns.now values.now (state_at n self.now.versions)) }
+        ensures cost { OnOk result (steps.new ≡ steps.old + length (rows_with columns.now values.now (state_at n self.now.versions))) }
+        ensures most { OnErr result (steps.new ≤ steps.old + length (rows_with columns.now values.now (state_at n self.now.versions))) }
+    {
+        let versions = &self.versions;
+        rows_with(alloc, n, columns, values, versions, steps)
+    }
+
+    /// Makes room for `rows` rows. The versions stay as they were, and the room never shrinks.
+    pub fn reserve(&mut self, rows: u64) -> Result<(), NoMemory>
+        ensures def { self.new.def ≡ self.old.def }
+        ensures same { self.new.versions ≡ self.old.versions }
+        ensures last { self.new.last ≡ self.old.last }
+        ensures floor { self.new.floor ≡ self.old.floor }
+        ensures room { OnOk result (rows ≤ self.new.spare) }
+        ensures kept { self.old.spare ≤ self.new.spare }
+    {
+        self.versions.reserve(rows)
+    }
+
+    /// Commits a net change. It takes no memory. Cost: a binary search for each row that goes or comes, and a move of
+    /// small numbers for each that comes.
+    pub fn commit(&mut self, number: u64, net: Net)
+        requires later { self.old.last < number }
+        requires above { self.old.floor < number }
+        requires applies { Applies self.old.def.key net (state_at self.old.last self.old.versions) }
+        requires room { length net.plus ≤ self.old.spare }
+        ensures state { (n : ℕ) → number ≤ n → state_at n self.new.versions ≡ with_net self.old.def.key net (state_at self.old.last self.old.versions) }
+        ensures before { (n : ℕ) → n < number → state_at n self.new.versions ≡ state_at n self.old.versions }
+        ensures versions { IsPermutation (map (lost number net.minus) self.old.versions ++ map (new_version number) net.plus) self.new.versions }
+        ensures last { self.new.last ≡ number }
+        ensures def { self.new.def ≡ self.old.def }
+        ensures floor { self.new.floor ≡ self.old.floor }
+        ensures room { self.new.spare + length net.plus ≡ self.old.spare }
+    {
+        let soonest = soonest_after(self.soonest, number, &net.minus);
+        change(self.def.key.as_slice(), net, number, &mut self.versions);
+        self.last = number;
+        self.soonest = soonest;
+    }
+
+    /// Drops the versions that ended at or below a floor. It takes no memory. Cost: constant
+    /// where none ended at or below it, or else two passes over small numbers.
+    pub fn prune(&mut self, floor: u64)
+        requires { self.old.floor ≤ floor }
+        ensures kept { self.new.versions ≡ filter (λ v. ends_after floor v.until) self.old.versions }
+        ensures stays { (n : ℕ) → floor ≤ n → state_at n self.new.versions ≡ state_at n self.old.versions }
+        ensures newest { (n : ℕ) → self.old.last ≤ n → state_at n self.new.versions ≡ state_at n self.old.versions }
+        ensures floor { self.new.floor ≡ floor }
+        ensures def { self.new.def ≡ self.old.def }
+        ensures last { self.new.last ≡ self.old.last }
+        ensures room { self.old.spare ≤ self.new.spare }
+    {
+        let soonest = drop_ended(&mut self.versions, self.soonest, self.last, floor);
+        self.soonest = soonest;
+        self.floor = floor;
+    }
+
+    /// The number of versions.
+    pub fn count(&self) -> u64
+        ensures { result ≡ length self.now.versions }
+    {
+        self.versions.len() as u64
+    }
+}
+
+/// The soonest end after a commit that takes these rows away.
+fn soonest_after(soonest: u64, number: u64, minus: &Rows) -> u64
+    ensures { result ≡ soonest_after soonest number minus.now }
+{
+    if minus.is_empty() {
+        soonest
+    } else {
+        soonest.min(number)
+    }
+}
+
+/// Drops the versions that ended at or below a floor, and answers a number below which none ends. Cost: constant where
+/// none ends at or below the floor, or else two passes over small numbers.
+fn drop_ended(versions: &mut Shelf<RowVersion>, soonest: u64, last: u64, floor: u64) -> u64
+    requires ends { AllByRecursion (λ v. EndsFrom soonest v.until) versions.old.list }
+    requires each { AllByRecursion (IsBy last) versions.old.list }
+    ensures kept { versions.new.list ≡ filter (λ v. ends_after floor v.until) versions.old.list }
+    ensures room { versions.old.spare ≤ versions.new.spare }
+    ensures ends { AllByRecursion (λ v. EndsFrom result v.until) versions.new.list }
+{
+    if floor < soonest {
+        return soonest;
+    }
+    versions.keep(&EndsAfter { floor });
+    if floor < last { floor + 1 } else { u64::MAX }
+}
+
+/// Appends a copy of the version's row, and takes one step, if the row is there after commit n.
+fn push_alive<L: Ledger>(
+    alloc: Global,
+    n: u64,
+    version: &RowVersion,
+    rows: &mut Rows,
+    steps: &mut Steps<L>,
+) -> Result<(), NoMemory>
+    ensures pushed { OnOk result (rows.new ≡ rows.old ++ state_at n (version.now ∷ [])) }
+    ensures cost { OnOk result (steps.new ≡ steps.old + length (state_at n (version.now ∷ []))) }
+    ensures refused { OnErr result (steps.new ≡ steps.old) }
+{
+    if is_at(version, n) {
+        rows.push(version.row.copy(alloc)?)?;
+        steps.tick();
+    }
+    Ok(())
+}
+
+/// Copies of the rows after commit n, and one step for each.
+fn rows_at<L: Ledger>(
+    alloc: Global,
+    n: u64,
+    versions: &Shelf<RowVersion>,
+    steps: &mut Steps<L>,
+) -> Result<Rows, NoMemory>
+    ensures rows { IfOk result (λ rows. rows ≡ state_at n versions.now.list) }
+    ensures cost { OnOk result (steps.new ≡ steps.old + length (state_at n versions.now.list)) }
+    ensures most { OnErr result (steps.new ≤ steps.old + length (state_at n versions.now.list)) }
+{
+    let mut rows = Rows::new(alloc);
+    for at in 0..versions.len() {
+        push_alive(alloc, n, versions.get(at), &mut rows, steps)?;
+    }
+    Ok(rows)
+}
+
+/// Appends a copy of the version's row, and takes one step, if the row is there after commit n and has these values.
+fn push_hit<L: Ledger>(
+    alloc: Global,
+    n: u64,
+    columns: &[u8],
+    values: &Row,
+    version: &RowVersion,
+    rows: &mut Rows,
+    steps: &mut Steps<L>,
+) -> Result<(), NoMemory>
+    ensures pushed { OnOk result (rows.new ≡ rows.old ++ rows_hit columns.now values.now n (version.now ∷ [])) }
+    ensures cost { OnOk result (steps.new ≡ steps.old + length (rows_hit columns.now values.now n (version.now ∷ []))) }
+    ensures refused { OnErr result (steps.new ≡ steps.old) }
+{
+    if hits(version, columns, values, n) {
+        rows.push(version.row.copy(alloc)?)?;
+        steps.tick();
+    }
+    Ok(())
+}
+
+/// Copies of the rows after commit n that have these values, and one step for each.
+fn rows_with<L: Ledger>(
+    alloc: Global,
+    n: u64,
+    columns: &[u8],
+    values: &Row,
+    versions: &Shelf<RowVersion>,
+    steps: &mut Steps<L>,
+) -> Result<Rows, NoMemory>
+    ensures rows { IfOk result (λ rows. rows ≡ rows_with columns.now values.now (state_at n versions.now.list)) }
+    ensures cost { OnOk result (steps.new ≡ steps.old + length (rows_with columns.now values.now (state_at n versions.now.list))) }
+    ensures most { OnErr result (steps.new ≤ steps.old + length (rows_with columns.now values.now (state_at n versions.now.list))) }
+{
+    let mut rows = Rows::new(alloc);
+    for at in 0..versions.len() {
+        push_hit(
+            alloc,
+            n,
+            columns,
+            values,
+            versions.get(at),
+            &mut rows,
+            steps,
+        )?;
+    }
+    Ok(rows)
+}
