@@ -1,6 +1,7 @@
 //! Why a statement is refused.
 
-use lv_values::{Row, Text};
+use lv_values::{Copying, NoMemory, Row, Text};
+use std::alloc::Global;
 
 /// A limit of a statement or of the schema.
 #[derive(Clone, Copy, Debug, PartialEq, Eq)]
@@ -79,4 +80,50 @@ pub enum Fault {
     Store,
     /// 18: the journal would pass its limit.
     JournalFull { need: u64, limit: u64 },
+}
+
+impl Copying for Fault {
+    fn copy(&self, alloc: Global) -> Result<Self, NoMemory> {
+        Ok(match self {
+            Fault::Syntax { byte } => Fault::Syntax { byte: *byte },
+            Fault::Unknown { name } => Fault::Unknown {
+                name: name.copy(alloc)?,
+            },
+            Fault::Ambiguous { name } => Fault::Ambiguous {
+                name: name.copy(alloc)?,
+            },
+            Fault::InUse { name } => Fault::InUse {
+                name: name.copy(alloc)?,
+            },
+            Fault::Kinds { byte } => Fault::Kinds { byte: *byte },
+            Fault::Limit { which, most } => Fault::Limit {
+                which: *which,
+                most: *most,
+            },
+            Fault::Profile { rule } => Fault::Profile { rule: *rule },
+            Fault::NotSetup => Fault::NotSetup,
+            Fault::InTransaction => Fault::InTransaction,
+            Fault::NoTransaction => Fault::NoTransaction,
+            Fault::KeyAssigned { name } => Fault::KeyAssigned {
+                name: name.copy(alloc)?,
+            },
+            Fault::Range { number } => Fault::Range { number: *number },
+            Fault::Duplicate { table, key } => Fault::Duplicate {
+                table: *table,
+                key: key.copy(alloc)?,
+            },
+            Fault::TableFull { table } => Fault::TableFull { table: *table },
+            Fault::Conflict { table, key, commit } => Fault::Conflict {
+                table: *table,
+                key: key.copy(alloc)?,
+                commit: *commit,
+            },
+            Fault::MergedFull { table } => Fault::MergedFull { table: *table },
+            Fault::Store => Fault::Store,
+            Fault::JournalFull { need, limit } => Fault::JournalFull {
+                need: *need,
+                limit: *limit,
+            },
+        })
+    }
 }
