@@ -1,7 +1,8 @@
 //! A transcript: what each event of a run answered.
 
 use lv_schema::{Fault, ForcedSteps};
-use lv_values::{Items, Rows, Text};
+use lv_values::{Copying, Items, NoMemory, Rows, Text};
+use std::alloc::Global;
 
 /// Pending tasks: a view's number and a commit's, by view and then by commit.
 pub type TaskList = Items<(u32, u64)>;
@@ -107,4 +108,111 @@ pub enum Entry {
         versions: u64,
         deltas: u64,
     },
+}
+
+impl Copying for Reply {
+    fn copy(&self, alloc: Global) -> Result<Self, NoMemory> {
+        match self {
+            Reply::Made => Ok(Reply::Made),
+            Reply::Changed { count } => Ok(Reply::Changed { count: *count }),
+            Reply::Alone { count, number } => Ok(Reply::Alone {
+                count: *count,
+                number: *number,
+            }),
+            Reply::Began { snapshot } => Ok(Reply::Began {
+                snapshot: *snapshot,
+            }),
+            Reply::Committed { number } => Ok(Reply::Committed { number: *number }),
+            Reply::RolledBack => Ok(Reply::RolledBack),
+            Reply::Rows(rows) => Ok(Reply::Rows(rows.copy(alloc)?)),
+            Reply::Tasks(tasks) => Ok(Reply::Tasks(tasks.copy(alloc)?)),
+            Reply::Refused(fault) => Ok(Reply::Refused(fault.copy(alloc)?)),
+        }
+    }
+}
+
+impl Copying for MarkOutcome {
+    fn copy(&self, alloc: Global) -> Result<Self, NoMemory> {
+        match self {
+            MarkOutcome::Upto(number) => Ok(MarkOutcome::Upto(*number)),
+            MarkOutcome::Already => Ok(MarkOutcome::Already),
+            MarkOutcome::Refused(fault) => Ok(MarkOutcome::Refused(fault.copy(alloc)?)),
+        }
+    }
+}
+
+impl Copying for Entry {
+    fn copy(&self, alloc: Global) -> Result<Self, NoMemory> {
+        match self {
+            Entry::Session {
+                session,
+                place,
+                forced,
+                reply,
+            } => {
+                let forced = forced.copy(alloc)?;
+                Ok(Entry::Session {
+                    session: *session,
+                    place: *place,
+                    forced,
+                    reply: reply.copy(alloc)?,
+                })
+            }
+            Entry::Fetched {
+                worker,
+                view,
+                lo,
+                hi,
+            } => Ok(Entry::Fetched {
+                worker: *worker,
+                view: *view,
+                lo: *lo,
+                hi: *hi,
+            }),
+            Entry::Idle { worker } => Ok(Entry::Idle { worker: *worker }),
+            Entry::Busy { worker } => Ok(Entry::Busy { worker: *worker }),
+            Entry::Installed {
+                worker,
+                view,
+                lo,
+                hi,
+            } => Ok(Entry::Installed {
+                worker: *worker,
+                view: *view,
+                lo: *lo,
+                hi: *hi,
+            }),
+            Entry::Moved {
+                worker,
+                view,
+                lo,
+                hi,
+                point,
+            } => Ok(Entry::Moved {
+                worker: *worker,
+                view: *view,
+                lo: *lo,
+                hi: *hi,
+                point: *point,
+            }),
+            Entry::Empty { worker } => Ok(Entry::Empty { worker: *worker }),
+            Entry::Released { worker } => Ok(Entry::Released { worker: *worker }),
+            Entry::Marked { view, outcome } => Ok(Entry::Marked {
+                view: *view,
+                outcome: outcome.copy(alloc)?,
+            }),
+            Entry::MarkUnknown { name } => Ok(Entry::MarkUnknown {
+                name: name.copy(alloc)?,
+            }),
+            Entry::Cleaned {
+                floor,
+                versions,
+                deltas,
+            } => Ok(Entry::Cleaned {
+                floor: *floor,
+                versions: *versions,
+                deltas: *deltas,
+            }),
+        }
+    }
 }

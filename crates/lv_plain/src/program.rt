@@ -1,6 +1,7 @@
 //! A program: the statements of the setup and of each session, and the order in which they run.
 
-use lv_values::{Items, Text};
+use lv_values::{Copying, Items, NoMemory, Text};
+use std::alloc::Global;
 
 /// Statements, one a line.
 pub type Texts = Items<Text>;
@@ -41,4 +42,38 @@ pub struct Program {
     pub setup: Texts,
     pub sessions: Scripts,
     pub order: Order,
+}
+
+impl Copying for Script {
+    fn copy(&self, alloc: Global) -> Result<Self, NoMemory> {
+        Ok(Script {
+            name: self.name.copy(alloc)?,
+            lines: self.lines.copy(alloc)?,
+        })
+    }
+}
+
+impl Copying for OrderItem {
+    fn copy(&self, alloc: Global) -> Result<Self, NoMemory> {
+        match self {
+            OrderItem::Turn { session } => Ok(OrderItem::Turn { session: *session }),
+            OrderItem::Fetch { worker } => Ok(OrderItem::Fetch { worker: *worker }),
+            OrderItem::Install { worker } => Ok(OrderItem::Install { worker: *worker }),
+            OrderItem::Work { worker } => Ok(OrderItem::Work { worker: *worker }),
+            OrderItem::Mark { view } => Ok(OrderItem::Mark {
+                view: view.copy(alloc)?,
+            }),
+            OrderItem::Clean => Ok(OrderItem::Clean),
+        }
+    }
+}
+
+impl Copying for Program {
+    fn copy(&self, alloc: Global) -> Result<Self, NoMemory> {
+        Ok(Program {
+            setup: self.setup.copy(alloc)?,
+            sessions: self.sessions.copy(alloc)?,
+            order: self.order.copy(alloc)?,
+        })
+    }
 }
