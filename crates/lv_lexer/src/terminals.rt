@@ -1,6 +1,7 @@
 //! Tokens as a grammar sees them: keywords apart from names, each sign by itself.
 
-use lv_values::{Items, Text};
+use lv_values::{Copying, Items, NoMemory, Text};
+use std::alloc::Global;
 
 /// The classes of tokens: a name, a number, a text, each keyword, each sign.
 #[derive(Clone, Copy, Debug, PartialEq, Eq)]
@@ -96,3 +97,14 @@ pub struct Terminal {
 
 /// Tokens as a grammar sees them, in their order.
 pub type Terminals = Items<Terminal>;
+
+impl Copying for Terminal {
+    fn copy(&self, alloc: Global) -> Result<Self, NoMemory> {
+        Ok(Terminal {
+            class: self.class,
+            text: self.text.copy(alloc)?,
+            number: self.number,
+            byte: self.byte,
+        })
+    }
+}

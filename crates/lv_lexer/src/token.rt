@@ -1,6 +1,7 @@
 //! What a line is cut into.
 
-use lv_values::Items;
+use lv_values::{Copying, Items, NoMemory};
+use std::alloc::Global;
 
 /// What sort of token it is.
 #[derive(Clone, Copy, Debug, PartialEq, Eq)]
@@ -32,4 +33,19 @@ pub type Tokens = Items<Token>;
 pub struct Scan {
     pub list: Tokens,
     pub stopped: Option<u32>,
+}
+
+impl Copying for Token {
+    fn copy(&self, _alloc: Global) -> Result<Self, NoMemory> {
+        Ok(*self)
+    }
+}
+
+impl Copying for Scan {
+    fn copy(&self, alloc: Global) -> Result<Self, NoMemory> {
+        Ok(Scan {
+            list: self.list.copy(alloc)?,
+            stopped: self.stopped,
+        })
+    }
 }

@@ -1,6 +1,6 @@
 //! Tokens written to a line, so that they are read again.
 
-ghost use Rattle.std.specs.Prelude.{◌≡◌, ℕ, ◌++◌, ◌<◌, ◌^◌, Bool, true, List, None, OnOk, IfOk, IsUtf8, decimal};
+ghost use Rattle.std.specs.Prelude.{◌≡◌, ℕ, ◌++◌, ◌<◌, ◌^◌, Bool, true, List, None, OnOk, OnErr, IfOk, IsUtf8, decimal};
 ghost use Rattle.std.specs.Str.{is_utf8};
 ghost use Rattle.lv_values.specs.Print.{doubled, quoted};
 ghost use Rattle.std.specs.Str.Parse.{digits_value};
@@ -41,12 +41,19 @@ impl Model for Writer {
 fn append(line: &mut Bytes, space: bool, bytes: &[u8]) -> Result<(), NoMemory>
     requires { IsUtf8 bytes.now }
     ensures added { OnOk result (line.new ≡ line.old ++ spec.space_if space ++ bytes.now) }
+    ensures kept { OnErr result (line.new ≡ line.old) }
     ensures utf8 { is_utf8 line.old ≡ true → is_utf8 line.new ≡ true }
 {
-    if space {
-        line.push(b' ')?;
+    if !space {
+        return line.extend_from_slice(bytes);
     }
-    line.extend_from_slice(bytes)
+    let before = line.len();
+    line.push(b' ')?;
+    let appended = line.extend_from_slice(bytes);
+    if appended.is_err() {
+        line.truncate(before);
+    }
+    appended
 }
 
 /// The bytes, each quote twice.
@@ -100,9 +107,10 @@ impl Writer {
         }
     }
 
-    /// Writes a word. After want of memory a space may stand at the end, as after the other calls.
+    /// Writes a word. Want of memory changes nothing, here and at the other calls.
     pub fn word(&mut self, text: &str) -> Result<(), NoMemory>
-        ensures { OnOk result (self.new ≡ spec.with_token self.old (spec.word text.now)) }
+        ensures written { OnOk result (self.new ≡ spec.with_token self.old (spec.word text.now)) }
+        ensures kept { OnErr result (self.new ≡ self.old) }
     {
         append(&mut self.line, self.after_word, text.as_bytes())?;
         self.after_word = true;
@@ -111,7 +119,8 @@ impl Writer {
 
     /// Writes a number in decimal.
     pub fn number(&mut self, n: u128) -> Result<(), NoMemory>
-        ensures { OnOk result (self.new ≡ spec.with_token self.old (spec.number n)) }
+        ensures written { OnOk result (self.new ≡ spec.with_token self.old (spec.number n)) }
+        ensures kept { OnErr result (self.new ≡ self.old) }
     {
         let mut buffer = Buffer::new();
         append(&mut self.line, self.after_word, buffer.format(n).as_bytes())?;
@@ -121,7 +130,8 @@ impl Writer {
 
     /// Writes a text between quotes, each quote of its own twice.
     pub fn text(&mut self, alloc: Global, text: &Text) -> Result<(), NoMemory>
-        ensures { OnOk result (self.new ≡ spec.with_token self.old (spec.text text.now)) }
+        ensures written { OnOk result (self.new ≡ spec.with_token self.old (spec.text text.now)) }
+        ensures kept { OnErr result (self.new ≡ self.old) }
     {
         let quoted = quote(alloc, text.as_bytes())?;
         append(&mut self.line, false, quoted.as_slice())?;
@@ -131,7 +141,8 @@ impl Writer {
 
     /// Writes a sign.
     pub fn sign(&mut self, text: &str) -> Result<(), NoMemory>
-        ensures { OnOk result (self.new ≡ spec.with_token self.old (spec.sign text.now)) }
+        ensures written { OnOk result (self.new ≡ spec.with_token self.old (spec.sign text.now)) }
+        ensures kept { OnErr result (self.new ≡ self.old) }
     {
         append(&mut self.line, false, text.as_bytes())?;
         self.after_word = false;
