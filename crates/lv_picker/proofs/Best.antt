@@ -4,7 +4,7 @@ use Rattle.std.specs.Prelude.{◌||◌}
 use Rattle.std.specs.List.{list_any}
 use Rattle.std.proofs.lemmas.Bool.Decides.{nat_tests}
 use Rattle.lv_schema.specs.declared.pending.Pending.{Pending}
-use Rattle.lv_schema.specs.Upkeep.{first_best, chosen}
+use Rattle.lv_schema.specs.Policies.{first_best, chosen}
 use Rattle.lv_picker.specs.Choices.{is_better}
 
 pub chosen_is : (kind : ℕ) (list : List Pending) → chosen kind list ≡ first_best (is_better kind) list

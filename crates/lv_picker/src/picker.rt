@@ -1,7 +1,7 @@
 //! A stored policy.
 ghost use Rattle.std.specs.Prelude.{◌≡◌, ◌<◌, ℕ, List, length};
 ghost use Rattle.lv_schema.specs.declared.pending.Pending.{Pending};
-ghost use Rattle.lv_schema.specs.Upkeep.{chosen};
+ghost use Rattle.lv_schema.specs.Policies.{chosen};
 ghost use Rattle.lv_picker.specs.Choices.{IsChoice};
 
 use lv_schema::Pending;

@@ -1,6 +1,6 @@
 //! The places that the three policies choose.
 ghost use Rattle.std.specs.Prelude.{◌≡◌, ◌<◌, length};
-ghost use Rattle.lv_schema.specs.Upkeep.{chosen};
+ghost use Rattle.lv_schema.specs.Policies.{chosen};
 ghost use Rattle.lv_picker.specs.Choices.{is_better};
 
 use lv_schema::Pending;

@@ -1,5 +1,5 @@
 use Rattle.std.proofs.Common.{◌≡◌, ◌<◌, ◌+◌, ◌∷◌, ◌∙◌, length, get_or, arith, sym, ap, subst, drop, add-one, drop-cons}
-use Rattle.lv_schema.specs.Upkeep.{chosen}
+use Rattle.lv_schema.specs.Policies.{chosen}
 use Rattle.lv_schema.specs.UpkeepCases.{no_pending}
 use Rattle.lv_picker.proofs.Best.{so_far, better_so_far, worse_so_far}
 use Rattle.lv_picker.proofs.places.place.Goals as goal

@@ -1,5 +1,5 @@
 use Rattle.std.proofs.Common.{◌≡◌, ◌≤◌, drop, get_or}
-use Rattle.lv_schema.specs.Upkeep.{chosen}
+use Rattle.lv_schema.specs.Policies.{chosen}
 use Rattle.lv_schema.specs.UpkeepCases.{no_pending}
 use Rattle.lv_picker.proofs.Best.{so_far}
 use Rattle.lv_picker.proofs.places.place.Given as goal
