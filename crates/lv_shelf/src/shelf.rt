@@ -50,6 +50,14 @@ fn edit_slot<T: Drop, E: Edit<T>>(slots: &mut Vec<Option<T>>, slot: u32, edit: &
     slots[slot as usize] = Some(item);
 }
 
+/// Puts an element into a slot, in the place of the one there.
+fn set_slot<T: Drop>(slots: &mut Vec<Option<T>>, slot: u32, item: T)
+    requires { slot < length slots.old.items }
+    ensures { slots.new.items ≡ slice_set slots.old.items slot (Some item) }
+{
+    slots[slot as usize] = Some(item);
+}
+
 /// Whether a slot has an element that passes.
 fn passes_in<T, P: Test<T>>(test: &P, slots: &[Option<T>], slot: u32) -> bool
     ensures { result ≡ passes_in (P.passed test.now) slots.now slot }
@@ -203,6 +211,15 @@ impl<T: Drop> Shelf<T> {
         let slot = self.free.pop().unwrap();
         self.slots[slot as usize] = Some(item);
         self.order.insert(at, slot).unwrap();
+    }
+
+    /// Puts an element in the place of another one. It takes no memory. Cost: constant.
+    pub fn set(&mut self, at: usize, item: T)
+        requires { at < length self.old.list }
+        ensures replaced { self.new.list ≡ slice_set self.old.list at item }
+        ensures room { self.new.spare ≡ self.old.spare }
+    {
+        set_slot(&mut self.slots, self.order[at], item);
     }
 
     /// Changes the element at a place.
