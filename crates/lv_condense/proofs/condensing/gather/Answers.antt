@@ -1,0 +1,48 @@
+use Rattle.std.proofs.Common.{◌≡◌, ◌≤◌, List, ◌++◌, [], length, ap, sym, subst, ◌∙◌, arith}
+use Rattle.std.specs.List.{cons_option}
+use Rattle.std.proofs.lemmas.List.Sums.{prefix_len-le-length}
+use Rattle.std.specs.Ordering.{is_eq}
+use Rattle.lv_values.specs.declared.value.Value.{Value}
+use Rattle.lv_condense.specs.Touches.{ATouch, by_key, gained_in, lost_in, touch_cmp}
+use Rattle.lv_condense.proofs.Runs.{Falls, gather_step, rises_from_sorted, rises_on, run_falls}
+use Rattle.lv_condense.proofs.condensing.gather.Goals as goal
+
+pub loop-at-init : goal.loop-at-init
+loop-at-init c = record {
+  within = omega arith;
+  lost = ap (λ (l : List (List Value)). l ++ by_key lost_in c.args.touches.now) c.new.ensures;
+  gained = ap (λ (l : List (List Value)). l ++ by_key gained_in c.args.touches.now) c.new-2.ensures;
+  rises = rises_from_sorted c.args.touches.now c.requires;
+}
+
+pub split_at-requires-in-loop-at : goal.split_at-requires-in-loop-at
+split_at-requires-in-loop-at c =
+    subst (λ n. n ≤ length c.split_at.result.1.now) (sym c.run_len-len.ensures) (prefix_len-le-length (λ (x : ATouch). is_eq (touch_cmp c.index-rest-0.result x)) c.split_at.result.1.now)
+
+pub push_run-requires : goal.push_run-requires
+push_run-requires c =
+    let f = run_falls c.args.touches.now c.split_at.result.1.now c.index-rest-0.result c.run_len-len.result c.loop-at.at c.split_at.ensures.back c.index-rest-0.is (omega (arith, c.split_at.ensures.back_len)) c.loop-at.invariant.rises c.run_len-len.ensures in
+    let some = f.some in
+    omega (arith, c.split_at-in-loop-at.ensures.front_len, some)
+
+-- the run at the front of the rest
+front : (c : goal.In_ok-push_run) → Falls c.run_len-len.result c.split_at.result.1.now
+front c = run_falls c.args.touches.now c.split_at.result.1.now c.index-rest-0.result c.run_len-len.result c.loop-at.at c.split_at.ensures.back c.index-rest-0.is (omega (arith, c.split_at.ensures.back_len)) c.loop-at.invariant.rises c.run_len-len.ensures
+
+pub loop-at-smaller : goal.loop-at-smaller
+loop-at-smaller c = let some = (front c).some in omega (arith, some)
+
+pub loop-at-preserved : goal.loop-at-preserved
+loop-at-preserved c =
+    let es = c.split_at.result.1.now in
+    let n = c.run_len-len.result in
+    let back = c.split_at.ensures.back in
+    let within = (front c).within in
+    record {
+      within = omega (arith, c.split_at.ensures.back_len, within);
+      lost = gather_step lost_in c.args.touches.now es c.loop-at.at n c.loop-at.net.minus c.push_run.new.net.minus back (front c) c.loop-at.invariant.lost
+          (c.in_ok-push_run.ensures.lost ∙ ap (λ r. c.loop-at.net.minus ++ cons_option (lost_in r) []) c.split_at-in-loop-at.ensures.front);
+      gained = gather_step gained_in c.args.touches.now es c.loop-at.at n c.loop-at.net.plus c.push_run.new.net.plus back (front c) c.loop-at.invariant.gained
+          (c.in_ok-push_run.ensures.gained ∙ ap (λ r. c.loop-at.net.plus ++ cons_option (gained_in r) []) c.split_at-in-loop-at.ensures.front);
+      rises = rises_on c.args.touches.now es c.loop-at.at n back (front c).rest;
+    }

@@ -1,0 +1,137 @@
+//! Condensing.
+ghost use Rattle.std.specs.Prelude.{◌≡◌, ◌<◌, ◌≤◌, ◌++◌, ℕ, List, [], length, map, IfOk, OnOk};
+ghost use Rattle.std.specs.List.{cons_option, prefix_len};
+ghost use Rattle.std.specs.List.Sorted.{IsSorted};
+ghost use Rattle.std.specs.Ordering.{is_eq};
+ghost use Rattle.lv_schema.specs.declared.action.DeltaEntry.{DeltaEntry};
+ghost use Rattle.lv_schema.specs.declared.table.TableDef.{TableDef};
+ghost use Rattle.lv_schema.specs.Condensed.{condensed, found_by, unless};
+ghost use Rattle.lv_schema.specs.Keys.{left_by};
+ghost use Rattle.lv_schema.specs.Databases.{Db, rows_of, IsDatabase};
+ghost use Rattle.lv_schema.specs.Effects.{acted_all};
+ghost use Rattle.lv_schema.specs.Nets.{net_of};
+ghost use Rattle.lv_schema.specs.SoundWorld.{CanAct};
+ghost use Rattle.lv_schema.specs.World.{table_at};
+ghost use Rattle.lv_condense.specs.Touches.{by_key, gained_in, lost_in, touch_cmp, touched};
+
+use crate::touch::Touch;
+use lv_schema::{Action, ActionKind, DeltaEntry, Net, TableDef};
+use lv_values::{Copying, NoMemory, Rows};
+use std::alloc::Global;
+
+/// The actions on a table, in their order.
+fn touches_of<'a>(
+    alloc: Global,
+    table: &'a TableDef,
+    entries: &'a [DeltaEntry],
+) -> Result<Vec<Touch<'a>>, NoMemory>
+    ensures { IfOk result (λ touches. touches.items ≡ touched table.now.key table.now.no (map (λ (e : DeltaEntry). e.action) entries.now)) }
+{
+    let mut touches = Vec::new(alloc);
+    for entry in entries {
+        if table.no == entry.action.table {
+            touches.push(Touch {
+                key: table.key.as_slice(),
+                action: &entry.action,
+            })?;
+        }
+    }
+    Ok(touches)
+}
+
+/// How many touches from the front on are of the first one's key.
+fn run_len(first: &Touch<'_>, touches: &[Touch<'_>]) -> usize
+    ensures { result ≡ prefix_len (λ touch. is_eq (touch_cmp first.now touch)) touches.now }
+{
+    for (i, touch) in touches.iter().enumerate() {
+        if first != touch {
+            return i;
+        }
+    }
+    touches.len()
+}
+
+/// Adds the row that a key has lost, by the first action on it and the last one.
+fn push_lost(alloc: Global, first: &Action, last: &Action, rows: &mut Rows) -> Result<(), NoMemory>
+    ensures { OnOk result (rows.new ≡ rows.old ++ cons_option (unless (found_by first.now.kind first.now.row) (left_by last.now.kind last.now.row)) []) }
+{
+    match (first.kind, last.kind) {
+        (ActionKind::Insert, _) => Ok(()),
+        (ActionKind::Delete, ActionKind::Delete) => rows.push(first.row.copy(alloc)?),
+        (ActionKind::Delete, ActionKind::Insert) => {
+            if first.row.cmp(&last.row).is_eq() {
+                return Ok(());
+            }
+            rows.push(first.row.copy(alloc)?)
+        }
+    }
+}
+
+/// Adds the row that a key has gained, by the first action on it and the last one.
+fn push_gained(
+    alloc: Global,
+    first: &Action,
+    last: &Action,
+    rows: &mut Rows,
+) -> Result<(), NoMemory>
+    ensures { OnOk result (rows.new ≡ rows.old ++ cons_option (unless (left_by last.now.kind last.now.row) (found_by first.now.kind first.now.row)) []) }
+{
+    match (last.kind, first.kind) {
+        (ActionKind::Delete, _) => Ok(()),
+        (ActionKind::Insert, ActionKind::Insert) => rows.push(last.row.copy(alloc)?),
+        (ActionKind::Insert, ActionKind::Delete) => {
+            if last.row.cmp(&first.row).is_eq() {
+                return Ok(());
+            }
+            rows.push(last.row.copy(alloc)?)
+        }
+    }
+}
+
+/// Adds what the touches of one key come to.
+fn push_run(alloc: Global, run: &[Touch<'_>], net: &mut Net) -> Result<(), NoMemory>
+    requires { 0 < length run.now }
+    ensures lost { OnOk result (net.new.minus ≡ net.old.minus ++ cons_option (lost_in run.now) []) }
+    ensures gained { OnOk result (net.new.plus ≡ net.old.plus ++ cons_option (gained_in run.now) []) }
+{
+    let first = &run[0];
+    let last = &run[run.len() - 1];
+    push_lost(alloc, first.action, last.action, &mut net.minus)?;
+    push_gained(alloc, first.action, last.action, &mut net.plus)
+}
+
+/// What touches that ascend by their keys come to, key by key.
+fn gather(alloc: Global, touches: &[Touch<'_>]) -> Result<Net, NoMemory>
+    requires { IsSorted touch_cmp touches.now }
+    ensures lost { IfOk result (λ net. net.minus ≡ by_key lost_in touches.now) }
+    ensures gained { IfOk result (λ net. net.plus ≡ by_key gained_in touches.now) }
+{
+    let mut net = Net {
+        minus: Rows::new(alloc),
+        plus: Rows::new(alloc),
+    };
+    let mut at = 0;
+    while at < touches.len() {
+        let rest = touches.split_at(at).1;
+        let len = run_len(&rest[0], rest);
+        push_run(alloc, rest.split_at(len).0, &mut net)?;
+        at += len;
+    }
+    Ok(net)
+}
+
+/// The net change that entries make of a table: for each key that they write, in the order of the keys, the row that
+/// the first of them finds and the one that the last of them leaves, where these differ. So it is the net change from
+/// each state on which they can be taken to the one to which they lead.
+///
+/// Cost: n log n comparisons of keys in place for the n entries on the table, and copies of the rows of the net change.
+pub fn condense(alloc: Global, table: &TableDef, entries: &[DeltaEntry]) -> Result<Net, NoMemory>
+    ensures condensed { IfOk result (λ net. (tables : List TableDef) → table_at tables table.now.no ≡ table.now
+        → net ≡ condensed tables (map (λ (e : DeltaEntry). e.action) entries.now) table.now.no) }
+    ensures net { IfOk result (λ net. (tables : List TableDef) (db : Db) → IsDatabase tables db → CanAct tables db (map (λ (e : DeltaEntry). e.action) entries.now) → table.now.no < length tables → table_at tables table.now.no ≡ table.now
+        → net ≡ net_of (rows_of db table.now.no) (rows_of (acted_all tables db (map (λ (e : DeltaEntry). e.action) entries.now)) table.now.no)) }
+{
+    let mut touches = touches_of(alloc, table, entries)?;
+    touches.sort()?;
+    gather(alloc, &touches)
+}

@@ -1,0 +1,7 @@
+//! The net change that entries of commits make of a table.
+#![tactic(auto)]
+
+mod condensing;
+mod touch;
+
+pub use condensing::condense;

@@ -1,0 +1,98 @@
+//! Actions on one table.
+ghost use Rattle.std.specs.Prelude.{◌≡◌, refl};
+ghost use Rattle.std.specs.Cmp.{partial_equiv_from_equiv, partial_order_from_total};
+ghost use Rattle.std.specs.Ordering.{as_partial_cmp, eq_by_cmp};
+ghost use Rattle.std.proofs.lemmas.Cmp.{eq_by_cmp_equiv};
+ghost use Rattle.lv_values.specs.Order.{row_cmp, value_cmp};
+ghost use Rattle.lv_values.specs.Rows.{value_in, values_at};
+ghost use Rattle.lv_condense.specs.Touches.{touch_cmp, touch_total};
+
+use lv_schema::Action;
+use lv_values::{Row, Value};
+use std::cmp::Ordering;
+use std::marker::Model;
+
+/// An action, with the positions of its table's key. Contracts see the pair of both. Touches are ordered by the keys
+/// that they touch, in place.
+#[derive(Drop)]
+pub(crate) struct Touch<'a> {
+    pub key: &'a [u8],
+    pub action: &'a Action,
+}
+
+impl<'a> Model for Touch<'a> {
+    ghost use Rattle.lv_condense.specs.Touches.{ATouch};
+
+    ghost Value = { ATouch };
+
+    ghost view = { λ t. (t.key.now, t.action.now) };
+}
+
+/// Compares the value at a position of one row with that at a position of another, the number 0 standing past a row's
+/// end.
+fn compare_at(at: u8, a: &Row, other: u8, b: &Row) -> Ordering
+    ensures { result ≡ value_cmp (value_in a.now at) (value_in b.now other) }
+{
+    let zero = Value::Num(0);
+    let left = a.as_slice().get(at as usize).unwrap_or(&zero);
+    let right = b.as_slice().get(other as usize).unwrap_or(&zero);
+    left.cmp(right)
+}
+
+/// Compares the values of two rows, each at positions of its own. Cost: at most the shorter key's values.
+fn compare_keys(key: &[u8], a: &Row, others: &[u8], b: &Row) -> Ordering
+    ensures { result ≡ row_cmp (values_at key.now a.now) (values_at others.now b.now) }
+{
+    for (i, at) in key.iter().enumerate() {
+        if i >= others.len() {
+            return Ordering::Greater;
+        }
+        let order = compare_at(*at, a, others[i], b);
+        if order.is_ne() {
+            return order;
+        }
+    }
+    if key.len() < others.len() {
+        Ordering::Less
+    } else {
+        Ordering::Equal
+    }
+}
+
+impl<'a> PartialEq for Touch<'a> {
+    ghost eq = { eq_by_cmp touch_cmp };
+
+    ghost laws = { partial_equiv_from_equiv (eq_by_cmp_equiv touch_total) };
+
+    fn eq(&self, other: &Touch<'a>) -> bool {
+        self.cmp(other).is_eq()
+    }
+}
+
+impl<'a> Eq for Touch<'a> {
+    ghost laws = { eq_by_cmp_equiv touch_total };
+}
+
+impl<'a> PartialOrd for Touch<'a> {
+    ghost partial_cmp = { as_partial_cmp touch_cmp };
+
+    ghost laws = { partial_order_from_total touch_total };
+
+    fn partial_cmp(&self, other: &Touch<'a>) -> Option<Ordering> {
+        Some(self.cmp(other))
+    }
+}
+
+impl<'a> Ord for Touch<'a> {
+    ghost cmp = { touch_cmp };
+
+    ghost total = { touch_total };
+
+    ghost matches_partial_cmp = { λ _ _. refl };
+
+    ghost matches_eq = { λ _ _. refl };
+
+    fn cmp(&self, other: &Touch<'a>) -> Ordering {
+        compare_keys(self.key, &self.action.row, other.key, &other.action.row)
+    }
+}
