@@ -1,0 +1,6 @@
+pub mod Places
+pub mod Cutting
+pub mod Writing
+pub mod RowsOver
+pub mod OwnRows
+pub mod MergeSteps
