@@ -1,0 +1,101 @@
+//! Signed rows added up.
+ghost use Rattle.std.specs.Prelude.{◌≡◌, ◌++◌, pos, length, filter, IfOk};
+ghost use Rattle.std.specs.List.{list_all};
+ghost use Rattle.std.specs.List.Sorted.{IsPermutation, IsSortedByKey};
+ghost use Rattle.std.specs.Ordering.{int_eq};
+ghost use Rattle.lv_values.specs.Order.{row_cmp};
+ghost use Rattle.lv_schema.specs.Differences.{is_change};
+ghost use Rattle.lv_schema.specs.SignedRows.{netted};
+ghost use Rattle.lv_bags.specs.Bags.{HaveSums, CountsFit, width};
+ghost use Rattle.lv_bags.specs.Tallies.{AtMost, IsPlace, Rising, tallied};
+
+use crate::adding::{is_at, is_entry, put_at};
+use lv_schema::{Signed, SignedRow};
+use lv_values::{NoMemory, Row};
+use std::alloc::Global;
+
+/// Puts entries in the order of their rows. It takes no memory. Cost: n log n comparisons.
+fn sort_by_row(list: &mut Vec<SignedRow>)
+    ensures moved { IsPermutation list.old.items list.new.items }
+    ensures sorted { IsSortedByKey (λ s. s.row) row_cmp list.new.items }
+{
+    list.sort_unstable_by(|a, b| a.row.cmp(&b.row));
+}
+
+/// Where a row belongs among entries that ascend, of which none is above it. Cost: one comparison.
+fn last_place(list: &[SignedRow], row: &Row) -> usize
+    requires rising { Rising list.now }
+    requires most { AtMost row.now list.now }
+    ensures { IsPlace row.now result list.now }
+{
+    if list.is_empty() {
+        return 0;
+    }
+    let last = list.len() - 1;
+    if is_at(list, last, row) {
+        last
+    } else {
+        last + 1
+    }
+}
+
+/// The entries of each row as one, of entries in the order of their rows. Cost: one pass.
+fn tally(alloc: Global, sorted: Vec<SignedRow>) -> Result<Vec<SignedRow>, NoMemory>
+    requires sorted { IsSortedByKey (λ s. s.row) row_cmp sorted.items }
+    requires sums { HaveSums (width sorted.items) sorted.items }
+    ensures { IfOk result (λ out. out.items ≡ tallied (width sorted.items) sorted.items) }
+{
+    let mut out = Vec::new(alloc);
+    for s in sorted {
+        is_entry(&s);
+        let at = last_place(&out, &s.row);
+        put_at(&mut out, at, s)?;
+    }
+    Ok(out)
+}
+
+fn all_zero(numbers: &[i128]) -> bool
+    ensures { result ≡ list_all (λ n. int_eq n (pos 0)) numbers.now }
+{
+    numbers.iter().all(|n| *n == 0)
+}
+
+/// Whether one of the entry's numbers is not 0.
+fn is_change(s: &SignedRow) -> bool
+    ensures { result ≡ is_change s.now }
+{
+    !(s.count == 0 && all_zero(s.sums.as_slice()))
+}
+
+/// Drops the entries whose numbers are all 0.
+fn keep_changes(list: &mut Vec<SignedRow>)
+    ensures { list.new.items ≡ filter is_change list.old.items }
+{
+    list.retain(|s| is_change(s));
+}
+
+/// For each row the sum of its counts and of its signed sums, modulo 2 ^ 128: each row once, in ascending order, and
+/// none whose numbers are all 0. Cost: a sort of the entries where they lie, n log n comparisons for n entries, and one
+/// pass. No row is copied.
+pub fn net(alloc: Global, signed: Signed) -> Result<Signed, NoMemory>
+    requires counts { CountsFit signed }
+    requires sums { HaveSums (width signed) signed }
+    ensures { IfOk result (λ list. list ≡ netted (width signed) signed) }
+{
+    let mut entries = signed.into_vec();
+    sort_by_row(&mut entries);
+    let mut out = tally(alloc, entries)?;
+    keep_changes(&mut out);
+    Ok(Signed::from_vec(out))
+}
+
+/// The entries of two lists added up. Cost: as for `net`.
+pub fn add(alloc: Global, signed: Signed, more: Signed) -> Result<Signed, NoMemory>
+    requires counts { CountsFit (signed ++ more) }
+    requires sums { HaveSums (width (signed ++ more)) (signed ++ more) }
+    ensures { IfOk result (λ list. list ≡ netted (width (signed ++ more)) (signed ++ more)) }
+{
+    let mut all = signed;
+    all.append(more)?;
+    net(alloc, all)
+}
