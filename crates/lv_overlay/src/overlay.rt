@@ -28,7 +28,7 @@ impl Model for Overlay {
 
     ghost Value = { Roomy APut };
 
-    ghost view = { λ o. o.writes };
+    ghost view = { λ o. record { list = o.writes.list; spare = o.writes.spare } };
 
     ghost invariant = { λ o. Ascends put_cmp o.writes.list };
 }

@@ -1,5 +1,5 @@
 -- Where a test stops to pass, as a search finds it.
-use Rattle.std.proofs.Common.{◌≡◌, ℕ, zero, suc, ◌<◌, ◌≤◌, Bool, true, false, List, [], ◌∷◌, length, get_or, Some, refl, arith}
+use Rattle.std.proofs.Common.{◌≡◌, ℕ, zero, suc, ◌<◌, ◌≤◌, Bool, true, false, cond, List, [], ◌∷◌, length, filter, get_or, Some, refl, arith}
 use Rattle.std.specs.Prelude.{slice_get}
 use Rattle.std.specs.List.{AllByRecursion}
 use Rattle.lv_shelf.specs.Cuts.{Falls, IsCut}
@@ -54,3 +54,12 @@ cut_at p zero k xs d h lt = absurd (omega arith)
 cut_at p (suc i) k [] d h lt = absurd h
 cut_at p (suc i) zero (x ∷ xs) d h lt = h.0
 cut_at p (suc i) (suc k) (x ∷ xs) d h lt = cut_at p i k xs d h.1 (omega arith)
+
+-- ---- a filter
+pub all_kept : {X : Type 0} (p : X → Bool) (xs : List X) → AllByRecursion (λ x. p x ≡ true) (filter p xs)
+all_kept p [] = tt
+all_kept p (x ∷ xs) = by (p x) refl (all_kept p xs)
+  where
+    by : (t : Bool) → p x ≡ t → AllByRecursion (λ y. p y ≡ true) (filter p xs) → AllByRecursion (λ y. p y ≡ true) (cond t (x ∷ filter p xs) (filter p xs))
+    by true f e = (f, e)
+    by false f e = e

@@ -1,2 +1,4 @@
 pub mod Cutting
+pub mod Among
 pub mod Shelved
+pub mod Orders

@@ -1,13 +1,14 @@
 -- Elements in slots, seen as a list.
 use Rattle.std.proofs.Common.{◌≡◌, ℕ, zero, suc, ◌+◌, ◌<◌, ◌≤◌, Bool, true, false, cond, List, [], ◌∷◌, ◌++◌, length, length-append, append_assoc, get_or, set, filter, Option, Some, None, refl, sym, ap, ◌∙◌, subst, arith}
-use Rattle.std.specs.Prelude.{slice_get, is_some}
-use Rattle.std.specs.List.{AllByRecursion, cons_option, insert}
+use Rattle.std.specs.Prelude.{slice_get, is_some, ◌==◌}
+use Rattle.std.specs.List.{AllByRecursion, cons_option, insert, remove}
 use Rattle.std.proofs.lemmas.List.{get_or-set_same, get_or-set_other, length-set, get_or_past}
-use Rattle.std.proofs.lemmas.List.Edits.{length-insert}
+use Rattle.std.proofs.lemmas.List.Edits.{length-insert, length-remove}
 use Rattle.lv_schema.proofs.Apart.{all_weaker, all_append, all_both, apart_append, apart_filter}
 use Rattle.lv_shelf.specs.Cuts.{Apart}
-use Rattle.lv_shelf.specs.Shelves.{slot_of, items_at, is_taken, passes, passes_in, IsHeld, IsEmpty, Differ, clear_of, cleared, dropped, IsShelf}
-use Rattle.lv_shelf.proofs.Cutting.{all_at}
+use Rattle.lv_shelf.specs.Shelves.{slot_of, items_at, is_taken, passes, passes_in, IsHeld, IsEmpty, Differ, clear_of, cleared, dropped, is_among, IsShelf}
+use Rattle.lv_shelf.proofs.Cutting.{all_at, all_kept}
+use Rattle.lv_shelf.proofs.Among.{among_filter, among_insert, among_insert_here, among_remove, all_remove, apart_remove, eq_of, ne_of, removed_differ}
 
 -- ---- reads
 pub length_items : {T : Type 0} (slots : List (Option T)) (ps : List ℕ) → AllByRecursion (IsHeld slots) ps → length (items_at slots ps) ≡ length ps
@@ -44,36 +45,36 @@ taken_set (s ∷ slots) zero (suc q) y h = h
 taken_set (s ∷ slots) (suc p) zero y h = h
 taken_set (s ∷ slots) (suc p) (suc q) y h = taken_set slots p q y h
 
-slot_other : {T : Type 0} (slots : List (Option T)) (p q : ℕ) (o : Option T) → Differ p q → slot_of (set slots q o) p ≡ slot_of slots p
+pub slot_other : {T : Type 0} (slots : List (Option T)) (p q : ℕ) (o : Option T) → Differ p q → slot_of (set slots q o) p ≡ slot_of slots p
 slot_other slots p q o ne = get_or-set_other slots q p o None ne
 
-items_other : {T : Type 0} (slots : List (Option T)) (ps : List ℕ) (q : ℕ) (o : Option T) → AllByRecursion (λ p. Differ p q) ps → items_at (set slots q o) ps ≡ items_at slots ps
+pub items_other : {T : Type 0} (slots : List (Option T)) (ps : List ℕ) (q : ℕ) (o : Option T) → AllByRecursion (λ p. Differ p q) ps → items_at (set slots q o) ps ≡ items_at slots ps
 items_other slots [] q o a = refl
 items_other slots (p ∷ ps) q o a =
     ap (λ s. cons_option s (items_at (set slots q o) ps)) (slot_other slots p q o a.0) ∙ ap (cons_option (slot_of slots p)) (items_other slots ps q o a.1)
 
-differ_back : (p : ℕ) (qs : List ℕ) → AllByRecursion (Differ p) qs → AllByRecursion (λ q. Differ q p) qs
+pub differ_back : (p : ℕ) (qs : List ℕ) → AllByRecursion (Differ p) qs → AllByRecursion (λ q. Differ q p) qs
 differ_back p qs a = all_weaker (Differ p) (λ q. Differ q p) (λ q ne e. ne (sym e)) qs a
 
 -- a slot that has an element is another one than an empty one
-taken_differs : {T : Type 0} (slots : List (Option T)) (p q : ℕ) → slot_of slots p ≡ None → is_taken slots q ≡ true → Differ q p
+pub taken_differs : {T : Type 0} (slots : List (Option T)) (p q : ℕ) → slot_of slots p ≡ None → is_taken slots q ≡ true → Differ q p
 taken_differs slots p q e h same = let f : is_taken slots p ≡ true = subst (λ n. is_taken slots n ≡ true) same h in let g = ap is_some e in cc
 
-all_differ : {T : Type 0} (slots : List (Option T)) (ps : List ℕ) (p : ℕ) → slot_of slots p ≡ None → AllByRecursion (IsHeld slots) ps → AllByRecursion (λ q. Differ q p) ps
+pub all_differ : {T : Type 0} (slots : List (Option T)) (ps : List ℕ) (p : ℕ) → slot_of slots p ≡ None → AllByRecursion (IsHeld slots) ps → AllByRecursion (λ q. Differ q p) ps
 all_differ slots ps p e h = all_weaker (IsHeld slots) (λ q. Differ q p) (λ q t. taken_differs slots p q e t) ps h
 
 -- ---- an insertion
-all_insert : {X : Type 0} (P : X → Type 0) (xs : List X) (i : ℕ) (x : X) → P x → AllByRecursion P xs → AllByRecursion P (insert xs i x)
+pub all_insert : {X : Type 0} (P : X → Type 0) (xs : List X) (i : ℕ) (x : X) → P x → AllByRecursion P xs → AllByRecursion P (insert xs i x)
 all_insert P xs zero x h a = (h, a)
 all_insert P [] (suc i) x h a = (h, tt)
 all_insert P (y ∷ xs) (suc i) x h a = (a.0, all_insert P xs i x h a.1)
 
-apart_insert : (ps : List ℕ) (i p : ℕ) → AllByRecursion (λ q. Differ q p) ps → Apart Differ ps → Apart Differ (insert ps i p)
+pub apart_insert : (ps : List ℕ) (i p : ℕ) → AllByRecursion (λ q. Differ q p) ps → Apart Differ ps → Apart Differ (insert ps i p)
 apart_insert ps zero p d a = (all_weaker (λ q. Differ q p) (Differ p) (λ q ne e. ne (sym e)) ps d, a)
 apart_insert [] (suc i) p d a = (tt, tt)
 apart_insert (q ∷ ps) (suc i) p d a = (all_insert (Differ q) ps i p d.0 a.0, apart_insert ps i p d.1 a.1)
 
-insert_items : {T : Type 0} (slots : List (Option T)) (ps : List ℕ) (i p : ℕ) (x : T) → AllByRecursion (IsHeld slots) ps → i ≤ length ps → slot_of slots p ≡ Some x → items_at slots (insert ps i p) ≡ insert (items_at slots ps) i x
+pub insert_items : {T : Type 0} (slots : List (Option T)) (ps : List ℕ) (i p : ℕ) (x : T) → AllByRecursion (IsHeld slots) ps → i ≤ length ps → slot_of slots p ≡ Some x → items_at slots (insert ps i p) ≡ insert (items_at slots ps) i x
 insert_items slots ps zero p x h le e = ap (λ s. cons_option s (items_at slots ps)) e
 insert_items slots [] (suc i) p x h le e = absurd (omega arith)
 insert_items {T} slots (q ∷ ps) (suc i) p x h le e = by (slot_of slots q) h.0 (insert_items slots ps i p x h.1 (omega arith) e)
@@ -82,7 +83,7 @@ insert_items {T} slots (q ∷ ps) (suc i) p x h le e = by (slot_of slots q) h.0 
     by None t ih = cc
     by (Some y) t ih = ap (λ l. y ∷ l) ih
 
-held_set : {T : Type 0} (slots : List (Option T)) (ps : List ℕ) (p : ℕ) (y : T) → AllByRecursion (IsHeld slots) ps → AllByRecursion (IsHeld (set slots p (Some y))) ps
+pub held_set : {T : Type 0} (slots : List (Option T)) (ps : List ℕ) (p : ℕ) (y : T) → AllByRecursion (IsHeld slots) ps → AllByRecursion (IsHeld (set slots p (Some y))) ps
 held_set slots ps p y h = all_weaker (IsHeld slots) (IsHeld (set slots p (Some y))) (λ q t. taken_set slots p q y t) ps h
 
 pub inserted_items : {T : Type 0} (slots : List (Option T)) (ps : List ℕ) (i p : ℕ) (x : T) → AllByRecursion (IsHeld slots) ps → IsEmpty slots p → i ≤ length ps
@@ -103,6 +104,17 @@ empty_other : {T : Type 0} (slots : List (Option T)) (qs : List ℕ) (p : ℕ) (
 empty_other slots qs p o d a =
     all_both (λ q. Differ q p) (IsEmpty slots) (IsEmpty (set slots p o)) (λ q ne e. (omega (arith, e.0, length-set slots p o), slot_other slots q p o ne ∙ e.1)) qs d a
 
+-- each slot that has an element is among the numbers
+abbrev HasAll : {T : Type 0} → List (Option T) → List ℕ → Type 0
+HasAll slots order = (q : ℕ) → is_taken slots q ≡ true → is_among q order ≡ true
+
+has_inserted : {T : Type 0} (slots : List (Option T)) (order : List ℕ) (i p : ℕ) (x : T) → HasAll slots order → HasAll (set slots p (Some x)) (insert order i p)
+has_inserted slots order i p x h q t = by (q == p) refl
+  where
+    by : (b : Bool) → (q == p) ≡ b → is_among q (insert order i p) ≡ true
+    by true e = subst (λ r. is_among q (insert order i r) ≡ true) (eq_of q p e) (among_insert_here q order i)
+    by false e = among_insert q p order i (h q (sym (ap is_some (slot_other slots q p (Some x) (ne_of q p e))) ∙ t))
+
 pub inserted_shelf : {T : Type 0} (slots : List (Option T)) (order free : List ℕ) (i p : ℕ) (x : T) (a b a' b' : ℕ) → i ≤ length order → a ≤ a' → b ≤ b' → IsShelf slots order (free ++ p ∷ []) a b
     → IsShelf (set slots p (Some x)) (insert order i p) free a' b'
 inserted_shelf slots order free i p x a b a' b' le more more' s =
@@ -114,6 +126,7 @@ inserted_shelf slots order free i p x a b a' b' le more more' s =
       apart = apart_insert order i p (all_differ slots order p last.1.1 s.held) s.apart;
       empty = empty_other slots free p (Some x) apart.1 last.0;
       free_apart = apart.0;
+      all = has_inserted slots order i p x s.all;
       long = omega (arith, s.long, same, length-insert order i p le, length-append free (p ∷ []));
       order_long = omega (arith, s.order_long, same);
       free_long = omega (arith, s.free_long, same);
@@ -140,6 +153,13 @@ edited_items {T} slots (q ∷ ps) (suc i) y h a lt =
     by None t ih = cc
     by (Some x) t ih = ap (λ l. x ∷ l) ih
 
+has_edited : {T : Type 0} (slots : List (Option T)) (order : List ℕ) (p : ℕ) (y : T) → is_taken slots p ≡ true → HasAll slots order → HasAll (set slots p (Some y)) order
+has_edited slots order p y taken h q t = by (q == p) refl
+  where
+    by : (b : Bool) → (q == p) ≡ b → is_among q order ≡ true
+    by true e = h q (subst (λ r. is_taken slots r ≡ true) (sym (eq_of q p e)) taken)
+    by false e = h q (sym (ap is_some (slot_other slots q p (Some y) (ne_of q p e))) ∙ t)
+
 pub edited_shelf : {T : Type 0} (slots : List (Option T)) (order free : List ℕ) (p : ℕ) (y : T) (a b : ℕ) → is_taken slots p ≡ true → IsShelf slots order free a b → IsShelf (set slots p (Some y)) order free a b
 edited_shelf slots order free p y a b t s =
     let same = length-set slots p (Some y) in
@@ -148,13 +168,14 @@ edited_shelf slots order free p y a b t s =
       apart = s.apart;
       empty = empty_other slots free p (Some y) (all_weaker (IsEmpty slots) (λ q. Differ q p) (λ q e same'. taken_differs slots q p e.1 t (sym same')) free s.empty) s.empty;
       free_apart = s.free_apart;
+      all = has_edited slots order p y t s.all;
       long = omega (arith, s.long, same);
       order_long = omega (arith, s.order_long, same);
       free_long = omega (arith, s.free_long, same);
     }
 
 -- ---- an empty slot more
-grown_slot : {T : Type 0} (slots : List (Option T)) (p : ℕ) → slot_of (slots ++ None ∷ []) p ≡ slot_of slots p
+pub grown_slot : {T : Type 0} (slots : List (Option T)) (p : ℕ) → slot_of (slots ++ None ∷ []) p ≡ slot_of slots p
 grown_slot [] zero = refl
 grown_slot [] (suc p) = refl
 grown_slot (s ∷ slots) zero = refl
@@ -180,13 +201,14 @@ grown_shelf {T} slots order free n a b a' b' is la lb s =
           ((omega (arith, long, is), grown_slot slots n ∙ get_or_past slots n None (omega (arith, is))), tt);
       free_apart = apart_append Differ free (n ∷ []) s.free_apart (tt, tt)
           (all_weaker (IsEmpty slots) (λ q. AllByRecursion (Differ q) (n ∷ [])) (λ q e. (below_differs n q (omega (arith, e.0, is)), tt)) free s.empty);
+      all = λ q t. s.all q (sym (ap is_some (grown_slot slots q)) ∙ t);
       long = omega (arith, s.long, long, length-append free (n ∷ []));
       order_long = omega (arith, long, is, la);
       free_long = omega (arith, long, is, lb);
     }
 
 -- ---- elements that go
-clear_other : {T : Type 0} (b : Bool) (slots : List (Option T)) (q p : ℕ) → Differ p q → slot_of (clear_of b slots q) p ≡ slot_of slots p
+pub clear_other : {T : Type 0} (b : Bool) (slots : List (Option T)) (q p : ℕ) → Differ p q → slot_of (clear_of b slots q) p ≡ slot_of slots p
 clear_other true slots q p ne = refl
 clear_other false slots q p ne = slot_other slots p q None ne
 
@@ -194,7 +216,7 @@ cleared_other : {T : Type 0} (test : T → Bool) (slots : List (Option T)) (ps :
 cleared_other test slots [] p a = refl
 cleared_other test slots (q ∷ ps) p a = cleared_other test (clear_of (passes_in test slots q) slots q) ps p a.1 ∙ clear_other (passes_in test slots q) slots q p a.0
 
-none_set : {T : Type 0} (slots : List (Option T)) (p q : ℕ) → slot_of slots q ≡ None → slot_of (set slots p None) q ≡ None
+pub none_set : {T : Type 0} (slots : List (Option T)) (p q : ℕ) → slot_of slots q ≡ None → slot_of (set slots p None) q ≡ None
 none_set [] p q h = h
 none_set (s ∷ slots) zero zero h = refl
 none_set (s ∷ slots) zero (suc q) h = h
@@ -205,7 +227,7 @@ none_clear : {T : Type 0} (b : Bool) (slots : List (Option T)) (p q : ℕ) → s
 none_clear true slots p q h = h
 none_clear false slots p q h = none_set slots p q h
 
-none_cleared : {T : Type 0} (test : T → Bool) (slots : List (Option T)) (ps : List ℕ) (q : ℕ) → slot_of slots q ≡ None → slot_of (cleared test slots ps) q ≡ None
+pub none_cleared : {T : Type 0} (test : T → Bool) (slots : List (Option T)) (ps : List ℕ) (q : ℕ) → slot_of slots q ≡ None → slot_of (cleared test slots ps) q ≡ None
 none_cleared test slots [] q h = h
 none_cleared test slots (p ∷ ps) q h = none_cleared test (clear_of (passes_in test slots p) slots p) ps q (none_clear (passes_in test slots p) slots p q h)
 
@@ -258,14 +280,6 @@ pub kept_items : {T : Type 0} (test : T → Bool) (slots : List (Option T)) (ps 
     → items_at (cleared test slots ps) (filter (is_taken (cleared test slots ps)) ps) ≡ filter test (items_at slots ps)
 kept_items test slots ps h a = taken_items (cleared test slots ps) ps ∙ cleared_items test slots ps h a
 
-pub all_kept : {X : Type 0} (p : X → Bool) (xs : List X) → AllByRecursion (λ x. p x ≡ true) (filter p xs)
-all_kept p [] = tt
-all_kept p (x ∷ xs) = by (p x) refl (all_kept p xs)
-  where
-    by : (t : Bool) → p x ≡ t → AllByRecursion (λ y. p y ≡ true) (filter p xs) → AllByRecursion (λ y. p y ≡ true) (cond t (x ∷ filter p xs) (filter p xs))
-    by true f e = (f, e)
-    by false f e = e
-
 -- the numbers of the emptied slots are among those of all
 all_dropped : {T : Type 0} (P : ℕ → Type 0) (test : T → Bool) (slots : List (Option T)) (ps : List ℕ) → AllByRecursion P ps → AllByRecursion P (dropped test slots ps)
 all_dropped P test slots [] a = tt
@@ -311,6 +325,13 @@ counted test slots (p ∷ ps) h a =
         let gone : is_taken (cleared test (set slots p None) ps) p ≡ false = ap is_some (none_cleared test (set slots p None) ps p (get_or-set_same slots p None None (taken_in slots p h.0))) in
         rw gone (omega (arith, ih'))
 
+was_taken : {T : Type 0} (test : T → Bool) (slots : List (Option T)) (ps : List ℕ) (q : ℕ) → is_taken (cleared test slots ps) q ≡ true → is_taken slots q ≡ true
+was_taken {T} test slots ps q t = by (slot_of slots q) refl
+  where
+    by : (o : Option T) → slot_of slots q ≡ o → is_taken slots q ≡ true
+    by None e = let f = ap is_some (none_cleared test slots ps q e) in cc
+    by (Some x) e = ap is_some e
+
 pub kept_shelf : {T : Type 0} (test : T → Bool) (slots : List (Option T)) (order free : List ℕ) (a b : ℕ) → IsShelf slots order free a b
     → IsShelf (cleared test slots order) (filter (is_taken (cleared test slots order)) order) (free ++ dropped test slots order) a b
 kept_shelf test slots order free a b s =
@@ -325,6 +346,7 @@ kept_shelf test slots order free a b s =
       free_apart = apart_append Differ free (dropped test slots order) s.free_apart (apart_dropped test slots order s.apart)
           (all_weaker (IsEmpty slots) (λ q. AllByRecursion (Differ q) (dropped test slots order))
           (λ q e. all_dropped (Differ q) test slots order (all_weaker (IsHeld slots) (Differ q) (λ p t same'. taken_differs slots q p e.1 t (sym same')) order s.held)) free s.empty);
+      all = λ q t. among_filter (is_taken after) q order (s.all q (was_taken test slots order q t)) t;
       long = omega (arith, s.long, same, counted test slots order s.held s.apart, length-append free (dropped test slots order));
       order_long = omega (arith, s.order_long, same);
       free_long = omega (arith, s.free_long, same);
@@ -347,3 +369,57 @@ length_freed false free p = omega (arith, length-append free (p ∷ []))
 pub some_of : {T : Type 0} (o : Option T) → is_some o ≡ true → (x : T) × (o ≡ Some x)
 some_of None h = cc
 some_of (Some x) h = (x, refl)
+
+-- ---- one element that goes
+pub remove_items : {T : Type 0} (slots : List (Option T)) (ps : List ℕ) (i : ℕ) → AllByRecursion (IsHeld slots) ps → items_at slots (remove ps i) ≡ remove (items_at slots ps) i
+remove_items slots [] zero h = refl
+remove_items slots [] (suc i) h = refl
+remove_items {T} slots (p ∷ ps) zero h = by (slot_of slots p) h.0
+  where
+    by : (o : Option T) → is_some o ≡ true → items_at slots ps ≡ remove (cons_option o (items_at slots ps)) zero
+    by None t = cc
+    by (Some x) t = refl
+remove_items {T} slots (p ∷ ps) (suc i) h = by (slot_of slots p) h.0 (remove_items slots ps i h.1)
+  where
+    by : (o : Option T) → is_some o ≡ true → items_at slots (remove ps i) ≡ remove (items_at slots ps) i → cons_option o (items_at slots (remove ps i)) ≡ remove (cons_option o (items_at slots ps)) (suc i)
+    by None t ih = cc
+    by (Some x) t ih = ap (λ l. x ∷ l) ih
+
+pub removed_items : {T : Type 0} (slots : List (Option T)) (order : List ℕ) (i p : ℕ) → p ≡ get_or order i 0 → i < length order → AllByRecursion (IsHeld slots) order → Apart Differ order
+    → items_at (set slots p None) (remove order i) ≡ remove (items_at slots order) i
+removed_items slots order i p is lt h a =
+    items_other slots (remove order i) p None (subst (λ r. AllByRecursion (λ q. Differ q r) (remove order i)) (sym is) (removed_differ order i lt a)) ∙ remove_items slots order i h
+
+has_removed : {T : Type 0} (slots : List (Option T)) (order : List ℕ) (i p : ℕ) → p ≡ get_or order i 0 → p < length slots → HasAll slots order → HasAll (set slots p None) (remove order i)
+has_removed slots order i p is within h q t = by (q == p) refl
+  where
+    by : (b : Bool) → (q == p) ≡ b → is_among q (remove order i) ≡ true
+    by true e =
+        let gone = subst (λ r. slot_of (set slots p None) r ≡ None) (sym (eq_of q p e)) (get_or-set_same slots p None None within) in
+        let f = ap is_some gone in
+        cc
+    by false e = among_remove q order i (h q (sym (ap is_some (slot_other slots q p None (ne_of q p e))) ∙ t)) (λ same. ne_of q p e (same ∙ sym is))
+
+pub held_gone : {T : Type 0} (slots : List (Option T)) (ps : List ℕ) (p : ℕ) → AllByRecursion (λ q. Differ q p) ps → AllByRecursion (IsHeld slots) ps → AllByRecursion (IsHeld (set slots p None)) ps
+held_gone slots ps p d h = all_both (λ q. Differ q p) (IsHeld slots) (IsHeld (set slots p None)) (λ q ne t. ap is_some (slot_other slots q p None ne) ∙ t) ps d h
+
+pub removed_shelf : {T : Type 0} (slots : List (Option T)) (order free : List ℕ) (i p a b a' b' : ℕ) → p ≡ get_or order i 0 → i < length order → a ≤ a' → b ≤ b' → IsShelf slots order free a b
+    → IsShelf (set slots p None) (remove order i) (free ++ p ∷ []) a' b'
+removed_shelf slots order free i p a b a' b' is lt more more' s =
+    let taken : is_taken slots p ≡ true = subst (λ r. is_taken slots r ≡ true) (sym is) (all_at (IsHeld slots) order i 0 lt s.held) in
+    let within = taken_in slots p taken in
+    let same = length-set slots p None in
+    let apart = subst (λ r. AllByRecursion (λ q. Differ q r) (remove order i)) (sym is) (removed_differ order i lt s.apart) in
+    record {
+      held = held_gone slots (remove order i) p apart (all_remove (IsHeld slots) order i s.held);
+      apart = apart_remove Differ order i s.apart;
+      empty = all_append (IsEmpty (set slots p None)) free (p ∷ [])
+          (all_weaker (IsEmpty slots) (IsEmpty (set slots p None)) (λ q e. (omega (arith, e.0, same), none_set slots p q e.1)) free s.empty)
+          ((omega (arith, within, same), get_or-set_same slots p None None within), tt);
+      free_apart = apart_append Differ free (p ∷ []) s.free_apart (tt, tt)
+          (all_weaker (IsEmpty slots) (λ q. AllByRecursion (Differ q) (p ∷ [])) (λ q e. ((λ same'. taken_differs slots q p e.1 taken (sym same')), tt)) free s.empty);
+      all = has_removed slots order i p is within s.all;
+      long = omega (arith, s.long, same, length-remove order i lt, length-append free (p ∷ []));
+      order_long = omega (arith, s.order_long, same, more);
+      free_long = omega (arith, s.free_long, same, more');
+    }

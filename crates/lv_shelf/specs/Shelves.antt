@@ -1,7 +1,32 @@
 -- Elements that lie in slots, in an order that the numbers of the slots give.
-use Rattle.std.specs.Prelude.{◌≡◌, ℕ, ◌+◌, ◌<◌, ◌≤◌, Bool, cond, List, [], ◌∷◌, length, slice_index_or, slice_set, Option, Some, None, is_some, true, false}
-use Rattle.std.specs.List.{AllByRecursion, filter_map}
+use Rattle.std.specs.Prelude.{◌≡◌, ℕ, zero, suc, ◌+◌, ◌<◌, ◌≤◌, ◌==◌, Bool, cond, List, [], ◌∷◌, length, map, slice_index_or, slice_set, Option, Some, None, is_some, true, false, refl}
+use Rattle.std.specs.Coded.{Coded, code_by, coded×, coded_ℕ, coded_list}
+use Rattle.std.specs.List.{AllByRecursion, filter_map, list_any}
 use Rattle.lv_shelf.specs.Cuts.{Apart}
+
+-- a list, lists of some of its elements in other orders, and how many more elements go in without memory
+pub record Shelved (T : Type 0) : Type 0 where
+  pub list : List T
+  pub others : List (List T)
+  pub spare : ℕ
+
+abbrev pub shelved_code : {T : Type 0} → Coded T → Coded (Shelved T)
+shelved_code {T} c =
+    code_by ((List T × List (List T)) × ℕ) (coded× (coded× (coded_list c) (coded_list (coded_list c))) coded_ℕ) (λ s. ((s.list, s.others), s.spare)) (λ p. record { list = p.0.0; others = p.0.1; spare = p.1 }) (λ _. refl)
+
+-- the further order with this number
+abbrev pub other_at : {T : Type 0} → List (List T) → ℕ → List T
+other_at others j = slice_index_or others j []
+
+-- a change leaves each element as it is but the one at a place
+abbrev pub ChangesOnly : {T : Type 0} → (T → T) → ℕ → List T → Type 0
+ChangesOnly f at [] = Unit {0}
+ChangesOnly f zero (x ∷ xs) = AllByRecursion (λ y. f y ≡ y) xs
+ChangesOnly f (suc at) (x ∷ xs) = (f x ≡ x) × ChangesOnly f at xs
+
+-- no element is this one
+abbrev pub LacksItem : {T : Type 0} → T → List T → Type 0
+LacksItem item xs = AllByRecursion (λ y. y ≡ item → ⊥) xs
 
 -- what lies in a slot
 abbrev pub slot_of : {T : Type 0} → List (Option T) → ℕ → Option T
@@ -44,12 +69,43 @@ abbrev pub dropped : {T : Type 0} → (T → Bool) → List (Option T) → List 
 dropped test slots [] = []
 dropped test slots (p ∷ ps) = cond (passes_in test slots p) (dropped test slots ps) (p ∷ dropped test (slice_set slots p None) ps)
 
--- the slots in order have elements and the free ones have none; each of the two lists has room for every slot
+-- whether a number is among others
+abbrev pub is_among : ℕ → List ℕ → Bool
+is_among q ps = list_any (λ p. q == p) ps
+
+-- the slots in order have elements, and each slot that has one is among them and the free ones have none; each of the two lists has room for
+-- every slot
 pub record IsShelf {T : Type 0} (slots : List (Option T)) (order free : List ℕ) (order_room free_room : ℕ) : Type 0 where
   pub held : AllByRecursion (IsHeld slots) order
   pub apart : Apart Differ order
   pub empty : AllByRecursion (IsEmpty slots) free
   pub free_apart : Apart Differ free
+  pub all : (q : ℕ) → is_taken slots q ≡ true → is_among q order ≡ true
   pub long : length order + length free ≤ length slots
   pub order_long : length slots ≤ order_room
   pub free_long : length slots ≤ free_room
+
+-- slots that have elements, none of them twice
+pub record IsOrder {T : Type 0} (slots : List (Option T)) (order : List ℕ) : Type 0 where
+  pub held : AllByRecursion (IsHeld slots) order
+  pub apart : Apart Differ order
+
+-- numbers of slots, and how many have room
+pub record Roomed : Type 0 where
+  pub list : List ℕ
+  pub room : ℕ
+
+abbrev pub roomed_code : Coded Roomed
+roomed_code = code_by (List ℕ × ℕ) (coded× (coded_list coded_ℕ) coded_ℕ) (λ r. (r.list, r.room)) (λ p. record { list = p.0; room = p.1 }) (λ _. refl)
+
+abbrev pub lists_of : List Roomed → List (List ℕ)
+lists_of others = map (λ o. o.list) others
+
+abbrev pub HaveRoom : ℕ → List Roomed → Type 0
+HaveRoom n others = AllByRecursion (λ o. n ≤ o.room) others
+
+-- the first order, and the further ones, each with room for every slot
+pub record AreShelved {T : Type 0} (slots : List (Option T)) (order free : List ℕ) (order_room free_room : ℕ) (others : List Roomed) : Type 0 where
+  pub own : IsShelf slots order free order_room free_room
+  pub lists : AllByRecursion (IsOrder slots) (lists_of others)
+  pub rooms : HaveRoom (length slots) others

@@ -1,129 +1,50 @@
 //! A list in which elements are put anywhere without being moved.
-ghost use Rattle.std.specs.Prelude.{◌≡◌, ◌≤◌, ◌<◌, ◌+◌, ◌++◌, [], length, slice_get, slice_set, slice_index_or, filter, take, true, false, is_some, Some, None, IsSome, if◌then◌else◌, ◌∷◌, OnOk, OnErr, vec_len, vec_capacity};
-ghost use Rattle.std.specs.List.{insert, AllByRecursion};
+ghost use Rattle.std.specs.Prelude.{◌≡◌, ◌≤◌, ◌<◌, ◌+◌, ◌++◌, ◌∷◌, [], length, slice_get, slice_set, filter, map, Some, OnOk, OnErr};
+ghost use Rattle.std.specs.List.{insert, remove, AllByRecursion};
 ghost use Rattle.lv_shelf.specs.Cuts.{Falls, IsCut};
-ghost use Rattle.lv_shelf.specs.Shelves.{IsHeld, cleared, clear_of, dropped, is_taken, passes_in, slot_of};
+ghost use Rattle.lv_shelf.specs.Shelves.{ChangesOnly, LacksItem, other_at};
 
+use crate::order::{Order, keep_each, make_room};
+use crate::slots::{clear_failing, cut_at, edit_slot, item_at, keep_taken, set_slot};
 use lv_values::{Edit, NoMemory, Test};
 use std::alloc::Global;
 use std::marker::Model;
 
 /// A list whose elements lie still: each keeps its slot as long as it is in the list, and the order is kept by the
-/// numbers of the slots. Contracts see the list, and beside it the number of elements that still go in without memory.
+/// numbers of the slots, four bytes each. Beside the list there may be further orders, each of some of its elements.
+/// Contracts see the list, the further orders as lists, and the number of elements that still go in without memory.
 #[derive(Drop)]
 pub struct Shelf<T> {
     slots: Vec<Option<T>>,
     order: Vec<u32>,
+    others: Vec<Order>,
     free: Vec<u32>,
 }
 
 impl<T> Model for Shelf<T> {
-    ghost use Rattle.std.specs.Prelude.{length};
+    ghost use Rattle.std.specs.Prelude.{length, map};
     ghost use Rattle.std.specs.Vec.{vec_capacity};
-    ghost use Rattle.lv_values.specs.Room.{Roomy, roomy_code};
-    ghost use Rattle.lv_shelf.specs.Shelves.{items_at, IsShelf};
+    ghost use Rattle.lv_shelf.specs.Shelves.{AreShelved, Shelved, items_at, lists_of, shelved_code};
 
-    ghost Value = { Roomy T };
+    ghost Value = { Shelved T };
 
-    ghost coded = { roomy_code T.code };
+    ghost coded = { shelved_code T.code };
 
-    ghost view = { λ s. record { list = items_at s.slots.items s.order.items; spare = length s.free.items } };
+    ghost view = { λ s. record { list = items_at s.slots.items s.order.items; others = map (items_at s.slots.items) (lists_of s.others.items); spare = length s.free.items } };
 
-    ghost invariant = { λ s. IsShelf s.slots.items s.order.items s.free.items (vec_capacity s.order) (vec_capacity s.free) };
-}
-
-/// The element in a slot that has one.
-fn in_slot<T>(slots: &[Option<T>], slot: u32) -> &T
-    requires { IsHeld slots.now slot }
-    ensures { slot_of slots.now slot ≡ Some result.now }
-{
-    slots[slot as usize].as_ref().unwrap()
-}
-
-/// Changes the element in a slot that has one.
-fn edit_slot<T: Drop, E: Edit<T>>(slots: &mut Vec<Option<T>>, slot: u32, edit: &E)
-    requires { IsHeld slots.old.items slot }
-    ensures edited { (item : T) → slot_of slots.old.items slot ≡ Some item → slots.new.items ≡ slice_set slots.old.items slot (Some (E.edited edit.now item)) }
-{
-    let mut item = slots[slot as usize].take().unwrap();
-    edit.edit(&mut item);
-    slots[slot as usize] = Some(item);
-}
-
-/// Puts an element into a slot, in the place of the one there.
-fn set_slot<T: Drop>(slots: &mut Vec<Option<T>>, slot: u32, item: T)
-    requires { slot < length slots.old.items }
-    ensures { slots.new.items ≡ slice_set slots.old.items slot (Some item) }
-{
-    slots[slot as usize] = Some(item);
-}
-
-/// Whether a slot has an element that passes.
-fn passes_in<T, P: Test<T>>(test: &P, slots: &[Option<T>], slot: u32) -> bool
-    ensures { result ≡ passes_in (P.passed test.now) slots.now slot }
-{
-    match slots.get(slot as usize) {
-        Some(Some(item)) => test.passes(item),
-        Some(None) | None => false,
-    }
-}
-
-/// Empties a slot whose element does not pass, and lists it as free.
-fn clear_slot<T: Drop, P: Test<T>>(
-    test: &P,
-    slot: u32,
-    slots: &mut Vec<Option<T>>,
-    free: &mut Vec<u32>,
-)
-    requires within { slot < length slots.old.items }
-    requires room { length free.old.items < vec_capacity free.old }
-    ensures cleared { slots.new.items ≡ clear_of (passes_in (P.passed test.now) slots.old.items slot) slots.old.items slot }
-    ensures freed { free.new.items ≡ (if passes_in (P.passed test.now) slots.old.items slot then free.old.items else free.old.items ++ slot ∷ []) }
-    ensures capacity { vec_capacity free.new ≡ vec_capacity free.old }
-{
-    if !passes_in(test, slots.as_slice(), slot) {
-        slots[slot as usize] = None;
-        free.push_reserved(slot);
-    }
-}
-
-/// Empties the slots, among these, whose elements do not pass, and lists them as free.
-fn clear_failing<T: Drop, P: Test<T>>(
-    test: &P,
-    order: &[u32],
-    slots: &mut Vec<Option<T>>,
-    free: &mut Vec<u32>,
-)
-    requires within { AllByRecursion (λ p. p < length slots.old.items) order.now }
-    requires room { length free.old.items + length order.now ≤ vec_capacity free.old }
-    ensures cleared { slots.new.items ≡ cleared (P.passed test.now) slots.old.items order.now }
-    ensures freed { free.new.items ≡ free.old.items ++ dropped (P.passed test.now) slots.old.items order.now }
-    ensures capacity { vec_capacity free.new ≡ vec_capacity free.old }
-{
-    for slot in order {
-        clear_slot(test, *slot, slots, free);
-    }
-}
-
-/// Keeps the numbers of slots that have elements.
-fn keep_taken<T>(slots: &[Option<T>], order: &mut Vec<u32>)
-    ensures kept { order.new.items ≡ filter (is_taken slots.now) order.old.items }
-    ensures capacity { vec_capacity order.new ≡ vec_capacity order.old }
-{
-    order.retain(|slot| match slots.get(*slot as usize) {
-        Some(Some(_)) => true,
-        Some(None) | None => false,
-    });
+    ghost invariant = { λ s. AreShelved s.slots.items s.order.items s.free.items (vec_capacity s.order) (vec_capacity s.free) s.others.items };
 }
 
 impl<T> Shelf<T> {
-    /// The empty list, with no room. It takes no memory.
+    /// The empty list, with no further order and no room. It takes no memory.
     pub fn new(alloc: Global) -> Self
-        ensures { result.list ≡ [] }
+        ensures list { result.list ≡ [] }
+        ensures others { result.others ≡ [] }
     {
         Shelf {
             slots: Vec::new(alloc),
             order: Vec::new(alloc),
+            others: Vec::new(alloc),
             free: Vec::new(alloc),
         }
     }
@@ -140,7 +61,7 @@ impl<T> Shelf<T> {
         requires { at < length self.now.list }
         ensures { slice_get self.now.list at ≡ Some result.now }
     {
-        in_slot(self.slots.as_slice(), self.order[at])
+        item_at(self.slots.as_slice(), self.order.as_slice(), at)
     }
 
     /// How many elements pass a test that no later element passes where an earlier one fails. Cost: a binary search.
@@ -149,17 +70,42 @@ impl<T> Shelf<T> {
         ensures within { result ≤ length self.now.list }
         ensures cut { IsCut (P.passed test.now) result self.now.list }
     {
-        let mut low = 0;
-        let mut high = self.len();
-        while low < high {
-            let middle = low + (high - low) / 2;
-            if test.passes(self.get(middle)) {
-                low = middle + 1;
-            } else {
-                high = middle;
-            }
-        }
-        low
+        cut_at(test, self.slots.as_slice(), self.order.as_slice())
+    }
+
+    /// The number of further orders.
+    pub fn orders(&self) -> usize
+        ensures { result ≡ length self.now.others }
+    {
+        self.others.len()
+    }
+
+    /// The number of elements in a further order.
+    pub fn len_in(&self, order: usize) -> usize
+        requires { order < length self.now.others }
+        ensures { result ≡ length (other_at self.now.others order) }
+    {
+        self.others[order].as_slice().len()
+    }
+
+    /// The element at a place of a further order.
+    pub fn get_in(&self, order: usize, at: usize) -> &T
+        requires order { order < length self.now.others }
+        requires place { at < length (other_at self.now.others order) }
+        ensures { slice_get (other_at self.now.others order) at ≡ Some result.now }
+    {
+        item_at(self.slots.as_slice(), self.others[order].as_slice(), at)
+    }
+
+    /// How many elements of a further order pass a test that no later one passes where an earlier one fails.
+    /// Cost: a binary search.
+    pub fn cut_in<P: Test<T>>(&self, order: usize, test: &P) -> usize
+        requires order { order < length self.now.others }
+        requires falls { Falls (P.passed test.now) (other_at self.now.others order) }
+        ensures within { result ≤ length (other_at self.now.others order) }
+        ensures cut { IsCut (P.passed test.now) result (other_at self.now.others order) }
+    {
+        cut_at(test, self.slots.as_slice(), self.others[order].as_slice())
     }
 }
 
@@ -167,6 +113,7 @@ impl<T: Drop> Shelf<T> {
     /// Makes one empty slot.
     fn add_slot(&mut self) -> Result<(), NoMemory>
         ensures same { self.new.list ≡ self.old.list }
+        ensures others { self.new.others ≡ self.old.others }
         ensures room { OnOk result (self.new.spare ≡ self.old.spare + 1) }
         ensures kept { OnErr result (self.new.spare ≡ self.old.spare) }
     {
@@ -174,22 +121,40 @@ impl<T: Drop> Shelf<T> {
         let Ok(slot) = u32::try_from(slots) else {
             return Err(NoMemory);
         };
-        self.order.reserve(slots + 1 - self.order.len())?;
-        self.free.reserve(slots + 1 - self.free.len())?;
-        self.slots.push(None)?;
+        make_room(
+            &mut self.slots,
+            &mut self.order,
+            &mut self.free,
+            &mut self.others,
+        )?;
+        self.slots.push_reserved(None);
         self.free.push_reserved(slot);
         Ok(())
     }
 
-    /// Makes room for `more` elements. The list stays as it was, and the room never shrinks.
+    /// Makes room for `more` elements, in every order. The list stays as it was, and the room never shrinks.
     pub fn reserve(&mut self, more: u64) -> Result<(), NoMemory>
         ensures same { self.new.list ≡ self.old.list }
+        ensures others { self.new.others ≡ self.old.others }
         ensures room { OnOk result (more ≤ self.new.spare) }
         ensures kept { self.old.spare ≤ self.new.spare }
     {
         for _ in self.spare()..more {
             self.add_slot()?;
         }
+        Ok(())
+    }
+
+    /// Adds a further order that has no element yet, with room for all.
+    pub fn add_order(&mut self, alloc: Global) -> Result<(), NoMemory>
+        ensures same { self.new.list ≡ self.old.list }
+        ensures others { OnOk result (self.new.others ≡ self.old.others ++ [] ∷ []) }
+        ensures refused { OnErr result (self.new.others ≡ self.old.others) }
+        ensures room { self.new.spare ≡ self.old.spare }
+    {
+        let mut order = Order::new(alloc);
+        order.reserve(self.slots.len())?;
+        self.others.push(order)?;
         Ok(())
     }
 
@@ -200,12 +165,13 @@ impl<T: Drop> Shelf<T> {
         self.free.len() as u64
     }
 
-    /// Puts an element at a place, before those from there on. It takes no memory.
+    /// Puts an element at a place, before those from there on. It comes into no further order. It takes no memory.
     /// Cost: one move of the numbers of slots behind it.
     pub fn insert(&mut self, at: usize, item: T)
         requires room { 0 < self.old.spare }
         requires place { at ≤ length self.old.list }
         ensures added { self.new.list ≡ insert self.old.list at item }
+        ensures others { self.new.others ≡ self.old.others }
         ensures room { self.new.spare + 1 ≡ self.old.spare }
     {
         let slot = self.free.pop().unwrap();
@@ -213,30 +179,75 @@ impl<T: Drop> Shelf<T> {
         self.order.insert(at, slot).unwrap();
     }
 
-    /// Puts an element in the place of another one. It takes no memory. Cost: constant.
+    /// Puts an element in the place of another one, in every order. It takes no memory. Cost: constant.
     pub fn set(&mut self, at: usize, item: T)
         requires { at < length self.old.list }
         ensures replaced { self.new.list ≡ slice_set self.old.list at item }
+        ensures others { length self.new.others ≡ length self.old.others }
         ensures room { self.new.spare ≡ self.old.spare }
     {
         set_slot(&mut self.slots, self.order[at], item);
     }
 
-    /// Changes the element at a place.
+    /// Puts the element at a place of the list into a further order that does not have it, before those from a place
+    /// of that order on. It takes no memory. Cost: one move of the numbers of slots behind it.
+    pub fn enter(&mut self, order: usize, place: usize, at: usize)
+        requires order { order < length self.old.others }
+        requires place { place ≤ length (other_at self.old.others order) }
+        requires at { at < length self.old.list }
+        requires absent { (item : T) → slice_get self.old.list at ≡ Some item → LacksItem item (other_at self.old.others order) }
+        ensures entered { (item : T) → slice_get self.old.list at ≡ Some item → self.new.others ≡ slice_set self.old.others order (insert (other_at self.old.others order) place item) }
+        ensures same { self.new.list ≡ self.old.list }
+        ensures room { self.new.spare ≡ self.old.spare }
+    {
+        let slot = self.order[at];
+        self.others[order].insert(place, slot);
+    }
+
+    /// Takes the element at a place of a further order out of that order. It stays in the list and in the others.
+    /// Cost: one move of the numbers of slots behind it.
+    pub fn leave(&mut self, order: usize, place: usize)
+        requires order { order < length self.old.others }
+        requires place { place < length (other_at self.old.others order) }
+        ensures left { self.new.others ≡ slice_set self.old.others order (remove (other_at self.old.others order) place) }
+        ensures same { self.new.list ≡ self.old.list }
+        ensures room { self.new.spare ≡ self.old.spare }
+    {
+        self.others[order].remove(place);
+    }
+
+    /// Drops the element at a place, which is in no further order. It takes no memory, and makes room for one.
+    /// Cost: one move of the numbers of slots behind it.
+    pub fn remove(&mut self, at: usize)
+        requires at { at < length self.old.list }
+        requires alone { (item : T) → slice_get self.old.list at ≡ Some item → AllByRecursion (LacksItem item) self.old.others }
+        ensures removed { self.new.list ≡ remove self.old.list at }
+        ensures others { self.new.others ≡ self.old.others }
+        ensures room { self.new.spare ≡ self.old.spare + 1 }
+    {
+        let slot = self.order.remove(at);
+        self.slots[slot as usize] = None;
+        self.free.push_reserved(slot);
+    }
+
+    /// Changes the element at a place. It takes no memory, and no order changes. Cost: constant.
     pub fn edit<E: Edit<T>>(&mut self, at: usize, edit: &E)
         requires { at < length self.old.list }
         ensures edited { (item : T) → slice_get self.old.list at ≡ Some item → self.new.list ≡ slice_set self.old.list at (E.edited edit.now item) }
+        ensures others { ChangesOnly (E.edited edit.now) at self.old.list → self.new.others ≡ map (map (E.edited edit.now)) self.old.others }
         ensures room { self.new.spare ≡ self.old.spare }
     {
         edit_slot(&mut self.slots, self.order[at], edit);
     }
 
-    /// Keeps the elements that pass, in their order. It takes no memory, and makes room for as many as go.
-    /// Cost: two passes over the numbers of the slots.
+    /// Keeps the elements that pass, in every order. It takes no memory, and makes room for as many as go.
+    /// Cost: two passes over the numbers of the slots, and one over those of each further order.
     pub fn keep<P: Test<T>>(&mut self, test: &P)
         ensures kept { self.new.list ≡ filter (P.passed test.now) self.old.list }
+        ensures others { self.new.others ≡ map (filter (P.passed test.now)) self.old.others }
         ensures room { self.old.spare ≤ self.new.spare }
     {
+        keep_each(test, self.slots.as_slice(), &mut self.others);
         clear_failing(test, self.order.as_slice(), &mut self.slots, &mut self.free);
         keep_taken(self.slots.as_slice(), &mut self.order);
     }

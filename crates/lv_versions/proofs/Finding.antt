@@ -17,7 +17,7 @@ use Rattle.lv_schema.specs.declared.version.RowVersion.{RowVersion}
 use Rattle.lv_shelf.specs.Cuts.{Apart, IsCut}
 use Rattle.lv_versions.specs.Versions.{EndsAtMost, EndsBy, EndsFrom, IsBy, Precedes, ends_after, hits, is_at, precedes_by, reaches, reaches_by, row_with, rows_hit, rows_with, state_at}
 use Rattle.lv_shelf.proofs.Cutting.{all_at, cut_at, cut_long, got}
-use Rattle.lv_shelf.proofs.Shelved.{all_kept}
+use Rattle.lv_shelf.proofs.Cutting.{all_kept}
 
 both : (a b : Bool) → (a && b) ≡ true → (a ≡ true) × (b ≡ true)
 both true b h = (refl, h)

@@ -1,35 +1,10 @@
-use Rattle.std.proofs.Common.{◌+◌, ◌-◌, ◌/◌, ◌<◌, sym, ◌∙◌, ap, length, arith}
-use Rattle.lv_shelf.proofs.Cutting.{cut_from, fails_at, falls_at, got}
+use Rattle.std.proofs.Common.{ap, length, arith}
+use Rattle.lv_shelf.proofs.Shelved.{length_items}
 use Rattle.lv_shelf.proofs.shelf.Shelf.cut.Goals as goal
 
-pub loop-low-preserved-then-passes : goal.loop-low-preserved-then-passes
-loop-low-preserved-then-passes g c =
-    let p = g.P.Test.passed c.args.test.now in
-    let list = c.args.self.now.list in
-    let middle = c.loop-low.low + (c.loop-low.high - c.loop-low.low) / 2 in
-    let lt : middle < c.loop-low.high = omega arith in
-    let lt' : middle < length list = omega (arith, lt, c.loop-low.invariant.within) in
-    record {
-      order = omega (arith, lt);
-      within = c.loop-low.invariant.within;
-      below = λ k d h. falls_at p list k middle d c.requires (omega (arith, h)) lt' (ap p (got list middle c.get.result.now d c.get.ensures) ∙ sym c.passes.ensures ∙ c.if-passes.true);
-      above = c.loop-low.invariant.above;
-    }
-
-pub loop-low-preserved : goal.loop-low-preserved
-loop-low-preserved g c =
-    let p = g.P.Test.passed c.args.test.now in
-    let list = c.args.self.now.list in
-    let middle = c.loop-low.low + (c.loop-low.high - c.loop-low.low) / 2 in
-    let lt : middle < c.loop-low.high = omega arith in
-    record {
-      order = omega arith;
-      within = omega (arith, lt, c.loop-low.invariant.within);
-      below = c.loop-low.invariant.below;
-      above = λ k d le h. fails_at p list middle k d c.requires le h (ap p (got list middle c.get.result.now d c.get.ensures) ∙ sym c.passes.ensures ∙ c.if-passes.false);
-    }
-
-pub returns-clause-cut : goal.returns-clause-cut
-returns-clause-cut g c =
-    cut_from (g.P.Test.passed c.args.test.now) c.args.self.now.list c.loop-low.low (omega (arith, c.loop-low.invariant.order, c.loop-low.invariant.within)) c.loop-low.invariant.below
-    (λ k d le h. c.loop-low.invariant.above k d (omega (arith, le, c.loop-low-test.false)) h)
+pub returns-clause-within : goal.returns-clause-within
+returns-clause-within g c =
+    let s = c.self.inside in
+    let long = length_items s.slots.items s.order.items c.self.invariant.own.held in
+    let is = ap (λ r. length r.list) c.self.view_is in
+    omega (arith, long, is, c.cut_at.ensures.within, ap length c.as_slice-2.ensures.value)

@@ -3,7 +3,7 @@ use Rattle.lv_schema.proofs.Apart.{all_filter, apart_filter}
 use Rattle.lv_schema.specs.declared.version.RowVersion.{RowVersion}
 use Rattle.lv_versions.specs.Versions.{AreVersions, IsBy, Precedes, ends_after, state_at}
 use Rattle.lv_versions.proofs.Finding.{pruned_newest, pruned_state}
-use Rattle.lv_shelf.proofs.Shelved.{all_kept}
+use Rattle.lv_shelf.proofs.Cutting.{all_kept}
 use Rattle.lv_versions.proofs.versions.Versions.prune.Goals as goal
 
 pub invariant_of-self : goal.invariant_of-self

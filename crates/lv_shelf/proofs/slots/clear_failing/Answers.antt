@@ -2,7 +2,7 @@ use Rattle.std.proofs.Common.{◌+◌, ◌++◌, refl, sym, ◌∙◌, ap, lengt
 use Rattle.std.proofs.lemmas.List.{drop_more}
 use Rattle.lv_shelf.specs.Shelves.{cleared, dropped, clear_of, passes_in}
 use Rattle.lv_shelf.proofs.Shelved.{freed_step, length_clear, length_freed}
-use Rattle.lv_shelf.proofs.shelf.clear_failing.Goals as goal
+use Rattle.lv_shelf.proofs.slots.clear_failing.Goals as goal
 
 pub loop-slot-preserved : goal.loop-slot-preserved
 loop-slot-preserved g c =

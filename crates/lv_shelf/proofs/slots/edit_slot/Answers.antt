@@ -1,7 +1,7 @@
 use Rattle.std.proofs.Common.{◌≡◌, Option, Some, None, get_or, set, sym, ap, ◌∙◌}
 use Rattle.std.proofs.lemmas.List.{get_or_default, set-set}
 use Rattle.lv_shelf.proofs.Shelved.{taken_in}
-use Rattle.lv_shelf.proofs.shelf.edit_slot.Goals as goal
+use Rattle.lv_shelf.proofs.slots.edit_slot.Goals as goal
 
 same_some : {T : Type 0} (x y : T) (o : Option T) → o ≡ Some x → o ≡ Some y → x ≡ y
 same_some x y o e f = cc

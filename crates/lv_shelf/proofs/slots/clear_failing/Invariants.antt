@@ -1,6 +1,6 @@
 use Rattle.std.proofs.Common.{◌≡◌, ◌≤◌, ◌+◌, ◌-◌, ◌++◌, length, drop, vec_capacity}
 use Rattle.lv_shelf.specs.Shelves.{cleared, dropped}
-use Rattle.lv_shelf.proofs.shelf.clear_failing.Given as goal
+use Rattle.lv_shelf.proofs.slots.clear_failing.Given as goal
 
 abbrev pub invariant-loop-slot : goal.invariant-loop-slot
 invariant-loop-slot g l =

@@ -1,7 +1,7 @@
 use Rattle.std.proofs.Common.{rules}
 use Rattle.std.proofs.lemmas.Fn.{filter_same}
 use Rattle.lv_shelf.specs.Shelves.{is_taken}
-use Rattle.lv_shelf.proofs.shelf.keep_taken.Goals as goal
+use Rattle.lv_shelf.proofs.slots.keep_taken.Goals as goal
 
 pub returns-clause-kept : goal.returns-clause-kept
 returns-clause-kept g c =

@@ -1,0 +1,121 @@
+//! Slots, and the elements in them.
+ghost use Rattle.std.specs.Prelude.{◌≡◌, ◌≤◌, ◌<◌, ◌+◌, ◌-◌, ◌++◌, ◌∷◌, [], length, slice_get, slice_set, slice_index_or, filter, true, false, Some, None, if◌then◌else◌, vec_capacity};
+ghost use Rattle.std.specs.List.{AllByRecursion};
+ghost use Rattle.lv_shelf.specs.Cuts.{Falls, IsCut};
+ghost use Rattle.lv_shelf.specs.Shelves.{IsHeld, cleared, clear_of, dropped, is_taken, items_at, passes_in, slot_of};
+
+use lv_values::{Edit, Test};
+
+/// The element in a slot that has one.
+pub(crate) fn in_slot<T>(slots: &[Option<T>], slot: u32) -> &T
+    requires { IsHeld slots.now slot }
+    ensures { slot_of slots.now slot ≡ Some result.now }
+{
+    slots[slot as usize].as_ref().unwrap()
+}
+
+/// Changes the element in a slot that has one.
+pub(crate) fn edit_slot<T: Drop, E: Edit<T>>(slots: &mut Vec<Option<T>>, slot: u32, edit: &E)
+    requires { IsHeld slots.old.items slot }
+    ensures edited { (item : T) → slot_of slots.old.items slot ≡ Some item → slots.new.items ≡ slice_set slots.old.items slot (Some (E.edited edit.now item)) }
+{
+    let mut item = slots[slot as usize].take().unwrap();
+    edit.edit(&mut item);
+    slots[slot as usize] = Some(item);
+}
+
+/// Puts an element into a slot, in the place of the one there.
+pub(crate) fn set_slot<T: Drop>(slots: &mut Vec<Option<T>>, slot: u32, item: T)
+    requires { slot < length slots.old.items }
+    ensures { slots.new.items ≡ slice_set slots.old.items slot (Some item) }
+{
+    slots[slot as usize] = Some(item);
+}
+
+/// Whether a slot has an element that passes.
+pub(crate) fn passes_in<T, P: Test<T>>(test: &P, slots: &[Option<T>], slot: u32) -> bool
+    ensures { result ≡ passes_in (P.passed test.now) slots.now slot }
+{
+    match slots.get(slot as usize) {
+        Some(Some(item)) => test.passes(item),
+        Some(None) | None => false,
+    }
+}
+
+/// Empties a slot whose element does not pass, and lists it as free.
+pub(crate) fn clear_slot<T: Drop, P: Test<T>>(
+    test: &P,
+    slot: u32,
+    slots: &mut Vec<Option<T>>,
+    free: &mut Vec<u32>,
+)
+    requires within { slot < length slots.old.items }
+    requires room { length free.old.items < vec_capacity free.old }
+    ensures cleared { slots.new.items ≡ clear_of (passes_in (P.passed test.now) slots.old.items slot) slots.old.items slot }
+    ensures freed { free.new.items ≡ (if passes_in (P.passed test.now) slots.old.items slot then free.old.items else free.old.items ++ slot ∷ []) }
+    ensures capacity { vec_capacity free.new ≡ vec_capacity free.old }
+{
+    if !passes_in(test, slots.as_slice(), slot) {
+        slots[slot as usize] = None;
+        free.push_reserved(slot);
+    }
+}
+
+/// Empties the slots, among these, whose elements do not pass, and lists them as free.
+pub(crate) fn clear_failing<T: Drop, P: Test<T>>(
+    test: &P,
+    order: &[u32],
+    slots: &mut Vec<Option<T>>,
+    free: &mut Vec<u32>,
+)
+    requires within { AllByRecursion (λ p. p < length slots.old.items) order.now }
+    requires room { length free.old.items + length order.now ≤ vec_capacity free.old }
+    ensures cleared { slots.new.items ≡ cleared (P.passed test.now) slots.old.items order.now }
+    ensures freed { free.new.items ≡ free.old.items ++ dropped (P.passed test.now) slots.old.items order.now }
+    ensures capacity { vec_capacity free.new ≡ vec_capacity free.old }
+{
+    for slot in order {
+        clear_slot(test, *slot, slots, free);
+    }
+}
+
+/// Keeps the numbers of slots that have elements.
+pub(crate) fn keep_taken<T>(slots: &[Option<T>], order: &mut Vec<u32>)
+    ensures kept { order.new.items ≡ filter (is_taken slots.now) order.old.items }
+    ensures capacity { vec_capacity order.new ≡ vec_capacity order.old }
+{
+    order.retain(|slot| match slots.get(*slot as usize) {
+        Some(Some(_)) => true,
+        Some(None) | None => false,
+    });
+}
+
+/// The element at a place of some slots.
+pub(crate) fn item_at<'a, T>(slots: &'a [Option<T>], places: &[u32], at: usize) -> &'a T
+    requires held { AllByRecursion (IsHeld slots.now) places.now }
+    requires place { at < length places.now }
+    ensures { slice_get (items_at slots.now places.now) at ≡ Some result.now }
+{
+    in_slot(slots, places[at])
+}
+
+/// How many of the elements in some slots pass a test that no later one passes where an earlier one fails.
+/// Cost: a binary search.
+pub(crate) fn cut_at<T, P: Test<T>>(test: &P, slots: &[Option<T>], places: &[u32]) -> usize
+    requires held { AllByRecursion (IsHeld slots.now) places.now }
+    requires falls { Falls (P.passed test.now) (items_at slots.now places.now) }
+    ensures within { result ≤ length places.now }
+    ensures cut { IsCut (P.passed test.now) result (items_at slots.now places.now) }
+{
+    let mut low = 0;
+    let mut high = places.len();
+    while low < high {
+        let middle = low + (high - low) / 2;
+        if test.passes(item_at(slots, places, middle)) {
+            low = middle + 1;
+        } else {
+            high = middle;
+        }
+    }
+    low
+}
