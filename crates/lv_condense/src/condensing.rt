@@ -120,18 +120,66 @@ fn gather(alloc: Global, touches: &[Touch<'_>]) -> Result<Net, NoMemory>
     Ok(net)
 }
 
-/// The net change that entries make of a table: for each key that they write, in the order of the keys, the row that
-/// the first of them finds and the one that the last of them leaves, where these differ. So it is the net change from
-/// each state on which they can be taken to the one to which they lead.
+/// The actions on a table, in their order.
+fn touches_in<'a>(
+    alloc: Global,
+    table: &'a TableDef,
+    actions: &'a [Action],
+) -> Result<Vec<Touch<'a>>, NoMemory>
+    ensures { IfOk result (λ touches. touches.items ≡ touched table.now.key table.now.no actions.now) }
+{
+    let mut touches = Vec::new(alloc);
+    for action in actions {
+        if table.no == action.table {
+            touches.push(Touch {
+                key: table.key.as_slice(),
+                action,
+            })?;
+        }
+    }
+    Ok(touches)
+}
+
+/// The net change of the actions of which these are those on a table.
+fn condense_touches(
+    alloc: Global,
+    table: &TableDef,
+    mut touches: Vec<Touch<'_>>,
+) -> Result<Net, NoMemory>
+    ensures condensed { IfOk result (λ net. (tables : List TableDef) (actions : List Action) → touches.entry.items ≡ touched table.now.key table.now.no actions → table_at tables table.now.no ≡ table.now
+        → net ≡ condensed tables actions table.now.no) }
+    ensures net { IfOk result (λ net. (tables : List TableDef) (db : Db) (actions : List Action) → touches.entry.items ≡ touched table.now.key table.now.no actions → IsDatabase tables db → CanAct tables db actions → table.now.no < length tables → table_at tables table.now.no ≡ table.now
+        → net ≡ net_of (rows_of db table.now.no) (rows_of (acted_all tables db actions) table.now.no)) }
+{
+    touches.sort()?;
+    gather(alloc, &touches)
+}
+
+/// The net change that actions make of a table: for each key that they write, in the order of the keys, the row that the
+/// first of them finds and the one that the last of them leaves, where these differ. So it is the net change from each
+/// state on which they can be taken to the one to which they lead.
 ///
-/// Cost: n log n comparisons of keys in place for the n entries on the table, and copies of the rows of the net change.
+/// Cost: n log n comparisons of keys in place for the n actions on the table, and copies of the rows of the net change.
+pub fn condense_actions(
+    alloc: Global,
+    table: &TableDef,
+    actions: &[Action],
+) -> Result<Net, NoMemory>
+    ensures condensed { IfOk result (λ net. (tables : List TableDef) → table_at tables table.now.no ≡ table.now → net ≡ condensed tables actions.now table.now.no) }
+    ensures net { IfOk result (λ net. (tables : List TableDef) (db : Db) → IsDatabase tables db → CanAct tables db actions.now → table.now.no < length tables → table_at tables table.now.no ≡ table.now
+        → net ≡ net_of (rows_of db table.now.no) (rows_of (acted_all tables db actions.now) table.now.no)) }
+{
+    let touches = touches_in(alloc, table, actions)?;
+    condense_touches(alloc, table, touches)
+}
+
+/// The net change that the actions of entries make of a table, as `condense_actions` says it of the actions.
 pub fn condense(alloc: Global, table: &TableDef, entries: &[DeltaEntry]) -> Result<Net, NoMemory>
     ensures condensed { IfOk result (λ net. (tables : List TableDef) → table_at tables table.now.no ≡ table.now
         → net ≡ condensed tables (map (λ (e : DeltaEntry). e.action) entries.now) table.now.no) }
     ensures net { IfOk result (λ net. (tables : List TableDef) (db : Db) → IsDatabase tables db → CanAct tables db (map (λ (e : DeltaEntry). e.action) entries.now) → table.now.no < length tables → table_at tables table.now.no ≡ table.now
         → net ≡ net_of (rows_of db table.now.no) (rows_of (acted_all tables db (map (λ (e : DeltaEntry). e.action) entries.now)) table.now.no)) }
 {
-    let mut touches = touches_of(alloc, table, entries)?;
-    touches.sort()?;
-    gather(alloc, &touches)
+    let touches = touches_of(alloc, table, entries)?;
+    condense_touches(alloc, table, touches)
 }

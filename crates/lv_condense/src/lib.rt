@@ -4,4 +4,4 @@
 mod condensing;
 mod touch;
 
-pub use condensing::condense;
+pub use condensing::{condense, condense_actions};
