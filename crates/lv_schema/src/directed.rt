@@ -3,7 +3,8 @@ ghost use Rattle.std.specs.Prelude.{refl};
 ghost use Rattle.std.specs.Cmp.{partial_order_from_agreeing_total};
 ghost use Rattle.std.specs.Ordering.{as_partial_cmp};
 
-use lv_values::{Exact, Items, Row, Value};
+use lv_values::{Copying, Exact, Items, NoMemory, Row, Value};
+use std::alloc::Global;
 use std::cmp::Ordering;
 
 /// A value of an ORDER BY column, with the direction of the column.
@@ -23,6 +24,24 @@ pub type DirectedValues = Items<Directed>;
 pub struct SortedRow {
     pub order: DirectedValues,
     pub row: Row,
+}
+
+impl Copying for Directed {
+    fn copy(&self, alloc: Global) -> Result<Self, NoMemory> {
+        match self {
+            Directed::Up(value) => Ok(Directed::Up(value.copy(alloc)?)),
+            Directed::Down(value) => Ok(Directed::Down(value.copy(alloc)?)),
+        }
+    }
+}
+
+impl Copying for SortedRow {
+    fn copy(&self, alloc: Global) -> Result<Self, NoMemory> {
+        Ok(SortedRow {
+            order: self.order.copy(alloc)?,
+            row: self.row.copy(alloc)?,
+        })
+    }
 }
 
 impl PartialEq for Directed {
