@@ -1,0 +1,5 @@
+pub mod DeltaRule
+pub mod Balance
+pub mod Terms
+pub mod NetOfTerms
+pub mod Turns

@@ -1,0 +1,12 @@
+//! Maintenance steps: the difference of a view, from one signed term for each alias.
+#![tactic(auto)]
+
+mod columns;
+mod entries;
+mod input;
+mod outcome;
+mod sides;
+mod summing;
+
+pub use input::JobInput;
+pub use outcome::{JobResult, compute};
