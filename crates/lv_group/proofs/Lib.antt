@@ -3,3 +3,4 @@ pub mod Runs
 pub mod Groupings
 pub mod Bounds
 pub mod GroupRows
+pub mod Regroups

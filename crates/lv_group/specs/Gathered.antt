@@ -1,6 +1,7 @@
 -- The groups of a view with their numbers, and the rows that they give.
-use Rattle.std.specs.Prelude.{◌≡◌, ℕ, ℤ, pos, true, cond, List, [], ◌∷◌, map}
+use Rattle.std.specs.Prelude.{◌≡◌, ℕ, ℤ, pos, Bool, true, not, cond, List, [], ◌∷◌, ◌++◌, map, filter}
 use Rattle.std.specs.List.{list_all, AllByRecursion}
+use Rattle.std.specs.Ordering.{int_eq}
 use Rattle.lv_values.specs.declared.value.Value.{Value}
 use Rattle.lv_values.specs.declared.value.Value.TheVariants.{Num}
 use Rattle.lv_values.specs.Ascending.{ascending}
@@ -14,7 +15,9 @@ use Rattle.lv_schema.specs.Bound.{same_col}
 use Rattle.lv_schema.specs.Databases.{is_int}
 use Rattle.lv_schema.specs.Differences.{change_of, changes, key_of, summed_columns}
 use Rattle.lv_schema.specs.Groups.{number_at}
+use Rattle.lv_schema.specs.SignedRows.{netted}
 use Rattle.lv_schema.specs.Tuples.{Tuple}
+use Rattle.lv_bags.specs.Tallies.{IsEntry, Rising}
 
 -- the columns that tell groups apart, the view's list, the groups with their numbers, and how many more groups go in
 -- without memory
@@ -24,6 +27,11 @@ pub record Gathered : Type 0 where
   pub groups : List SignedRow
   pub spare : ℕ
 
+-- groups each once, in ascending order, each with n sums, their numbers of 128 bits
+pub record AreGroups (n : ℕ) (groups : List SignedRow) : Type 0 where
+  pub rising : Rising groups
+  pub entries : AllByRecursion (IsEntry n) groups
+
 -- groups of this view
 pub record IsOfView (view : ViewDef) (g : Gathered) : Type 0 where
   pub by : g.by ≡ view.groups
@@ -32,6 +40,14 @@ pub record IsOfView (view : ViewDef) (g : Gathered) : Type 0 where
 -- the groups of these tuples with their numbers, each once, in ascending order
 abbrev pub groups_among : ViewDef → List Tuple → List SignedRow
 groups_among view tuples = changes (change_of view [] tuples) (map (key_of view) tuples)
+
+-- whether a group has a tuple
+abbrev pub has_tuples : SignedRow → Bool
+has_tuples s = not (int_eq s.count (pos 0))
+
+-- groups with n sums after changes of them: counts added, sums added modulo 2 ^ 128, and groups without a tuple gone
+abbrev pub regrouped : ℕ → List SignedRow → List SignedRow → List SignedRow
+regrouped n groups changes = filter has_tuples (netted n (groups ++ changes))
 
 -- the value that a group has in one of the columns that tell groups apart, 0 in any other column
 abbrev pub group_value : List Col → List Value → Col → Value

@@ -131,6 +131,7 @@ pub fn fold(alloc: Global, view: &ViewDef, tuples: &Joined) -> Result<Groups, No
     let sums = summed_columns(alloc, view.items.as_slice())?;
     let mut entries = entries_of(alloc, view.groups.as_slice(), tuples.as_slice())?;
     entries.sort_unstable();
+    let _tuples = tuples.len();
     let groups = gather(alloc, &sums, &entries)?;
     Ok(Groups::new(view.groups.copy(alloc)?, view.items.copy(alloc)?, groups))
 }

@@ -1,6 +1,7 @@
 //! Groups of tuples, with their counts and sums.
 #![tactic(auto)]
 
+mod applying;
 mod entry;
 mod gathering;
 mod grouped;
@@ -12,5 +13,5 @@ mod tests;
 
 pub use gathering::fold;
 pub use grouped::Groups;
-pub use laws::rows_of_groups_are_the_view_s;
+pub use laws::{groups_after_a_difference, rows_of_groups_are_the_view_s};
 pub use listing::listed_row;
