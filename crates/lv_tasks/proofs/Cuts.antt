@@ -1,0 +1,51 @@
+-- Cuts of tasks in the order of their commits.
+use Rattle.std.proofs.Common.{◌≡◌, ℕ, zero, suc, Bool, true, false, List, [], ◌∷◌, refl, sym, ◌∙◌, ap, arith, take, drop, filter, map}
+use Rattle.std.specs.Prelude.{◌&&◌, nat_lt, nat_le}
+use Rattle.std.specs.List.Sorted.{IsPartitionPoint}
+use Rattle.std.proofs.lemmas.Bool.Decides.{nat_tests}
+use Rattle.lv_tasks.specs.declared.task.Task.{Task}
+use Rattle.lv_tasks.specs.Kept.{tasks_above, commits_between}
+use Rattle.lv_tasks.specs.Queues.{IsCut, is_upto}
+
+pub cut_from : (test : Task → Bool) (xs : List Task) (i : ℕ) → IsPartitionPoint (λ y. test y ≡ true) (λ y. test y ≡ false) xs i → IsCut test i xs
+cut_from test [] i h = tt
+cut_from test (x ∷ xs) zero h = (h.1 0 x (omega arith) (omega arith), cut_from test xs zero ((λ k d a b. absurd (omega arith)), (λ k d a b. h.1 (suc k) d (omega arith) (omega arith))))
+cut_from test (x ∷ xs) (suc i) h = (h.0 0 x (omega arith) (omega arith), cut_from test xs i ((λ k d a b. h.0 (suc k) d (omega arith) (omega arith)), (λ k d a b. h.1 (suc k) d (omega arith) (omega arith))))
+
+-- a commit is up to a number, or above it
+above_not : (n c : ℕ) → nat_le c n ≡ false → nat_lt n c ≡ true
+above_not n c e = grind (arith, nat_tests)
+
+upto_not : (n c : ℕ) → nat_le c n ≡ true → nat_lt n c ≡ false
+upto_not n c e = grind (arith, nat_tests)
+
+and_false : (b : Bool) → (b && false) ≡ false
+and_false true = refl
+and_false false = refl
+
+nothing_dropped : (i : ℕ) → drop {A = Task} i [] ≡ []
+nothing_dropped zero = refl
+nothing_dropped (suc i) = refl
+
+pub cut_above : (hi i : ℕ) (xs : List Task) → IsCut (is_upto hi) i xs → tasks_above hi xs ≡ drop i xs
+cut_above hi i [] h = sym (nothing_dropped i)
+cut_above hi zero (x ∷ xs) h = rw (above_not hi x.commit h.0) (ap (λ (l : List Task). x ∷ l) (cut_above hi zero xs h.1))
+cut_above hi (suc i) (x ∷ xs) h = rw (upto_not hi x.commit h.0) (cut_above hi i xs h.1)
+
+-- the tasks above the one number and up to the other
+abbrev between : ℕ → ℕ → List Task → List Task
+between lo m xs = filter (λ (t : Task). nat_lt lo t.commit && nat_le t.commit m) xs
+
+cut_between : (lo m i j : ℕ) (xs : List Task) → IsCut (is_upto lo) i xs → IsCut (is_upto m) j xs → between lo m xs ≡ drop i (take j xs)
+cut_between lo m zero zero [] a b = refl
+cut_between lo m zero (suc j) [] a b = refl
+cut_between lo m (suc i) zero [] a b = refl
+cut_between lo m (suc i) (suc j) [] a b = refl
+cut_between lo m zero zero (x ∷ xs) a b = rw (b.0, and_false (nat_lt lo x.commit)) (cut_between lo m zero zero xs a.1 b.1)
+cut_between lo m zero (suc j) (x ∷ xs) a b = rw (b.0, above_not lo x.commit a.0) (ap (λ (l : List Task). x ∷ l) (cut_between lo m zero j xs a.1 b.1))
+cut_between lo m (suc i) zero (x ∷ xs) a b = rw (upto_not lo x.commit a.0) (cut_between lo m i zero xs a.1 b.1 ∙ nothing_dropped i)
+cut_between lo m (suc i) (suc j) (x ∷ xs) a b = rw (upto_not lo x.commit a.0) (cut_between lo m i j xs a.1 b.1)
+
+pub commits_cut : (lo m i j : ℕ) (xs : List Task) → IsCut (is_upto lo) i xs → IsCut (is_upto m) j xs
+    → commits_between lo m xs ≡ map (λ (t : Task). t.commit) (drop i (take j xs))
+commits_cut lo m i j xs a b = ap (map (λ (t : Task). t.commit)) (cut_between lo m i j xs a b)
