@@ -1,0 +1,9 @@
+pub mod Changes
+pub mod Ending
+pub mod Entries
+pub mod Installing
+pub mod Keeping
+pub mod Order
+pub mod RowsOfJoins
+pub mod Sums
+pub mod Walking

@@ -1,0 +1,20 @@
+use Rattle.std.proofs.Common.{◌≡◌, ◌+◌, ◌≤◌, length}
+use Rattle.std.specs.List.{AllByRecursion}
+use Rattle.lv_shelf.specs.Cuts.{Apart}
+use Rattle.lv_viewrows.specs.Standing.{IsBy, MeetAll, Precedes, changed_all}
+use Rattle.lv_viewrows.proofs.Changes.{RowsAscend}
+use Rattle.lv_viewrows.proofs.changing.apply_all.Given as goal
+
+abbrev pub invariant-loop-change : goal.invariant-loop-change
+invariant-loop-change l = record {
+  order : Apart Precedes l.versions.list;
+  each : AllByRecursion (IsBy l.number) l.versions.list;
+  ascend : RowsAscend l.changes;
+  meet : AllByRecursion (MeetAll l.number l.versions.list) l.changes;
+  changed : changed_all l.number l.changes l.versions.list ≡ changed_all l.initial.number l.initial.changes l.initial.versions.list;
+  room : length l.changes ≤ l.versions.spare;
+  taken : l.initial.versions.spare + length l.changes ≤ l.versions.spare + length l.initial.changes;
+}
+
+abbrev pub decreases-loop-change : goal.decreases-loop-change
+decreases-loop-change l = length l.changes

@@ -1,0 +1,38 @@
+use Rattle.std.proofs.Common.{◌≡◌, List, map, sym, ap, ◌∙◌, subst}
+use Rattle.lv_values.specs.Ascending.{ascending}
+use Rattle.lv_values.specs.Order.{row_cmp}
+use Rattle.lv_values.specs.OrderLaws.{row_total}
+use Rattle.lv_schema.specs.declared.signed.SignedRow.{SignedRow}
+use Rattle.lv_schema.proofs.Apart.{ascends_ascending}
+use Rattle.lv_viewrows.specs.declared.version.GroupVersion.{GroupVersion}
+use Rattle.lv_viewrows.specs.Kept.{groups_at, one_row, rows_listed, version_from}
+use Rattle.lv_viewrows.specs.Standing.{AreVersions}
+use Rattle.lv_viewrows.proofs.Installing.{first_groups, first_kept}
+use Rattle.lv_viewrows.proofs.Keeping.{join_listed}
+use Rattle.lv_viewrows.proofs.RowsOfJoins.{one_rows_are, one_rows_ascend, one_rows_change, rows_apart, rows_of_ones, versions_of_ones}
+use Rattle.lv_viewrows.proofs.viewrows.ViewRows.new.Goals as goal
+
+pub invariant_of-result : goal.invariant_of-result
+invariant_of-result c =
+    let sorted = ascending row_cmp c.args.rows in
+    let made : c.in_ok-versions.versions.list ≡ map (version_from 0) (map one_row (ascending row_cmp c.args.rows)) =
+    c.in_ok-versions.ensures ∙ ap (map (version_from 0)) (c.in_ok-row_groups.ensures ∙ ap (map one_row) c.sort.ensures) in
+    let up = ascends_ascending row_total c.args.rows (rows_apart c.args.rows c.requires.distinct) in
+    subst (AreVersions c.args.def c.args.point) (sym made) (first_kept c.args.def c.args.point (map one_row sorted) (one_rows_ascend sorted up) (one_rows_change sorted) (λ e. one_rows_are sorted))
+
+pub returns-clause-versions : goal.returns-clause-versions
+returns-clause-versions c =
+    let sorted = ascending row_cmp c.args.rows in
+    let made : c.in_ok-versions.versions.list ≡ map (version_from 0) (map one_row (ascending row_cmp c.args.rows)) =
+    c.in_ok-versions.ensures ∙ ap (map (version_from 0)) (c.in_ok-row_groups.ensures ∙ ap (map one_row) c.sort.ensures) in
+    made ∙ versions_of_ones sorted
+
+pub returns-clause-rows : goal.returns-clause-rows
+returns-clause-rows c = λ n.
+    let sorted = ascending row_cmp c.args.rows in
+    let made : c.in_ok-versions.versions.list ≡ map (version_from 0) (map one_row (ascending row_cmp c.args.rows)) =
+    c.in_ok-versions.ensures ∙ ap (map (version_from 0)) (c.in_ok-row_groups.ensures ∙ ap (map one_row) c.sort.ensures) in
+    ap (λ (l : List GroupVersion). rows_listed c.args.def (groups_at n l)) made
+    ∙ ap (rows_listed c.args.def) (first_groups n (map one_row sorted))
+    ∙ join_listed c.args.def (map one_row sorted) c.requires.join
+    ∙ rows_of_ones sorted

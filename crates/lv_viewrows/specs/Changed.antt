@@ -1,0 +1,33 @@
+-- Groups with changes.
+use Rattle.std.specs.Prelude.{ℕ, ℤ, pos, ◌+ℤ◌, List, [], ◌∷◌, ◌++◌, map, if◌then◌else◌, length}
+use Rattle.std.specs.Int.{int_wrap, w128}
+use Rattle.lv_values.specs.declared.value.Value.{Value}
+use Rattle.lv_schema.specs.declared.signed.SignedRow.{SignedRow}
+use Rattle.lv_schema.specs.declared.view.ViewDef.{ViewDef}
+use Rattle.lv_schema.specs.Differences.{changes, summed_columns}
+use Rattle.lv_schema.specs.SignedRows.{entries_of}
+
+-- how many sums a view's groups and changes have
+abbrev pub sums_of : ViewDef → ℕ
+sums_of view = if view.grouped then length (summed_columns view) else 0
+
+-- sums and by how much each is more, modulo 2 ^ 128
+abbrev pub sums_added : List ℤ → List ℤ → List ℤ
+sums_added [] more = more
+sums_added (n ∷ sums) [] = []
+sums_added (n ∷ sums) (m ∷ more) = int_wrap w128 (n +ℤ m) ∷ sums_added sums more
+
+-- a group with a change
+abbrev pub group_with : SignedRow → SignedRow → SignedRow
+group_with group s = record { row = s.row; count = group.count +ℤ s.count; sums = sums_added group.sums s.sums }
+
+-- what becomes of a row that has these groups, one at most, with these changes, one at most
+abbrev pub after_changes : List Value → List SignedRow → List SignedRow → SignedRow
+after_changes row [] [] = record { row = row; count = pos 0; sums = [] }
+after_changes row [] (s ∷ more) = s
+after_changes row (group ∷ groups) [] = group
+after_changes row (group ∷ groups) (s ∷ more) = group_with group s
+
+-- groups with changes: those that have none stay as they are, and one whose numbers are all 0 then is gone
+abbrev pub groups_with : List SignedRow → List SignedRow → List SignedRow
+groups_with list groups = changes (λ row. after_changes row (entries_of row groups) (entries_of row list)) (map (λ s. s.row) (groups ++ list))

@@ -1,0 +1,243 @@
+//! The rows of a view at several commits.
+ghost use Rattle.std.specs.Prelude.{◌≡◌, ◌⊎◌, ℕ, true, false, ◌+◌, ◌≤◌, ◌<◌, ◌++◌, ◌∷◌, [], length, map, filter, IfOk, OnOk};
+ghost use Rattle.std.specs.List.{AllByRecursion};
+ghost use Rattle.lv_values.specs.Ascending.{ascending};
+ghost use Rattle.lv_values.specs.Order.{row_cmp, row_eq};
+ghost use Rattle.lv_schema.specs.Applicable.{AreNetted, ApplyToGroups, ApplyToRows, with_changes};
+ghost use Rattle.lv_schema.specs.Differences.{summed_columns};
+ghost use Rattle.lv_schema.specs.Once.{are_apart};
+ghost use Rattle.lv_schema.specs.Versions.{ends_after};
+ghost use Rattle.lv_group.specs.Gathered.{IsOfView, rows_of};
+ghost use Rattle.lv_viewrows.specs.Changed.{groups_with, sums_of};
+ghost use Rattle.lv_viewrows.specs.Kept.{groups_at, one_row, rows_listed, shown, version_from};
+ghost use Rattle.lv_viewrows.specs.Standing.{has_no_end};
+
+use crate::changing::apply_all;
+use crate::reading::rows_at;
+use crate::version::{EndsAfter, GroupVersion};
+use lv_group::Groups;
+use lv_schema::{Signed, SignedRow, Sums, ViewDef};
+use lv_shelf::Shelf;
+use lv_values::{Copying, NoMemory, Row, Rows};
+use std::alloc::Global;
+use std::marker::Model;
+
+/// The rows of a view at its point and at earlier commits.
+///
+/// Kept are its groups with their numbers, each with the commits that it is there at; a row of a join view is a group of
+/// one tuple. A change brings the memory of the groups that it makes, so an install takes none; the rows of a grouped
+/// view are listed when they are read.
+#[derive(Drop)]
+pub struct ViewRows {
+    def: ViewDef,
+    at: u64,
+    versions: Shelf<GroupVersion>,
+}
+
+impl Model for ViewRows {
+    ghost use Rattle.std.specs.Coded.{codes};
+    ghost use Rattle.lv_schema.specs.contracts.cond.Cond as cond;
+    ghost use Rattle.lv_viewrows.specs.Kept.{ViewKept};
+    ghost use Rattle.lv_viewrows.specs.Standing.{AreVersions};
+
+    ghost Value = { ViewKept };
+
+    ghost coded = { Prim.hlevel (codes, cond.the_row.coded) };
+
+    ghost view = { λ v. record { def = v.def; at = v.at; versions = v.versions.list; spare = v.versions.spare } };
+
+    ghost invariant = { λ v. AreVersions v.def v.at v.versions.list };
+}
+
+/// A row of a join view, as a group of one tuple.
+fn one_row(alloc: Global, row: Row) -> SignedRow
+    ensures { result ≡ one_row row }
+{
+    SignedRow {
+        row,
+        count: 1,
+        sums: Sums::new(alloc),
+    }
+}
+
+/// Puts a version behind all others.
+fn push_last(versions: &mut Shelf<GroupVersion>, version: GroupVersion) -> Result<(), NoMemory>
+    ensures { OnOk result (versions.new.list ≡ versions.old.list ++ version ∷ []) }
+{
+    versions.reserve(1)?;
+    let at = versions.len();
+    versions.insert(at, version);
+    Ok(())
+}
+
+/// Versions of these groups, which are there from the start.
+fn first_versions(alloc: Global, groups: Signed) -> Result<Shelf<GroupVersion>, NoMemory>
+    ensures { IfOk result (λ versions. versions.list ≡ map (version_from 0) groups) }
+{
+    let mut versions = Shelf::new(alloc);
+    for group in groups.into_vec() {
+        push_last(&mut versions, GroupVersion::from_commit(0, group))?;
+    }
+    Ok(versions)
+}
+
+/// These rows of a join view, as groups.
+fn row_groups(alloc: Global, rows: Rows) -> Result<Signed, NoMemory>
+    ensures { IfOk result (λ groups. groups ≡ map one_row rows) }
+{
+    let mut groups = Signed::new(alloc);
+    for row in rows.into_vec() {
+        groups.push(one_row(alloc, row))?;
+    }
+    Ok(groups)
+}
+
+/// Appends a copy of a version that has not ended.
+fn push_current(
+    alloc: Global,
+    version: &GroupVersion,
+    copy: &mut Shelf<GroupVersion>,
+) -> Result<(), NoMemory>
+    ensures { OnOk result (copy.new.list ≡ copy.old.list ++ filter has_no_end (version.now ∷ [])) }
+{
+    if version.until.is_none() {
+        push_last(copy, version.copy(alloc)?)?;
+    }
+    Ok(())
+}
+
+/// Copies of the versions that have not ended.
+fn copy_current(
+    alloc: Global,
+    versions: &Shelf<GroupVersion>,
+) -> Result<Shelf<GroupVersion>, NoMemory>
+    ensures { IfOk result (λ copy. copy.list ≡ filter has_no_end versions.now.list) }
+{
+    let mut copy = Shelf::new(alloc);
+    for at in 0..versions.len() {
+        push_current(alloc, versions.get(at), &mut copy)?;
+    }
+    Ok(copy)
+}
+
+impl ViewRows {
+    /// The distinct rows of a join view at a commit, and at every one below it. Cost: a sort of the rows.
+    pub fn new(
+        alloc: Global,
+        def: ViewDef,
+        point: u64,
+        mut rows: Rows,
+    ) -> Result<ViewRows, NoMemory>
+        requires join { def.grouped ≡ false }
+        requires distinct { are_apart row_eq rows ≡ true }
+        ensures def { IfOk result (λ v. v.def ≡ def) }
+        ensures at { IfOk result (λ v. v.at ≡ point) }
+        ensures versions { IfOk result (λ v. v.versions ≡ map (λ row. version_from 0 (one_row row)) (ascending row_cmp rows)) }
+        ensures rows { IfOk result (λ v. (n : ℕ) → shown n v ≡ ascending row_cmp rows) }
+    {
+        rows.sort();
+        let versions = first_versions(alloc, row_groups(alloc, rows)?)?;
+        Ok(ViewRows {
+            def,
+            at: point,
+            versions,
+        })
+    }
+
+    /// The rows of a grouped view's groups at a commit, and at every one below it.
+    pub fn grouped(
+        alloc: Global,
+        def: ViewDef,
+        point: u64,
+        groups: Groups,
+    ) -> Result<ViewRows, NoMemory>
+        requires grouped { def.grouped ≡ true }
+        requires of_view { IsOfView def groups }
+        requires netted { AreNetted (length (summed_columns def)) groups.groups }
+        ensures def { IfOk result (λ v. v.def ≡ def) }
+        ensures at { IfOk result (λ v. v.at ≡ point) }
+        ensures versions { IfOk result (λ v. v.versions ≡ map (version_from 0) groups.groups) }
+        ensures rows { IfOk result (λ v. (n : ℕ) → shown n v ≡ rows_of groups) }
+    {
+        let versions = first_versions(alloc, groups.into_groups())?;
+        Ok(ViewRows {
+            def,
+            at: point,
+            versions,
+        })
+    }
+
+    /// The commit to which the rows are maintained.
+    pub fn point(&self) -> u64
+        ensures { result ≡ self.now.at }
+    {
+        self.at
+    }
+
+    /// The rows after the last install at or below commit n, in ascending order; below the first install, those that were
+    /// given at first. Cost: a pass over the versions, and a copy of each row; of a grouped view of v rows, v log v
+    /// comparisons too.
+    pub fn read_at(&self, alloc: Global, n: u64) -> Result<Rows, NoMemory>
+        ensures { IfOk result (λ rows. rows ≡ shown n self.now) }
+    {
+        rows_at(alloc, &self.def, n, &self.versions)
+    }
+
+    /// Makes room for the versions of `rows` rows. What is kept stays as it was, and the room never shrinks.
+    pub fn reserve(&mut self, rows: u64) -> Result<(), NoMemory>
+        ensures def { self.new.def ≡ self.old.def }
+        ensures at { self.new.at ≡ self.old.at }
+        ensures same { self.new.versions ≡ self.old.versions }
+        ensures room { OnOk result (rows ≤ self.new.spare) }
+        ensures kept { self.old.spare ≤ self.new.spare }
+    {
+        self.versions.reserve(rows)
+    }
+
+    /// The rows that `read_at` gives from commit `hi` on once this change is installed there. Cost: copies of the groups
+    /// that are current and of the change, and the cost of the install.
+    pub fn preview(&self, alloc: Global, hi: u64, changes: &Signed) -> Result<Rows, NoMemory>
+        requires later { self.now.at < hi }
+        requires netted { AreNetted (sums_of self.now.def) changes.now }
+        requires rows { self.now.def.grouped ≡ false → ApplyToRows (shown self.now.at self.now) changes.now }
+        requires groups { self.now.def.grouped ≡ true → ApplyToGroups (groups_at self.now.at self.now.versions) changes.now }
+        ensures { IfOk result (λ rows. rows ≡ rows_listed self.now.def (groups_with changes.now (groups_at self.now.at self.now.versions))) }
+    {
+        let mut versions = copy_current(alloc, &self.versions)?;
+        versions.reserve(changes.len() as u64)?;
+        apply_all(changes.copy(alloc)?, hi, &mut versions);
+        rows_at(alloc, &self.def, hi, &versions)
+    }
+
+    /// Installs a change, whose commits end at `hi`: from there on the rows are those before with it, and below they stay.
+    /// It takes no memory. Cost: two binary searches for each changed row, and a move of four-byte places for each that
+    /// comes.
+    pub fn install(&mut self, hi: u64, changes: Signed)
+        requires later { self.old.at < hi }
+        requires netted { AreNetted (sums_of self.old.def) changes }
+        requires rows { self.old.def.grouped ≡ false → ApplyToRows (shown self.old.at self.old) changes }
+        requires groups { self.old.def.grouped ≡ true → ApplyToGroups (groups_at self.old.at self.old.versions) changes }
+        requires room { length changes ≤ self.old.spare }
+        ensures def { self.new.def ≡ self.old.def }
+        ensures at { self.new.at ≡ hi }
+        ensures before { (n : ℕ) → n < hi → groups_at n self.new.versions ≡ groups_at n self.old.versions }
+        ensures from { (n : ℕ) → hi ≤ n → groups_at n self.new.versions ≡ groups_with changes (groups_at self.old.at self.old.versions) }
+        ensures shown { self.old.def.grouped ≡ false → (n : ℕ) → hi ≤ n → shown n self.new ≡ with_changes changes (shown self.old.at self.old) }
+        ensures room { self.old.spare ≤ self.new.spare + length changes }
+    {
+        apply_all(changes, hi, &mut self.versions);
+        self.at = hi;
+    }
+
+    /// Drops the versions that ended at or below a commit. Reads at or above it stay, and those at or above the point. It
+    /// takes no memory. Cost: two passes over four-byte places.
+    pub fn prune(&mut self, number: u64)
+        ensures def { self.new.def ≡ self.old.def }
+        ensures at { self.new.at ≡ self.old.at }
+        ensures kept { self.new.versions ≡ filter (λ v. ends_after number v.until) self.old.versions }
+        ensures stays { (n : ℕ) → (number ≤ n) ⊎ (self.old.at ≤ n) → groups_at n self.new.versions ≡ groups_at n self.old.versions }
+        ensures room { self.old.spare ≤ self.new.spare }
+    {
+        self.versions.keep(&EndsAfter { number });
+    }
+}
