@@ -1,3 +1,4 @@
+pub mod AddedUp
 pub mod Changes
 pub mod Ending
 pub mod Entries

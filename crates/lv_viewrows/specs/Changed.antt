@@ -1,11 +1,16 @@
 -- Groups with changes.
-use Rattle.std.specs.Prelude.{ℕ, ℤ, pos, ◌+ℤ◌, List, [], ◌∷◌, ◌++◌, map, if◌then◌else◌, length}
+use Rattle.std.specs.Prelude.{ℕ, ℤ, FitsSigned, pos, ◌+ℤ◌, List, [], ◌∷◌, ◌++◌, map, if◌then◌else◌, length}
 use Rattle.std.specs.Int.{int_wrap, w128}
+use Rattle.std.specs.List.{AllByRecursion}
 use Rattle.lv_values.specs.declared.value.Value.{Value}
 use Rattle.lv_schema.specs.declared.signed.SignedRow.{SignedRow}
 use Rattle.lv_schema.specs.declared.view.ViewDef.{ViewDef}
 use Rattle.lv_schema.specs.Differences.{changes, summed_columns}
 use Rattle.lv_schema.specs.SignedRows.{entries_of}
+
+-- each sum is a number of 128 bits
+abbrev pub SumsFit : SignedRow → Type 0
+SumsFit s = AllByRecursion (FitsSigned w128) s.sums
 
 -- how many sums a view's groups and changes have
 abbrev pub sums_of : ViewDef → ℕ

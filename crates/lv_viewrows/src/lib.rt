@@ -2,10 +2,12 @@
 #![tactic(auto)]
 
 mod changing;
+mod laws;
 mod numbers;
 mod reading;
 mod version;
 mod viewrows;
 
+pub use laws::groups_with_changes_are_added_up;
 pub use version::GroupVersion;
 pub use viewrows::ViewRows;
