@@ -1,6 +1,6 @@
 -- What changes leave of the versions: their order, the groups that are there before, and the current groups after.
-use Rattle.std.proofs.Common.{◌≡◌, ℕ, ◌<◌, ◌≤◌, Bool, true, false, cond, List, [], ◌∷◌, ◌++◌, map, filter, Option, Some, None, refl, sym, ap, ap₂, ◌∙◌, subst, arith}
-use Rattle.std.specs.Prelude.{◌&&◌, nat_lt, nat_le, not, is_none}
+use Rattle.std.proofs.Common.{◌≡◌, ℕ, ◌<◌, Bool, true, false, cond, List, [], ◌∷◌, ◌++◌, map, filter, Option, Some, None, refl, sym, ap, ◌∙◌, subst, arith}
+use Rattle.std.specs.Prelude.{◌&&◌, nat_le, not, is_none}
 use Rattle.std.specs.List.{AllByRecursion}
 use Rattle.std.specs.Ordering.{is_eq, is_gt, ordering_reverse}
 use Rattle.std.specs.declared.cmp.Ordering.{Ordering}
@@ -16,12 +16,11 @@ use Rattle.lv_schema.specs.Once.{Ascends}
 use Rattle.lv_schema.specs.SignedRows.{entries_of}
 use Rattle.lv_schema.specs.Versions.{end_by, ends_after}
 use Rattle.lv_schema.proofs.Apart.{all_both, all_map, all_weaker, apart_map, apart_weaker}
-use Rattle.lv_schema.proofs.NetsLead.{row_itself, same_row}
+use Rattle.lv_schema.proofs.NetsLead.{same_row}
 use Rattle.lv_shelf.specs.Cuts.{Apart}
 use Rattle.lv_viewrows.specs.declared.version.GroupVersion.{GroupVersion}
-use Rattle.lv_viewrows.specs.Changed.{group_with}
 use Rattle.lv_viewrows.specs.Kept.{groups_at, is_there, version_from}
-use Rattle.lv_viewrows.specs.Standing.{EndsAtMost, EndsBy, IsBy, IsCount, MeetAll, Meets, Precedes, changed, changed_all, current, ended, is_current, joined, meets_by, precedes_by, put, version_cmp}
+use Rattle.lv_viewrows.specs.Standing.{EndsAtMost, EndsBy, IsBy, MeetAll, Meets, Precedes, changed, changed_all, current, ended, is_current, joined, meets_by, precedes_by, put, version_cmp}
 use Rattle.lv_viewrows.proofs.Ending.{came_before}
 use Rattle.lv_viewrows.proofs.Order.{IsNewTo, all_placed, new_by, placed_order}
 

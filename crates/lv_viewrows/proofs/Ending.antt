@@ -19,11 +19,11 @@ use Rattle.lv_viewrows.specs.declared.version.GroupVersion.{GroupVersion}
 use Rattle.lv_viewrows.specs.Standing.{EndsBy, IsCount, MeetAll, Meets, Precedes, comes_before, current, ended, ended_at, has_no_end, is_current, meets_by, precedes_by}
 use Rattle.lv_viewrows.proofs.Order.{less_of}
 
-both : (a b : Bool) → (a && b) ≡ true → (a ≡ true) × (b ≡ true)
+pub both : (a b : Bool) → (a && b) ≡ true → (a ≡ true) × (b ≡ true)
 both true b h = (refl, h)
 both false b h = cc
 
-no_until : (u : Option ℕ) → is_none u ≡ true → u ≡ None
+pub no_until : (u : Option ℕ) → is_none u ≡ true → u ≡ None
 no_until None h = refl
 no_until (Some k) h = cc
 

@@ -1,13 +1,12 @@
 -- The groups with changes: each row's entries determine an ascending list of groups.
-use Rattle.std.proofs.Common.{◌≡◌, ℕ, ℤ, pos, Bool, true, false, cond, List, [], ◌∷◌, ◌++◌, map, filter, get_or, Option, Some, None, refl, sym, ap, ap₂, ◌∙◌, subst}
-use Rattle.std.specs.Prelude.{◌&&◌, ◌||◌, not}
+use Rattle.std.proofs.Common.{◌≡◌, Bool, true, false, cond, List, [], ◌∷◌, ◌++◌, map, filter, get_or, Some, None, refl, sym, ap, ap₂, ◌∙◌, subst}
+use Rattle.std.specs.Prelude.{◌||◌}
 use Rattle.std.specs.List.{AllByRecursion, list_any}
 use Rattle.std.specs.Ordering.{is_eq, ordering_reverse}
 use Rattle.std.specs.declared.cmp.Ordering.{Ordering}
 use Rattle.std.specs.declared.cmp.Ordering.TheVariants.{Less, Equal, Greater}
 use Rattle.std.proofs.lemmas.List.{map-append}
 use Rattle.std.proofs.lemmas.List.Folds.{list_any-append}
-use Rattle.std.proofs.lemmas.Cmp.{tied_itself}
 use Rattle.lv_values.specs.declared.value.Value.{Value}
 use Rattle.lv_values.specs.Order.{row_cmp, row_eq}
 use Rattle.lv_values.specs.OrderLaws.{row_exact, row_total}
@@ -20,9 +19,8 @@ use Rattle.lv_schema.proofs.Apart.{all_filter, all_map, all_weaker}
 use Rattle.lv_schema.proofs.ChangeLists.{Covers, own_of, shown_changes}
 use Rattle.lv_schema.proofs.DifferencesAddUp.{any_once}
 use Rattle.lv_schema.proofs.NetsLead.{passes, row_itself, same_row}
-use Rattle.lv_schema.proofs.OnceLists.{entry_at, once_up}
-use Rattle.lv_viewrows.specs.Changed.{after_changes, group_with, groups_with}
-use Rattle.lv_viewrows.specs.Standing.{joined}
+use Rattle.lv_schema.proofs.OnceLists.{once_up}
+use Rattle.lv_viewrows.specs.Changed.{after_changes, groups_with}
 use Rattle.lv_viewrows.proofs.Changes.{RowsAscend, kept, none_above, settled}
 
 -- ---- ascending lists with the same entries of each row are one

@@ -1,6 +1,6 @@
 -- What an install asks and what it leaves.
 use Rattle.std.proofs.Common.{◌≡◌, ℕ, ◌<◌, ◌≤◌, ℤ, pos, ◌+ℤ◌, ◌⊎◌, inl, inr, Bool, true, false, cond, List, [], ◌∷◌, map, filter, Option, Some, None, refl, sym, ap, ap₂, ◌∙◌, subst, arith}
-use Rattle.std.specs.Prelude.{◌&&◌, ◌||◌, nat_lt, nat_le, neg_ℤ, is_none}
+use Rattle.std.specs.Prelude.{◌&&◌, nat_lt, nat_le, is_none}
 use Rattle.std.specs.List.{AllByRecursion}
 use Rattle.std.specs.Ordering.{is_eq, ordering_reverse}
 use Rattle.std.specs.declared.cmp.Ordering.{Ordering}
@@ -13,10 +13,9 @@ use Rattle.lv_values.specs.Order.{row_cmp, row_eq}
 use Rattle.lv_values.specs.OrderLaws.{row_total}
 use Rattle.lv_schema.specs.declared.signed.SignedRow.{SignedRow}
 use Rattle.lv_schema.specs.declared.view.ViewDef.{ViewDef}
-use Rattle.lv_schema.specs.Applicable.{ApplyToGroups, ApplyToRows, LeavesCount}
+use Rattle.lv_schema.specs.Applicable.{ApplyToGroups, LeavesCount}
 use Rattle.lv_schema.specs.Differences.{is_change}
 use Rattle.lv_schema.specs.Groups.{total}
-use Rattle.lv_schema.specs.Nets.{has_row}
 use Rattle.lv_schema.specs.SignedRows.{entries_of}
 use Rattle.lv_schema.specs.Versions.{ends_after}
 use Rattle.lv_schema.proofs.Apart.{all_both, all_filter, all_map, all_true, all_weaker, apart_filter}
@@ -27,6 +26,7 @@ use Rattle.lv_viewrows.specs.Changed.{groups_with}
 use Rattle.lv_viewrows.specs.Kept.{groups_at, is_there, one_row, version_from}
 use Rattle.lv_viewrows.specs.Standing.{AreVersions, EndsAtMost, EndsBy, IsBy, IsCount, IsRow, MeetAll, Meets, Precedes, changed_all, current, ended, has_no_end, is_current, joined, meets_by, precedes_by, put, version_cmp}
 use Rattle.lv_viewrows.proofs.Changes.{RowsAscend, all_current, none_above, settled}
+use Rattle.lv_viewrows.proofs.Ending.{both, no_until}
 use Rattle.lv_viewrows.proofs.Entries.{AtMostOne, at_most_one, groups_with_is}
 use Rattle.lv_viewrows.proofs.Order.{all_placed, groups_ascend}
 
@@ -68,21 +68,13 @@ pub all_there : (P : SignedRow → Type 0) (n : ℕ) (vs : List GroupVersion) �
 all_there P n vs a = all_map group_of P (filter (is_there n) vs) (all_filter (λ (v : GroupVersion). P v.group) (is_there n) vs a)
 
 -- ---- a row has one current version at most
-parts : (a b : Bool) → (a && b) ≡ true → (a ≡ true) × (b ≡ true)
-parts true b h = (refl, h)
-parts false b h = cc
-
-no_end : (u : Option ℕ) → is_none u ≡ true → u ≡ None
-no_end None h = refl
-no_end (Some k) h = cc
-
 not_both : (q : List Value) (v w : GroupVersion) → Precedes v w → is_current q v ≡ true → is_current q w ≡ true → ⊥
 not_both q v w r h k =
-    let first = parts (is_none v.until) (row_eq q v.group.row) h in
-    let second = parts (is_none w.until) (row_eq q w.group.row) k in
+    let first = both (is_none v.until) (row_eq q v.group.row) h in
+    let second = both (is_none w.until) (row_eq q w.group.row) k in
     let same : v.group.row ≡ q = sym (same_row q v.group.row first.1) in
     let tied : row_cmp v.group.row w.group.row ≡ Equal = ap (λ x. row_cmp x w.group.row) same ∙ equal (row_cmp q w.group.row) second.1 in
-    subst (EndsBy w.from) (no_end v.until first.0) (subst (λ o. precedes_by o v w) tied r).1
+    subst (EndsBy w.from) (no_until v.until first.0) (subst (λ o. precedes_by o v w) tied r).1
   where
     equal : (o : Ordering) → is_eq o ≡ true → o ≡ Equal
     equal Less e = cc

@@ -1,21 +1,20 @@
 -- An install that its conditions allow leaves what a view keeps in order, and the rows that it is to show.
-use Rattle.std.proofs.Common.{◌≡◌, ℕ, ◌<◌, ◌≤◌, Bool, true, false, List, map, length, Option, Some, None, refl, sym, ap, ◌∙◌, subst, arith}
+use Rattle.std.proofs.Common.{◌≡◌, ℕ, ◌≤◌, Bool, true, false, List, map, filter, length, Option, Some, None, refl, sym, ap, ◌∙◌, subst, arith}
 use Rattle.std.specs.Prelude.{if◌then◌else◌}
 use Rattle.std.specs.List.{AllByRecursion}
-use Rattle.lv_values.specs.declared.value.Value.{Value}
 use Rattle.lv_schema.specs.declared.signed.SignedRow.{SignedRow}
 use Rattle.lv_schema.specs.declared.view.ViewDef.{ViewDef}
-use Rattle.lv_schema.specs.Applicable.{AreNetted, ApplyToGroups, ApplyToRows, with_changes}
+use Rattle.lv_schema.specs.Applicable.{ApplyToGroups, ApplyToRows, with_changes}
 use Rattle.lv_schema.specs.Differences.{is_change, summed_columns}
 use Rattle.lv_schema.specs.SignedRows.{entries_of}
 use Rattle.lv_schema.proofs.Apart.{all_true, all_weaker}
 use Rattle.lv_group.specs.Gathered.{rows_of}
 use Rattle.lv_shelf.specs.Cuts.{Apart}
 use Rattle.lv_viewrows.specs.declared.version.GroupVersion.{GroupVersion}
-use Rattle.lv_viewrows.specs.Changed.{groups_with, sums_of}
-use Rattle.lv_viewrows.specs.Kept.{groups_at, one_row, rows_listed}
-use Rattle.lv_viewrows.specs.Standing.{AreVersions, EndsAtMost, IsBy, MeetAll, Precedes, changed_all, current, joined}
-use Rattle.lv_viewrows.proofs.Installing.{Fits, all_changed, all_met, entries_now, groups_after, groups_fit, now_ascend, now_rows}
+use Rattle.lv_viewrows.specs.Changed.{CanInstall, groups_with}
+use Rattle.lv_viewrows.specs.Kept.{ViewKept, groups_at, rows_listed}
+use Rattle.lv_viewrows.specs.Standing.{AreVersions, EndsAtMost, IsBy, MeetAll, Precedes, changed_all, current, has_no_end, joined}
+use Rattle.lv_viewrows.proofs.Installing.{Fits, all_changed, all_met, entries_now, groups_after, groups_fit, now_ascend, now_rows, open_groups}
 use Rattle.lv_viewrows.proofs.RowsOfJoins.{IsOneRow, row_of, rows_changed_are, rows_fit, rows_made}
 
 pub not_either : true ≡ false → ⊥
@@ -35,52 +34,63 @@ ends_later (Some k) m n le h = omega (arith, h)
 pub all_later : (m n : ℕ) (vs : List GroupVersion) → m ≤ n → AllByRecursion (IsBy m) vs → AllByRecursion (IsBy n) vs
 all_later m n vs le a = all_weaker (IsBy m) (IsBy n) (λ v h. (omega (arith, h.0), ends_later v.until m n le h.1)) vs a
 
-module _ (view : ViewDef) (at : ℕ) (vs : List GroupVersion) (held : AreVersions view at vs) (hi : ℕ) (later : at < hi) (list : List SignedRow) (netted : AreNetted (sums_of view) list) (rows : view.grouped ≡ false → ApplyToRows (rows_listed view (groups_at at vs)) list) (groups : view.grouped ≡ true → ApplyToGroups (groups_at at vs) list) where
+module _ (k : ViewKept) (held : AreVersions k.def k.at k.versions) (hi : ℕ) (list : List SignedRow) (can : CanInstall k hi list) where
   abbrev now : List SignedRow
-  now = groups_at at vs
+  now = groups_at k.at k.versions
 
   abbrev after : List GroupVersion
-  after = changed_all hi list vs
+  after = changed_all hi list k.versions
 
-  plain : view.grouped ≡ false → AllByRecursion (λ s. length s.sums ≡ 0) list
-  plain e = subst (λ n. AllByRecursion (λ (s : SignedRow). length s.sums ≡ n) list) (ap (λ b. if b then length (summed_columns view) else 0) e) netted.sums
+  plain : k.def.grouped ≡ false → AllByRecursion (λ s. length s.sums ≡ 0) list
+  plain e = subst (λ n. AllByRecursion (λ (s : SignedRow). length s.sums ≡ n) list) (ap (λ b. if b then length (summed_columns k.def) else 0) e) can.netted.sums
 
-  apply : view.grouped ≡ false → ApplyToRows (map row_of now) list
-  apply e = subst (λ r. ApplyToRows r list) (join_listed view now e) (rows e)
+  apply : k.def.grouped ≡ false → ApplyToRows (map row_of now) list
+  apply e = subst (λ r. ApplyToRows r list) (join_listed k.def now e) (can.rows e)
 
   fit : AllByRecursion (Fits now) list
-  fit = by view.grouped refl
+  fit = by k.def.grouped refl
     where
-      by : (b : Bool) → view.grouped ≡ b → AllByRecursion (Fits now) list
-      by true e = groups_fit view at vs held list (groups e)
-      by false e = rows_fit now list (now_ascend view at vs held) netted.ascend (now_rows view at vs held e) (apply e) (plain e)
+      by : (b : Bool) → k.def.grouped ≡ b → AllByRecursion (Fits now) list
+      by true e = groups_fit k.def k.at k.versions held list (can.groups e)
+      by false e = rows_fit now list (now_ascend k.def k.at k.versions held) can.netted.ascend (now_rows k.def k.at k.versions held e) (apply e) (plain e)
 
-  pub each_before : AllByRecursion (IsBy hi) vs
-  each_before = all_later at hi vs (omega (arith, later)) held.each
+  pub each_before : AllByRecursion (IsBy hi) k.versions
+  each_before = all_later k.at hi k.versions (omega (arith, can.later)) held.each
 
-  pub meet : AllByRecursion (MeetAll hi vs) list
-  meet = all_met view at vs held hi later list fit
+  pub meet : AllByRecursion (MeetAll hi k.versions) list
+  meet = all_met k.def k.at k.versions held hi can.later list fit
 
-  made : view.grouped ≡ false → AllByRecursion (λ s. is_change (joined (current s.row vs) s) ≡ true → IsOneRow (joined (current s.row vs) s)) list
+  made : k.def.grouped ≡ false → AllByRecursion (λ s. is_change (joined (current s.row k.versions) s) ≡ true → IsOneRow (joined (current s.row k.versions) s)) list
   made e =
-      all_weaker (λ s. is_change (joined (entries_of s.row now) s) ≡ true → IsOneRow (joined (entries_of s.row now) s)) (λ s. is_change (joined (current s.row vs) s) ≡ true → IsOneRow (joined (current s.row vs) s))
-      (λ s f. subst (λ gs. is_change (joined gs s) ≡ true → IsOneRow (joined gs s)) (entries_now view at vs held s.row) f) list
-      (rows_made now list (now_ascend view at vs held) netted.ascend (now_rows view at vs held e) (apply e) (plain e))
+      all_weaker (λ s. is_change (joined (entries_of s.row now) s) ≡ true → IsOneRow (joined (entries_of s.row now) s)) (λ s. is_change (joined (current s.row k.versions) s) ≡ true → IsOneRow (joined (current s.row k.versions) s))
+      (λ s f. subst (λ gs. is_change (joined gs s) ≡ true → IsOneRow (joined gs s)) (entries_now k.def k.at k.versions held s.row) f) list
+      (rows_made now list (now_ascend k.def k.at k.versions held) can.netted.ascend (now_rows k.def k.at k.versions held e) (apply e) (plain e))
 
-  pub kept_after : Apart Precedes after → AllByRecursion (IsBy hi) after → AreVersions view hi after
+  pub kept_after : Apart Precedes after → AllByRecursion (IsBy hi) after → AreVersions k.def hi after
   kept_after order each = record {
     order = order;
     each = each;
-    counts = all_changed (λ s. is_change s ≡ true) hi list vs netted.ascend held.counts (all_true (λ s. is_change (joined (current s.row vs) s) ≡ true → is_change (joined (current s.row vs) s) ≡ true) (λ s e. e) list);
-    rows = λ e. all_changed IsOneRow hi list vs netted.ascend (held.rows e) (made e);
+    counts = all_changed (λ s. is_change s ≡ true) hi list k.versions can.netted.ascend held.counts (all_true (λ s. is_change (joined (current s.row k.versions) s) ≡ true → is_change (joined (current s.row k.versions) s) ≡ true) (λ s e. e) list);
+    rows = λ e. all_changed IsOneRow hi list k.versions can.netted.ascend (held.rows e) (made e);
   }
 
   pub now_after : Apart Precedes after → AllByRecursion (IsBy hi) after → (n : ℕ) → hi ≤ n → groups_at n after ≡ groups_with list now
-  now_after order each n le = groups_after view at vs held hi list netted.ascend order each n le
+  now_after order each n le = groups_after k.def k.at k.versions held hi list can.netted.ascend order each n le
 
-  pub shown_after : Apart Precedes after → AllByRecursion (IsBy hi) after → view.grouped ≡ false → (n : ℕ) → hi ≤ n → rows_listed view (groups_at n after) ≡ with_changes list (rows_listed view now)
+  pub shown_after : Apart Precedes after → AllByRecursion (IsBy hi) after → k.def.grouped ≡ false → (n : ℕ) → hi ≤ n → rows_listed k.def (groups_at n after) ≡ with_changes list (rows_listed k.def now)
   shown_after order each e n le =
-      ap (rows_listed view) (now_after order each n le)
-      ∙ join_listed view (groups_with list now) e
-      ∙ rows_changed_are now list (now_ascend view at vs held) netted.ascend (now_rows view at vs held e) (apply e) (plain e)
-      ∙ ap (with_changes list) (sym (join_listed view now e))
+      ap (rows_listed k.def) (now_after order each n le)
+      ∙ join_listed k.def (groups_with list now) e
+      ∙ rows_changed_are now list (now_ascend k.def k.at k.versions held) can.netted.ascend (now_rows k.def k.at k.versions held e) (apply e) (plain e)
+      ∙ ap (with_changes list) (sym (join_listed k.def now e))
+
+-- the versions that have not ended take the change too
+pub still_can : (k : ViewKept) → AreVersions k.def k.at k.versions → (hi : ℕ) (list : List SignedRow) → CanInstall k hi list → CanInstall (record k { versions = filter has_no_end k.versions }) hi list
+still_can k held hi list can =
+    let same = open_groups k.at k.at k.versions held.each (omega arith) in
+    record {
+      later = can.later;
+      netted = can.netted;
+      rows = subst (λ gs. k.def.grouped ≡ false → ApplyToRows (rows_listed k.def gs) list) (sym same) can.rows;
+      groups = subst (λ gs. k.def.grouped ≡ true → ApplyToGroups gs list) (sym same) can.groups;
+    }

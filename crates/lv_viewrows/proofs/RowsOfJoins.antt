@@ -1,9 +1,9 @@
 -- The rows of a join view are groups of one tuple: what changes of them leave.
-use Rattle.std.proofs.Common.{◌≡◌, ℕ, ℤ, pos, ◌+ℤ◌, Bool, true, false, cond, List, [], ◌∷◌, ◌++◌, map, filter, length, get_or, refl, sym, ap, ap₂, ◌∙◌, subst, arith}
+use Rattle.std.proofs.Common.{◌≡◌, ℤ, pos, ◌+ℤ◌, Bool, true, false, cond, List, [], ◌∷◌, ◌++◌, map, filter, length, get_or, refl, sym, ap, ap₂, ◌∙◌, subst, arith}
 use Rattle.std.specs.Prelude.{◌&&◌, ◌||◌, neg_ℤ, not}
-use Rattle.std.specs.List.{AllByRecursion, list_any}
+use Rattle.std.specs.List.{AllByRecursion}
 use Rattle.std.specs.Ordering.{int_eq, is_eq}
-use Rattle.std.specs.declared.cmp.Ordering.TheVariants.{Less, Equal, Greater}
+use Rattle.std.specs.declared.cmp.Ordering.TheVariants.{Less}
 use Rattle.std.proofs.lemmas.List.Folds.{list_any-append}
 use Rattle.lv_values.specs.declared.value.Value.{Value}
 use Rattle.lv_values.specs.Order.{row_cmp, row_eq}
@@ -19,7 +19,7 @@ use Rattle.lv_schema.proofs.NetsLead.{any_ascending, any_lacking, only_rows, pas
 use Rattle.lv_viewrows.specs.Changed.{after_changes, group_with, groups_with, sums_added}
 use Rattle.lv_viewrows.specs.Kept.{one_row, version_from}
 use Rattle.lv_viewrows.specs.Standing.{IsCount, joined}
-use Rattle.lv_viewrows.proofs.Changes.{RowsAscend, kept, none_above}
+use Rattle.lv_viewrows.proofs.Changes.{RowsAscend, kept}
 use Rattle.lv_viewrows.proofs.Entries.{AtMostOne, at_most_one, entries_with, with_ascend}
 use Rattle.lv_viewrows.proofs.Installing.{Fits}
 

@@ -1,5 +1,5 @@
 -- Sums that are added place by place.
-use Rattle.std.proofs.Common.{◌≡◌, ℕ, zero, suc, ◌+◌, ◌<◌, ◌≤◌, ℤ, ◌+ℤ◌, min, List, [], ◌∷◌, length, get_or, set, refl, sym, ap, ◌∙◌, arith}
+use Rattle.std.proofs.Common.{◌≡◌, ℕ, zero, suc, ◌<◌, ◌≤◌, ℤ, ◌+ℤ◌, min, List, [], ◌∷◌, length, get_or, set, refl, sym, ap, arith}
 use Rattle.std.specs.Int.{int_wrap, w128}
 use Rattle.lv_viewrows.specs.Changed.{sums_added}
 

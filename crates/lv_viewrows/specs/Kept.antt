@@ -1,5 +1,5 @@
 -- What a view keeps: its rows or groups of several commits, each with the commits that it is there at.
-use Rattle.std.specs.Prelude.{ℕ, pos, Bool, true, if◌then◌else◌, ◌&&◌, nat_le, List, [], map, filter, Option, None}
+use Rattle.std.specs.Prelude.{ℕ, pos, Bool, if◌then◌else◌, ◌&&◌, nat_le, List, [], map, filter, None}
 use Rattle.lv_values.specs.declared.value.Value.{Value}
 use Rattle.lv_schema.specs.declared.signed.SignedRow.{SignedRow}
 use Rattle.lv_schema.specs.declared.view.ViewDef.{ViewDef}

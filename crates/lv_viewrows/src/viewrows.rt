@@ -3,12 +3,12 @@ ghost use Rattle.std.specs.Prelude.{◌≡◌, ◌⊎◌, ℕ, true, false, ◌+
 ghost use Rattle.std.specs.List.{AllByRecursion};
 ghost use Rattle.lv_values.specs.Ascending.{ascending};
 ghost use Rattle.lv_values.specs.Order.{row_cmp, row_eq};
-ghost use Rattle.lv_schema.specs.Applicable.{AreNetted, ApplyToGroups, ApplyToRows, with_changes};
+ghost use Rattle.lv_schema.specs.Applicable.{AreNetted, with_changes};
 ghost use Rattle.lv_schema.specs.Differences.{summed_columns};
 ghost use Rattle.lv_schema.specs.Once.{are_apart};
 ghost use Rattle.lv_schema.specs.Versions.{ends_after};
 ghost use Rattle.lv_group.specs.Gathered.{IsOfView, rows_of};
-ghost use Rattle.lv_viewrows.specs.Changed.{groups_with, sums_of};
+ghost use Rattle.lv_viewrows.specs.Changed.{CanInstall, groups_with};
 ghost use Rattle.lv_viewrows.specs.Kept.{groups_at, one_row, rows_listed, shown, version_from};
 ghost use Rattle.lv_viewrows.specs.Standing.{has_no_end};
 
@@ -197,10 +197,7 @@ impl ViewRows {
     /// The rows that `read_at` gives from commit `hi` on once this change is installed there. Cost: copies of the groups
     /// that are current and of the change, and the cost of the install.
     pub fn preview(&self, alloc: Global, hi: u64, changes: &Signed) -> Result<Rows, NoMemory>
-        requires later { self.now.at < hi }
-        requires netted { AreNetted (sums_of self.now.def) changes.now }
-        requires rows { self.now.def.grouped ≡ false → ApplyToRows (shown self.now.at self.now) changes.now }
-        requires groups { self.now.def.grouped ≡ true → ApplyToGroups (groups_at self.now.at self.now.versions) changes.now }
+        requires { CanInstall self.now hi changes.now }
         ensures { IfOk result (λ rows. rows ≡ rows_listed self.now.def (groups_with changes.now (groups_at self.now.at self.now.versions))) }
     {
         let mut versions = copy_current(alloc, &self.versions)?;
@@ -213,10 +210,7 @@ impl ViewRows {
     /// It takes no memory. Cost: two binary searches for each changed row, and a move of four-byte places for each that
     /// comes.
     pub fn install(&mut self, hi: u64, changes: Signed)
-        requires later { self.old.at < hi }
-        requires netted { AreNetted (sums_of self.old.def) changes }
-        requires rows { self.old.def.grouped ≡ false → ApplyToRows (shown self.old.at self.old) changes }
-        requires groups { self.old.def.grouped ≡ true → ApplyToGroups (groups_at self.old.at self.old.versions) changes }
+        requires change { CanInstall self.old hi changes }
         requires room { length changes ≤ self.old.spare }
         ensures def { self.new.def ≡ self.old.def }
         ensures at { self.new.at ≡ hi }

@@ -2,7 +2,7 @@ use Rattle.std.proofs.Common.{◌≡◌, ◌++◌, ◌∷◌, [], length, length
 use Rattle.std.specs.List.{AllByRecursion}
 use Rattle.lv_shelf.specs.Cuts.{Apart}
 use Rattle.lv_viewrows.specs.Standing.{IsBy, MeetAll, Precedes, changed_all}
-use Rattle.lv_viewrows.proofs.Changes.{RowsAscend, ascend_last, changed_each, changed_last, changed_meets, changed_order, last_met, rest_met}
+use Rattle.lv_viewrows.proofs.Changes.{RowsAscend, ascend_last, changed_each, changed_last, changed_order, last_met, rest_met}
 use Rattle.lv_viewrows.proofs.changing.apply_all.Goals as goal
 
 pub loop-change-preserved : goal.loop-change-preserved

@@ -1,4 +1,4 @@
-use Rattle.std.proofs.Common.{◌≡◌, ◌-◌, suc, map, sym, ap, ◌∙◌, arith}
+use Rattle.std.proofs.Common.{◌≡◌, ◌-◌, suc, sym, ap, ◌∙◌, arith}
 use Rattle.lv_viewrows.specs.Kept.{version_from}
 use Rattle.lv_viewrows.specs.Standing.{joined}
 use Rattle.lv_viewrows.proofs.Ending.{counted, current_in_front, none_in_front, other_in_front}

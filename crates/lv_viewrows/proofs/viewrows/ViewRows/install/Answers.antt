@@ -1,8 +1,8 @@
-use Rattle.std.proofs.Common.{◌≡◌, ◌<◌, true, false, sym, ap, ◌∙◌, subst, arith}
+use Rattle.std.proofs.Common.{◌≡◌, false, sym, ap, ◌∙◌, subst}
 use Rattle.std.specs.List.{AllByRecursion}
-use Rattle.lv_schema.specs.Applicable.{AreNetted, ApplyToGroups, ApplyToRows, with_changes}
+use Rattle.lv_schema.specs.Applicable.{with_changes}
 use Rattle.lv_shelf.specs.Cuts.{Apart}
-use Rattle.lv_viewrows.specs.Changed.{groups_with, sums_of}
+use Rattle.lv_viewrows.specs.Changed.{CanInstall, groups_with}
 use Rattle.lv_viewrows.specs.Kept.{ViewKept, groups_at, rows_listed, shown}
 use Rattle.lv_viewrows.specs.Standing.{AreVersions, IsBy, Precedes}
 use Rattle.lv_viewrows.proofs.Changes.{all_before}
@@ -13,28 +13,22 @@ pub apply_all-requires-clause-meet : goal.apply_all-requires-clause-meet
 apply_all-requires-clause-meet c =
     let list = c.args.changes in
     let s = c.self.inside in
-    let vs = s.versions.list in
     let hi = c.args.hi in
-    let later : s.at < hi = subst (λ (k : ViewKept). k.at < hi) (sym c.self.view_is) c.requires.later in
-    let netted = subst (λ (k : ViewKept). AreNetted (sums_of k.def) list) (sym c.self.view_is) c.requires.netted in
-    let rows = subst (λ (k : ViewKept). k.def.grouped ≡ false → ApplyToRows (shown k.at k) list) (sym c.self.view_is) c.requires.rows in
-    let groups = subst (λ (k : ViewKept). k.def.grouped ≡ true → ApplyToGroups (groups_at k.at k.versions) list) (sym c.self.view_is) c.requires.groups in
-    meet s.def s.at vs c.self.invariant hi later list netted rows groups
+    let k : ViewKept = record { def = s.def; at = s.at; versions = s.versions.list; spare = s.versions.spare } in
+    let can : CanInstall k hi list = subst (λ (k : ViewKept). CanInstall k hi c.args.changes) (sym c.self.view_is) c.requires.change in
+    meet k c.self.invariant hi list can
 
 pub invariant_of-self : goal.invariant_of-self
 invariant_of-self c =
     let list = c.args.changes in
     let s = c.self.inside in
-    let vs = s.versions.list in
     let hi = c.args.hi in
-    let later : s.at < hi = subst (λ (k : ViewKept). k.at < hi) (sym c.self.view_is) c.requires.later in
-    let netted = subst (λ (k : ViewKept). AreNetted (sums_of k.def) list) (sym c.self.view_is) c.requires.netted in
-    let rows = subst (λ (k : ViewKept). k.def.grouped ≡ false → ApplyToRows (shown k.at k) list) (sym c.self.view_is) c.requires.rows in
-    let groups = subst (λ (k : ViewKept). k.def.grouped ≡ true → ApplyToGroups (groups_at k.at k.versions) list) (sym c.self.view_is) c.requires.groups in
+    let k : ViewKept = record { def = s.def; at = s.at; versions = s.versions.list; spare = s.versions.spare } in
+    let can : CanInstall k hi list = subst (λ (k : ViewKept). CanInstall k hi c.args.changes) (sym c.self.view_is) c.requires.change in
     let changed = c.apply_all.ensures.changed in
     let order = subst (Apart Precedes) changed c.apply_all.ensures.order in
     let each = subst (AllByRecursion (IsBy hi)) changed c.apply_all.ensures.each in
-    subst (AreVersions s.def hi) (sym changed) (kept_after s.def s.at vs c.self.invariant hi later list netted rows groups order each)
+    subst (AreVersions s.def hi) (sym changed) (kept_after k c.self.invariant hi list can order each)
 
 pub returns-clause-before : goal.returns-clause-before
 returns-clause-before c = λ n below.
@@ -45,29 +39,23 @@ pub returns-clause-from : goal.returns-clause-from
 returns-clause-from c = λ n le.
     let list = c.args.changes in
     let s = c.self.inside in
-    let vs = s.versions.list in
     let hi = c.args.hi in
-    let later : s.at < hi = subst (λ (k : ViewKept). k.at < hi) (sym c.self.view_is) c.requires.later in
-    let netted = subst (λ (k : ViewKept). AreNetted (sums_of k.def) list) (sym c.self.view_is) c.requires.netted in
-    let rows = subst (λ (k : ViewKept). k.def.grouped ≡ false → ApplyToRows (shown k.at k) list) (sym c.self.view_is) c.requires.rows in
-    let groups = subst (λ (k : ViewKept). k.def.grouped ≡ true → ApplyToGroups (groups_at k.at k.versions) list) (sym c.self.view_is) c.requires.groups in
+    let k : ViewKept = record { def = s.def; at = s.at; versions = s.versions.list; spare = s.versions.spare } in
+    let can : CanInstall k hi list = subst (λ (k : ViewKept). CanInstall k hi c.args.changes) (sym c.self.view_is) c.requires.change in
     let changed = c.apply_all.ensures.changed in
     let order = subst (Apart Precedes) changed c.apply_all.ensures.order in
     let each = subst (AllByRecursion (IsBy hi)) changed c.apply_all.ensures.each in
-    ap (groups_at n) changed ∙ now_after s.def s.at vs c.self.invariant hi later list netted rows groups order each n le ∙ ap (λ (k : ViewKept). groups_with list (groups_at k.at k.versions)) c.self.view_is
+    ap (groups_at n) changed ∙ now_after k c.self.invariant hi list can order each n le ∙ ap (λ (k : ViewKept). groups_with list (groups_at k.at k.versions)) c.self.view_is
 
 pub returns-clause-shown : goal.returns-clause-shown
 returns-clause-shown c = λ join n le.
     let list = c.args.changes in
     let s = c.self.inside in
-    let vs = s.versions.list in
     let hi = c.args.hi in
-    let later : s.at < hi = subst (λ (k : ViewKept). k.at < hi) (sym c.self.view_is) c.requires.later in
-    let netted = subst (λ (k : ViewKept). AreNetted (sums_of k.def) list) (sym c.self.view_is) c.requires.netted in
-    let rows = subst (λ (k : ViewKept). k.def.grouped ≡ false → ApplyToRows (shown k.at k) list) (sym c.self.view_is) c.requires.rows in
-    let groups = subst (λ (k : ViewKept). k.def.grouped ≡ true → ApplyToGroups (groups_at k.at k.versions) list) (sym c.self.view_is) c.requires.groups in
+    let k : ViewKept = record { def = s.def; at = s.at; versions = s.versions.list; spare = s.versions.spare } in
+    let can : CanInstall k hi list = subst (λ (k : ViewKept). CanInstall k hi c.args.changes) (sym c.self.view_is) c.requires.change in
     let changed = c.apply_all.ensures.changed in
     let order = subst (Apart Precedes) changed c.apply_all.ensures.order in
     let each = subst (AllByRecursion (IsBy hi)) changed c.apply_all.ensures.each in
     let plain : s.def.grouped ≡ false = ap (λ (k : ViewKept). k.def.grouped) c.self.view_is ∙ join in
-    ap (λ after. rows_listed s.def (groups_at n after)) changed ∙ shown_after s.def s.at vs c.self.invariant hi later list netted rows groups order each plain n le ∙ ap (λ (k : ViewKept). with_changes list (shown k.at k)) c.self.view_is
+    ap (λ after. rows_listed s.def (groups_at n after)) changed ∙ shown_after k c.self.invariant hi list can order each plain n le ∙ ap (λ (k : ViewKept). with_changes list (shown k.at k)) c.self.view_is

@@ -2,7 +2,6 @@ use Rattle.std.proofs.Common.{◌≡◌, List, map, sym, ap, ◌∙◌, subst}
 use Rattle.lv_values.specs.Ascending.{ascending}
 use Rattle.lv_values.specs.Order.{row_cmp}
 use Rattle.lv_values.specs.OrderLaws.{row_total}
-use Rattle.lv_schema.specs.declared.signed.SignedRow.{SignedRow}
 use Rattle.lv_schema.proofs.Apart.{ascends_ascending}
 use Rattle.lv_viewrows.specs.declared.version.GroupVersion.{GroupVersion}
 use Rattle.lv_viewrows.specs.Kept.{groups_at, one_row, rows_listed, version_from}
