@@ -1,0 +1,5 @@
+pub mod PlaceSearch
+pub mod FirstWritten
+pub mod Noting
+pub mod Sessions
+pub mod SessionChanged
