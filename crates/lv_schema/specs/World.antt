@@ -1,6 +1,6 @@
 -- The plain world: what statements see, and beside it what maintenance sees. It keeps every snapshot whole. A
--- statement's case is a function of what statements see and of what becomes of its record, so maintenance reaches an
--- answer through the journal alone: a mark lengthens it, and it may then be too long for a record.
+-- statement's case is a function of what statements see and of what becomes of its record. So no answer but that to SHOW
+-- TASKS can depend on maintenance, save that marks lengthen the journal and can so bring the fault of a full one.
 use Rattle.std.specs.Prelude.{ℕ, zero, suc, false, Option, Some, None, List, [], ◌∷◌, ◌++◌, length, slice_index, slice_index_or, replicate, unwrap_or, min}
 use Rattle.lv_schema.specs.declared.action.Action.{Action}
 use Rattle.lv_schema.specs.declared.cond.Cond.TheVariants.{True}

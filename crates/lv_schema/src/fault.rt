@@ -33,7 +33,7 @@ pub enum LimitKind {
 pub enum ProfileRule {
     /// FROM names tables alone.
     Base,
-    /// A grouped view lists its GROUP BY columns and aggregates, and no others.
+    /// A list with `SUM` or `COUNT` has a GROUP BY; and its plain columns are those of the GROUP BY, each of them listed.
     Group,
     /// A grouped view has exactly one `COUNT(*)`.
     Count,
@@ -52,7 +52,7 @@ pub enum Fault {
     Ambiguous { name: Text },
     /// 4: the name is used already.
     InUse { name: Text },
-    /// 5: a number stands where a text belongs, or the other way round.
+    /// 5: a number stands where a text belongs, or the other way round; or a tuple has not one value for each column.
     Kinds { byte: u32 },
     /// 6: a limit is passed.
     Limit { which: LimitKind, most: u32 },
@@ -68,7 +68,7 @@ pub enum Fault {
     KeyAssigned { name: Text },
     /// 12: a number outside signed 64 bits.
     Range { number: i128 },
-    /// 13: the key is in the table.
+    /// 13: the key is in the table, or in an earlier tuple of the INSERT.
     Duplicate { table: u32, key: Row },
     /// 14: the transaction's table would pass 65,535 rows.
     TableFull { table: u32 },
