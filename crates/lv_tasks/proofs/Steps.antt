@@ -1,7 +1,7 @@
 -- A step, task by task.
 use Rattle.std.proofs.Common.{◌≡◌, ℕ, zero, suc, ◌+◌, ◌-◌, ◌<◌, ◌≤◌, Bool, true, false, List, [], ◌∷◌, refl, sym, ◌∙◌, ap, arith, length, get_or, take, drop, map, Some, add-one, drop-cons}
 use Rattle.std.proofs.lemmas.List.{get_or-take, length-take, drop_all}
-use Rattle.lv_schema.specs.Upkeep.{step_end}
+use Rattle.lv_schema.specs.StepPlans.{step_end}
 use Rattle.lv_schema.proofs.PlannedSteps.{reached, step_end_is}
 use Rattle.lv_tasks.specs.declared.task.Task.{Task}
 

@@ -1,7 +1,7 @@
 //! The tasks of one view.
 ghost use Rattle.std.specs.Prelude.{◌≡◌, ◌≤◌, ◌<◌, ◌+◌, ◌^◌, ◌++◌, ◌∷◌, [], length, map, take, drop, OnOk, OnErr};
 ghost use Rattle.std.specs.VecDeque.{deque_capacity};
-ghost use Rattle.lv_schema.specs.Upkeep.{step_end};
+ghost use Rattle.lv_schema.specs.StepPlans.{step_end};
 ghost use Rattle.lv_tasks.specs.declared.task.Task.{Task};
 ghost use Rattle.lv_tasks.specs.Kept.{IsLater, actions_in, commits_between, pairs_of, pending_in, tasks_above};
 ghost use Rattle.lv_tasks.specs.Queues.{Ascend, IsCut, is_upto};

@@ -1,7 +1,7 @@
 //! The tasks of all views.
 ghost use Rattle.std.specs.Prelude.{◌≡◌, ◌≤◌, ◌<◌, ◌+◌, ◌^◌, ◌++◌, ◌∷◌, [], length, map, slice_set, OnOk, OnErr, IfOk};
 ghost use Rattle.lv_values.specs.Room.{Roomy};
-ghost use Rattle.lv_schema.specs.Upkeep.{step_end};
+ghost use Rattle.lv_schema.specs.StepPlans.{step_end};
 ghost use Rattle.lv_tasks.specs.declared.task.Task.{Task};
 ghost use Rattle.lv_tasks.specs.Kept.{IsLater, actions_in, commits_between, no_tasks, pairs_of, pending_in, tasks_above, tasks_kept};
 ghost use Rattle.lv_tasks.specs.Queues.{HaveRoom, lists_of, queue_at};

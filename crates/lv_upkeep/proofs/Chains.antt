@@ -3,7 +3,7 @@ use Rattle.std.proofs.Common.{◌≡◌, ℕ, zero, suc, ◌+◌, ◌-◌, ◌<�
 use Rattle.std.specs.Prelude.{◌&&◌, nat_lt, nat_le, option_map}
 use Rattle.std.proofs.lemmas.Bool.Decides.{nat_tests}
 use Rattle.lv_schema.specs.declared.forced.Forced.{Forced}
-use Rattle.lv_schema.specs.Upkeep.{step_end, step_of, then_more}
+use Rattle.lv_schema.specs.StepPlans.{step_end, step_of, then_more}
 use Rattle.lv_schema.proofs.Numbers.{Each}
 use Rattle.lv_schema.proofs.PlannedSteps.{reached, reached_keeps, step_end_is}
 use Rattle.lv_tasks.specs.declared.task.Task.{Task}

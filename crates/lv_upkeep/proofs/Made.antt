@@ -7,7 +7,7 @@ use Rattle.std.proofs.Math.Seq.{map-set_same, take-set-lt}
 use Rattle.std.proofs.lemmas.List.{get_or-map, length-map, length-set, length-take, map-set, take_more}
 use Rattle.lv_schema.specs.declared.forced.Forced.{Forced}
 use Rattle.lv_schema.specs.declared.pending.Pending.{Pending}
-use Rattle.lv_schema.specs.Upkeep.{step_of}
+use Rattle.lv_schema.specs.StepPlans.{step_of}
 use Rattle.lv_tasks.specs.declared.task.Task.{Task}
 use Rattle.lv_tasks.specs.Kept.{pairs_of, pending_in, tasks_above, tasks_kept}
 use Rattle.lv_upkeep.specs.declared.maintained.Maintained.{Maintained}

@@ -2,7 +2,7 @@
 use Rattle.std.proofs.Common.{◌≡◌, ℕ, ◌+◌, ◌<◌, ◌≤◌, List, [], ◌∷◌, ◌++◌, refl, ◌∙◌, ap, arith, length, get_or, map, take, Some}
 use Rattle.std.specs.Prelude.{min, slice_get}
 use Rattle.std.proofs.lemmas.List.{take_more}
-use Rattle.lv_schema.specs.Upkeep.{least}
+use Rattle.lv_schema.specs.World.{least}
 use Rattle.lv_upkeep.specs.Kept.{least_in}
 use Rattle.lv_upkeep.specs.declared.maintained.Maintained.{Maintained}
 

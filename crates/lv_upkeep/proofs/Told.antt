@@ -4,7 +4,8 @@ use Rattle.std.specs.Prelude.{◌&&◌, nat_lt, nat_le, option_map}
 use Rattle.std.proofs.lemmas.Bool.Decides.{nat_tests}
 use Rattle.lv_schema.specs.declared.forced.Forced.{Forced}
 use Rattle.lv_schema.specs.declared.view.ViewDef.{ViewDef}
-use Rattle.lv_schema.specs.Upkeep.{forced, forced_from, is_inside, is_pending, is_task, pending, planned, planned_from, step_end, step_of, then_more}
+use Rattle.lv_schema.specs.StepPlans.{forced, forced_from, is_inside, planned, planned_from, step_end, step_of, then_more}
+use Rattle.lv_schema.specs.Tasks.{is_pending, is_task, pending}
 use Rattle.lv_schema.specs.World.{Visible, World, last, live, numbers, point, view_at}
 use Rattle.lv_schema.proofs.Numbers.{Each, each_weaker, numbers_each}
 use Rattle.lv_schema.proofs.PlannedSteps.{planned_is}

@@ -1,7 +1,7 @@
 -- When the upkeep that is kept stands for that of a world.
 use Rattle.std.specs.Prelude.{◌≡◌, ℕ, ◌<◌, map, length}
 use Rattle.lv_schema.specs.declared.view.ViewDef.{ViewDef}
-use Rattle.lv_schema.specs.Upkeep.{actions_on, pending_now}
+use Rattle.lv_schema.specs.Tasks.{actions_on, pending_now}
 use Rattle.lv_schema.specs.World.{Visible, World, commit_at, view_at}
 use Rattle.lv_tasks.specs.declared.task.Task.{Task}
 use Rattle.lv_tasks.specs.Kept.{tasks_kept}

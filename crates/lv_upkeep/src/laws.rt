@@ -1,7 +1,7 @@
 //! Laws about the definitions: each is the contract of a function that does nothing.
 ghost use Rattle.std.specs.Prelude.{◌≡◌, ℕ, ◌<◌, List, length};
 ghost use Rattle.std.specs.List.{AllByRecursion};
-ghost use Rattle.lv_schema.specs.Upkeep.{forced, is_inside, planned};
+ghost use Rattle.lv_schema.specs.StepPlans.{forced, is_inside, planned};
 ghost use Rattle.lv_schema.specs.World.{World, live};
 ghost use Rattle.lv_upkeep.specs.Kept.{UpkeepKept, forced_in, planned_in};
 ghost use Rattle.lv_upkeep.specs.Stands.{UpkeepStands};

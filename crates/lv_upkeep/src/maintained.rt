@@ -1,6 +1,6 @@
 //! How far a view is maintained.
 ghost use Rattle.std.specs.Prelude.{◌≡◌, map};
-ghost use Rattle.lv_schema.specs.Upkeep.{least};
+ghost use Rattle.lv_schema.specs.World.{least};
 
 /// The commit to which a view is maintained, and the one to which it is marked as maintained.
 #[derive(Clone, Copy, Debug, PartialEq, Eq)]

@@ -1,6 +1,6 @@
 //! The upkeep of all views.
 ghost use Rattle.std.specs.Prelude.{◌≡◌, ◌≤◌, ◌<◌, ◌+◌, ◌^◌, ℕ, length, slice_index, IfOk, OnOk, OnErr, None, Some};
-ghost use Rattle.lv_schema.specs.Upkeep.{step_of};
+ghost use Rattle.lv_schema.specs.StepPlans.{step_of};
 ghost use Rattle.lv_tasks.specs.Kept.{IsLater, actions_in, tasks_kept};
 ghost use Rattle.lv_upkeep.specs.Kept.{claim_kept, forced_in, least_in, planned_in, tasks_in, unclaimed_in, upkeep_empty};
 ghost use Rattle.lv_upkeep.specs.Moves.{upkeep_claimed, upkeep_marked, upkeep_stepped, upkeep_with_task, upkeep_with_view};

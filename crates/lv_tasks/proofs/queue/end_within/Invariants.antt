@@ -1,5 +1,5 @@
 use Rattle.std.proofs.Common.{◌≡◌, ◌≤◌, Some}
-use Rattle.lv_schema.specs.Upkeep.{step_end}
+use Rattle.lv_schema.specs.StepPlans.{step_end}
 use Rattle.lv_schema.proofs.PlannedSteps.{reached}
 use Rattle.lv_tasks.proofs.Steps.{commits_within}
 use Rattle.lv_tasks.proofs.queue.end_within.Given as goal

@@ -1,5 +1,5 @@
 use Rattle.std.proofs.Common.{◌≡◌, take}
-use Rattle.lv_schema.specs.Upkeep.{least}
+use Rattle.lv_schema.specs.World.{least}
 use Rattle.lv_upkeep.proofs.Points.{points_of}
 use Rattle.lv_upkeep.proofs.maintained.least_point.Given as goal
 

@@ -1,6 +1,6 @@
 use Rattle.std.proofs.Common.{◌++◌, ◌∷◌, [], ◌-◌, ◌∙◌, List, sym, ap, arith, append_assoc}
 use Rattle.lv_schema.specs.declared.forced.Forced.{Forced}
-use Rattle.lv_schema.specs.Upkeep.{step_of}
+use Rattle.lv_schema.specs.StepPlans.{step_of}
 use Rattle.lv_tasks.specs.Kept.{tasks_kept}
 use Rattle.lv_upkeep.specs.Kept.{forced_among}
 use Rattle.lv_upkeep.proofs.Chains.{chain_more, step_rises}

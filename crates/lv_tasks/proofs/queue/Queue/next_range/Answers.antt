@@ -1,6 +1,6 @@
 use Rattle.std.proofs.Common.{◌∙◌, sym, ap}
 use Rattle.lv_values.specs.Room.{Roomy}
-use Rattle.lv_schema.specs.Upkeep.{step_end}
+use Rattle.lv_schema.specs.StepPlans.{step_end}
 use Rattle.lv_tasks.specs.declared.task.Task.{Task}
 use Rattle.lv_tasks.specs.Kept.{commits_between}
 use Rattle.lv_tasks.proofs.Cuts.{commits_cut}

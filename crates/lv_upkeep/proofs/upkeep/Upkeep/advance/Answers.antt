@@ -1,5 +1,5 @@
 use Rattle.std.proofs.Common.{◌<◌, ◌∙◌, List, length, sym, ap, subst, slice_index, slice_set}
-use Rattle.lv_schema.specs.Upkeep.{step_of}
+use Rattle.lv_schema.specs.StepPlans.{step_of}
 use Rattle.lv_tasks.specs.declared.task.Task.{Task}
 use Rattle.lv_upkeep.specs.declared.maintained.Maintained.{Maintained}
 use Rattle.lv_upkeep.specs.Kept.{UpkeepRoom}
