@@ -278,7 +278,7 @@ module _ (tables : List TableDef) (views : List ViewDef) (sound : IsSchema table
       let columns : insert_columns tables (rel_named tables views table.name) ≡ here.columns = ap (insert_columns tables) at.0 in
       let kinds : flat_map (tuple_kinds here.columns) tuples ≡ [] = subst (λ cs. flat_map (tuple_kinds cs) tuples ≡ []) columns clean.kinds_agree in
       let short : AllByRecursion IsShort (flat_map tuple_texts tuples) = all_mapped (λ n. n ≤ 256) length (flat_map tuple_texts tuples) (none_over 256 (lengths (flat_map tuple_texts tuples)) clean.small.0) in
-      (at.1, rw size spoken.0, rw size (none_over 1000 (length tuples ∷ []) clean.small.1.0).0, rows_so here.columns tuples (kinds_here at) kinds clean.in_range spoken.1 short)
+      (at.1, rw size (none_over 1000 (length tuples ∷ []) clean.small.1.0).0, rows_so here.columns tuples (kinds_here at) kinds clean.in_range spoken.1 short)
 
   update_fits : (sets : List Assign) (c : CondTree) → IsSpoken (Update table sets c) → IsFaultless tables views (Update table sets c)
       → IsBoundChange tables (change.Update (Number tables views table) (map (bound_set (source ∷ [])) sets) (bound_cond (source ∷ []) c))
@@ -299,7 +299,6 @@ module _ (tables : List TableDef) (views : List ViewDef) (sound : IsSchema table
       let table_kinds : list_all (λ c. is_table_kind c.kind) source.columns ≡ true = subst (λ cs. list_all (λ c. is_table_kind c.kind) cs ≡ true) (sym (columns_here at)) (kinds_here at) in
       let few : length (sides_of c) ≤ 16 = (none_over 16 (length (sides_of c) ∷ []) clean.small.0).0 in (
         at.1,
-        rw (length-map sets (bound_set (source ∷ []))) spoken.0,
         sets_so source here.key table_kinds here (sym (columns_here at)) refl sets known.0 kinds.0 clean.keys_kept clean.in_range spoken.1 short.0,
         sets_apart source here.key table_kinds sets known.0 clean.free,
         cond_fits (here.columns ∷ []) (source ∷ []) c (ap (λ (cs : List Column). cs ∷ []) (columns_here at)) spoken.2 known.1 few (all_back (λ n. n ≤ 256) length (compared_texts (sides_of c)) short.1) kinds.1,

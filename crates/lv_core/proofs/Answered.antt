@@ -64,7 +64,7 @@ short_sets def (s ∷ sets) e =
 
 pub short_change : (tables : List TableDef) (change : Change) → IsBoundChange tables change → has_short_amounts change ≡ true
 short_change tables (Insert table rows) is = refl
-short_change tables (Update table sets c) is = short_sets (table_at tables table) sets is.2
+short_change tables (Update table sets c) is = short_sets (table_at tables table) sets is.1
 short_change tables (Delete table c) is = refl
 
 spares_key : (def : TableDef) (sets : List Set) → list_all (is_bound_set def) sets ≡ true → list_all (λ s. not (list_any (λ at. at == s.column) def.key)) sets ≡ true
@@ -74,7 +74,7 @@ spares_key def (s ∷ sets) e =
 
 pub change_leaves_key : (tables : List TableDef) (change : Change) → IsBoundChange tables change → leaves_key (table_at tables (changed_table change)).key change ≡ true
 change_leaves_key tables (Insert table rows) is = refl
-change_leaves_key tables (Update table sets c) is = spares_key (table_at tables table) sets is.2
+change_leaves_key tables (Update table sets c) is = spares_key (table_at tables table) sets is.1
 change_leaves_key tables (Delete table c) is = refl
 
 bound_in_use : (tables : List TableDef) (change : Change) → IsBoundChange tables change → changed_table change < length tables

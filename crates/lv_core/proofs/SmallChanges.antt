@@ -64,10 +64,10 @@ set_is_small def k s h =
 pub bound_is_small : (tables : List TableDef) (views : List ViewDef) (change : Change) → IsSchema tables views → IsBoundChange tables change → IsSmallChange change
 bound_is_small tables views (Insert table rows) schema is =
     let def = table_at tables table in
-    all_tests (row_fits def.columns) (AllByRecursion IsSmall) (λ row f. row_is_small def.columns row (schema.each_table table is.0).kinds f) rows is.3
+    all_tests (row_fits def.columns) (AllByRecursion IsSmall) (λ row f. row_is_small def.columns row (schema.each_table table is.0).kinds f) rows is.2
 bound_is_small tables views (Update table sets c) schema is =
     let def = table_at tables table in
-    all_tests (is_bound_set def) (λ s. IsSmallValue s.value) (set_is_small def (schema.each_table table is.0).kinds) sets is.2
+    all_tests (is_bound_set def) (λ s. IsSmallValue s.value) (set_is_small def (schema.each_table table is.0).kinds) sets is.1
 bound_is_small tables views (Delete table c) schema is = tt
 
 -- a bound statement that is a change gives small values

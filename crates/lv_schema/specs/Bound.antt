@@ -259,9 +259,9 @@ is_bound_set def s = column_set def.columns (slice_get def.columns s.column) s.v
 
 abbrev pub IsBoundChange : List TableDef → Change → Type 0
 IsBoundChange tables (Insert table rows) =
-    (table < length tables) × (0 < length rows) × (length rows ≤ 1000) × (list_all (row_fits (table_at tables table).columns) rows ≡ true)
+    (table < length tables) × (length rows ≤ 1000) × (list_all (row_fits (table_at tables table).columns) rows ≡ true)
 IsBoundChange tables (Update table sets c) =
-    (table < length tables) × (0 < length sets) × (list_all (is_bound_set (table_at tables table)) sets ≡ true) × (are_apart nat_eq (map (λ s. s.column) sets) ≡ true)
+    (table < length tables) × (list_all (is_bound_set (table_at tables table)) sets ≡ true) × (are_apart nat_eq (map (λ s. s.column) sets) ≡ true)
     × IsBoundCond ((table_at tables table).columns ∷ []) c
 IsBoundChange tables (Delete table c) = (table < length tables) × IsBoundCond ((table_at tables table).columns ∷ []) c
 
