@@ -8,8 +8,6 @@ mod grouped;
 mod laws;
 mod listing;
 mod places;
-#[cfg(test)]
-mod tests;
 
 pub use gathering::fold;
 pub use grouped::Groups;

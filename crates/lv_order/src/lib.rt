@@ -3,8 +3,6 @@
 
 mod laws;
 mod order;
-#[cfg(test)]
-mod tests;
 
 pub use laws::{all_is_answered, each_turn_may_come, places_after_turns};
 pub use order::{Turns, first_other, turns_in_order};

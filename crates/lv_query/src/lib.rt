@@ -2,7 +2,5 @@
 #![tactic(auto)]
 
 mod answers;
-#[cfg(test)]
-mod tests;
 
 pub use answers::answer;

@@ -1,7 +1,16 @@
-//! What only a call can show: each public call answers where memory is ample, and what a source or a sink that fails leads to.
+//! What only a call can show: public calls that no script reaches, each compared with its answer once, and runs in which a
+//! call of the source or the sink fails.
 #![tactic(auto)]
 
 #[cfg(test)]
+mod lexer;
+#[cfg(test)]
 mod outside;
+#[cfg(test)]
+mod parser;
+#[cfg(test)]
+mod reading;
+#[cfg(test)]
+mod schema;
 #[cfg(test)]
 mod values;
