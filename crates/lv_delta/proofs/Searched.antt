@@ -1,5 +1,5 @@
 -- What searches find among entries whose numbers do not fall.
-use Rattle.std.proofs.Common.{◌≡◌, ℕ, zero, suc, ◌+◌, ◌-◌, ◌<◌, ◌≤◌, Bool, true, false, cond, ◌&&◌, List, [], ◌∷◌, ◌++◌, map, take, drop, length, get_or, Option, Some, None, refl, sym, ap, ap₂, ◌∙◌, arith}
+use Rattle.std.proofs.Common.{◌≡◌, ℕ, zero, suc, ◌<◌, ◌≤◌, Bool, true, false, cond, ◌&&◌, List, [], ◌∷◌, ◌++◌, map, take, drop, length, get_or, Option, Some, None, refl, sym, ap, ap₂, ◌∙◌, arith}
 use Rattle.std.specs.Prelude.{◌==◌, nat_lt, nat_le}
 use Rattle.std.specs.List.{filter, last_or, AllByRecursion}
 use Rattle.std.specs.List.Sorted.{IsPartitionPoint, IsPartitionedBy}
@@ -8,7 +8,7 @@ use Rattle.std.specs.declared.cmp.Ordering.{Ordering}
 use Rattle.std.specs.declared.cmp.Ordering.TheVariants.{Less, Equal, Greater}
 use Rattle.std.proofs.lemmas.Bool.Decides.{nat_tests}
 use Rattle.lv_values.specs.declared.value.Value.{Value}
-use Rattle.lv_values.specs.Order.{row_cmp, row_eq}
+use Rattle.lv_values.specs.Order.{row_cmp}
 use Rattle.lv_values.specs.OrderLaws.{row_total}
 use Rattle.lv_schema.specs.declared.action.Action.{Action}
 use Rattle.lv_schema.specs.declared.action.DeltaEntry.{DeltaEntry}
@@ -84,9 +84,10 @@ rising_number number (a ∷ actions) = (all_number (λ (e : DeltaEntry). number 
 
 rising_append : (number last : ℕ) (xs : List DeltaEntry) (actions : List Action) → last < number → AllByRecursion (λ (e : DeltaEntry). e.number ≤ last) xs → AreRising xs → AreRising (xs ++ map (delta_entry number) actions)
 rising_append number last [] actions lt below up = rising_number number actions
-rising_append number last (x ∷ xs) actions lt below up =
-    (all_append (λ (e : DeltaEntry). x.number ≤ e.number) xs (map (delta_entry number) actions) up.0 (all_number (λ (e : DeltaEntry). x.number ≤ e.number) number actions (λ a. omega (arith, below.0)))
-    , rising_append number last xs actions lt below.1 up.1)
+rising_append number last (x ∷ xs) actions lt below up = (
+  all_append (λ (e : DeltaEntry). x.number ≤ e.number) xs (map (delta_entry number) actions) up.0 (all_number (λ (e : DeltaEntry). x.number ≤ e.number) number actions (λ a. omega (arith, below.0))),
+  rising_append number last xs actions lt below.1 up.1,
+)
 
 pub ordered_append : (number last : ℕ) (xs : List DeltaEntry) (actions : List Action) → last < number → AreInOrder last xs → AreInOrder number (xs ++ map (delta_entry number) actions)
 ordered_append number last xs actions lt o = record {

@@ -1,5 +1,5 @@
 -- The entries of the commits that are kept, and what is found among them.
-use Rattle.std.specs.Prelude.{ℕ, ◌≤◌, Bool, ◌==◌, ◌&&◌, nat_lt, nat_le, List, [], ◌∷◌, drop, filter, map, Option, None}
+use Rattle.std.specs.Prelude.{ℕ, ◌≤◌, Bool, ◌==◌, ◌&&◌, nat_lt, nat_le, List, [], ◌∷◌, filter, map, Option, None}
 use Rattle.std.specs.List.{last_or, AllByRecursion}
 use Rattle.lv_values.specs.declared.value.Value.{Value}
 use Rattle.lv_values.specs.Order.{row_eq}

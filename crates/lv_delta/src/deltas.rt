@@ -108,7 +108,13 @@ impl Deltas {
 
     /// Copies of the entries of a table above a number and up to another, in their order. The lower number is at or
     /// above the floor. Cost: two binary searches, a pass over the entries between, and the copies.
-    pub fn range(&self, alloc: Global, table: u32, lo: u64, hi: u64) -> Result<DeltaEntries, NoMemory>
+    pub fn range(
+        &self,
+        alloc: Global,
+        table: u32,
+        lo: u64,
+        hi: u64,
+    ) -> Result<DeltaEntries, NoMemory>
         requires { self.now.floor ≤ lo }
         ensures { IfOk result (λ entries. entries ≡ filter (in_range table lo hi) self.now.entries) }
     {

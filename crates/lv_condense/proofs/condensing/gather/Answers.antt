@@ -1,4 +1,4 @@
-use Rattle.std.proofs.Common.{◌≡◌, ◌≤◌, List, ◌++◌, [], length, ap, sym, subst, ◌∙◌, arith}
+use Rattle.std.proofs.Common.{◌≤◌, List, ◌++◌, [], length, ap, sym, subst, ◌∙◌, arith}
 use Rattle.std.specs.List.{cons_option}
 use Rattle.std.proofs.lemmas.List.Sums.{prefix_len-le-length}
 use Rattle.std.specs.Ordering.{is_eq}

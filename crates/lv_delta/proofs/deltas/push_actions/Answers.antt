@@ -1,4 +1,4 @@
-use Rattle.std.proofs.Common.{◌≡◌, ◌+◌, ◌++◌, ◌∷◌, [], length, length-append, map, ◌∙◌, ap, sym, append_assoc, arith}
+use Rattle.std.proofs.Common.{◌++◌, ◌∷◌, [], length-append, map, ◌∙◌, ap, sym, append_assoc, arith}
 use Rattle.std.proofs.lemmas.List.{map-append}
 use Rattle.lv_schema.specs.Versions.{delta_entry}
 use Rattle.lv_delta.proofs.deltas.push_actions.Goals as goal

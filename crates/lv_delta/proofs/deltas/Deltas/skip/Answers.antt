@@ -1,4 +1,4 @@
-use Rattle.std.proofs.Common.{◌≡◌, ◌+◌, ◌≤◌, List, drop, length, length-drop, ap, sym, subst, arith}
+use Rattle.std.proofs.Common.{◌≡◌, ◌≤◌, List, drop, length, length-drop, ap, sym, subst, arith}
 use Rattle.std.proofs.lemmas.List.{drop-drop}
 use Rattle.lv_schema.specs.declared.action.DeltaEntry.{DeltaEntry}
 use Rattle.lv_delta.specs.Kept.{AreInOrder, DeltasKept}
