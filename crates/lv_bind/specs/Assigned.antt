@@ -17,16 +17,8 @@ assigned_keys sources key sets = flat_map (λ a. shown_unless (not (list_any (na
 
 -- a statement with these aliases
 abbrev pub assigned_among : List TableDef → List ViewDef → List Alias → Stmt → List (List ℕ)
-assigned_among tables views sources (CreateTable name cols key) = []
-assigned_among tables views sources (CreateView name items refs c groups) = []
-assigned_among tables views sources (Insert table tuples) = []
 assigned_among tables views sources (Update table sets c) = assigned_keys sources (table_at tables (table_number (rel_named tables views table.name))).key sets
-assigned_among tables views sources (Delete table c) = []
-assigned_among tables views sources (Select list refs c order) = []
-assigned_among tables views sources Begin = []
-assigned_among tables views sources Commit = []
-assigned_among tables views sources Rollback = []
-assigned_among tables views sources ShowTasks = []
+assigned_among tables views sources other = []
 
 abbrev pub assigned : List TableDef → List ViewDef → Stmt → List (List ℕ)
 assigned tables views stmt = assigned_among tables views (sources_of tables views stmt) stmt

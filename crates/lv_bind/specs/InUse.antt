@@ -67,11 +67,6 @@ abbrev pub in_use : List TableDef → List ViewDef → Stmt → List (List ℕ)
 in_use tables views (CreateTable name cols key) = taken tables views name ++ (repeated_columns cols ++ repeated_names key)
 in_use tables views (CreateView name items refs c groups) =
     taken tables views name ++ (repeated_outputs items ++ (repeated_aliases refs ++ regrouped (map (source_of tables views) refs) groups))
-in_use tables views (Insert table tuples) = []
 in_use tables views (Update table sets c) = repeated_sets sets
-in_use tables views (Delete table c) = []
 in_use tables views (Select list refs c order) = repeated_aliases refs
-in_use tables views Begin = []
-in_use tables views Commit = []
-in_use tables views Rollback = []
-in_use tables views ShowTasks = []
+in_use tables views other = []

@@ -99,16 +99,12 @@ insert_columns tables (Some (View v)) = []
 
 -- a statement with these aliases and comparisons
 abbrev pub kinds_among : List TableDef → List ViewDef → List Alias → List Sides → Stmt → List ℕ
-kinds_among tables views sources sides (CreateTable name cols key) = []
 kinds_among tables views sources sides (CreateView name items refs c groups) = flat_map (item_kinds sources) items ++ compared_kinds sources sides
 kinds_among tables views sources sides (Insert table tuples) = flat_map (tuple_kinds (insert_columns tables (rel_named tables views table.name))) tuples
 kinds_among tables views sources sides (Update table sets c) = flat_map (assign_kinds sources) sets ++ compared_kinds sources sides
 kinds_among tables views sources sides (Delete table c) = compared_kinds sources sides
 kinds_among tables views sources sides (Select list refs c order) = compared_kinds sources sides
-kinds_among tables views sources sides Begin = []
-kinds_among tables views sources sides Commit = []
-kinds_among tables views sources sides Rollback = []
-kinds_among tables views sources sides ShowTasks = []
+kinds_among tables views sources sides other = []
 
 abbrev pub kinds : List TableDef → List ViewDef → Stmt → List ℕ
 kinds tables views stmt = kinds_among tables views (sources_of tables views stmt) (comparisons_in stmt) stmt

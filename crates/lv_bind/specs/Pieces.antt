@@ -38,16 +38,11 @@ sides_of = fold-CondTree (List Sides) sides_step
 
 -- the comparisons of a statement
 abbrev pub comparisons_in : Stmt → List Sides
-comparisons_in (CreateTable name columns key) = []
 comparisons_in (CreateView name items refs c groups) = sides_of c
-comparisons_in (Insert table tuples) = []
 comparisons_in (Update table sets c) = sides_of c
 comparisons_in (Delete table c) = sides_of c
 comparisons_in (Select list refs c order) = sides_of c
-comparisons_in Begin = []
-comparisons_in Commit = []
-comparisons_in Rollback = []
-comparisons_in ShowTasks = []
+comparisons_in other = []
 
 -- the columns of one side, and of comparisons
 abbrev pub side_columns : OperandTree → List ColName
@@ -83,13 +78,8 @@ listed_columns (Some cols) = cols
 
 -- the columns that a statement names of its aliases
 abbrev pub columns_in : Stmt → List ColName
-columns_in (CreateTable name cols key) = []
 columns_in (CreateView name items refs c groups) = flat_map item_columns items ++ (compared_columns (sides_of c) ++ groups)
-columns_in (Insert table tuples) = []
 columns_in (Update table sets c) = flat_map assign_columns sets ++ compared_columns (sides_of c)
 columns_in (Delete table c) = compared_columns (sides_of c)
 columns_in (Select list refs c order) = listed_columns list ++ (compared_columns (sides_of c) ++ map (λ by. by.0) order)
-columns_in Begin = []
-columns_in Commit = []
-columns_in Rollback = []
-columns_in ShowTasks = []
+columns_in other = []

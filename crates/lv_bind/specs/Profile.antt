@@ -29,27 +29,13 @@ abbrev pub view_rules : List TableDef → List ViewDef → List RefTree → View
 view_rules tables views refs def = shown_unless (not (names_view tables views refs)) Base ++ broken_rules tables def
 
 abbrev pub of_view : (ViewDef → List ProfileRule) → Bound → List ProfileRule
-of_view rules (bound.Table def) = []
 of_view rules (bound.View def) = rules def
-of_view rules (bound.Change change) = []
-of_view rules (bound.Query query) = []
-of_view rules bound.Begin = []
-of_view rules bound.Commit = []
-of_view rules bound.Rollback = []
-of_view rules bound.Tasks = []
+of_view rules other = []
 
 -- a statement that is bound to this
 abbrev pub profile_of : List TableDef → List ViewDef → Stmt → Bound → List ProfileRule
-profile_of tables views (CreateTable name cols key) b = []
 profile_of tables views (CreateView name items refs c groups) b = of_view (view_rules tables views refs) b
-profile_of tables views (Insert table tuples) b = []
-profile_of tables views (Update table sets c) b = []
-profile_of tables views (Delete table c) b = []
-profile_of tables views (Select list refs c order) b = []
-profile_of tables views Begin b = []
-profile_of tables views Commit b = []
-profile_of tables views Rollback b = []
-profile_of tables views ShowTasks b = []
+profile_of tables views other b = []
 
 abbrev pub profile : List TableDef → List ViewDef → Stmt → List ProfileRule
 profile tables views stmt = profile_of tables views stmt (bound_among tables views (sources_of tables views stmt) stmt)

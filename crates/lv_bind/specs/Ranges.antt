@@ -25,13 +25,6 @@ wide_assign (value.Column col) = []
 wide_assign (value.Plus col amount) = []
 
 abbrev pub ranges : Stmt → List ℤ
-ranges (CreateTable name cols key) = []
-ranges (CreateView name items refs c groups) = []
 ranges (Insert table tuples) = flat_map wide_tuple tuples
 ranges (Update table sets c) = flat_map (λ a. wide_assign a.value) sets
-ranges (Delete table c) = []
-ranges (Select list refs c order) = []
-ranges Begin = []
-ranges Commit = []
-ranges Rollback = []
-ranges ShowTasks = []
+ranges other = []

@@ -51,16 +51,11 @@ table_source tables views table = record { name = table.name; columns = columns_
 
 -- the aliases of a statement, in the order of FROM
 abbrev pub sources_of : List TableDef → List ViewDef → Stmt → List Alias
-sources_of tables views (CreateTable name columns key) = []
 sources_of tables views (CreateView name items refs c groups) = map (source_of tables views) refs
-sources_of tables views (Insert table tuples) = []
 sources_of tables views (Update table sets c) = table_source tables views table ∷ []
 sources_of tables views (Delete table c) = table_source tables views table ∷ []
 sources_of tables views (Select list refs c order) = map (source_of tables views) refs
-sources_of tables views Begin = []
-sources_of tables views Commit = []
-sources_of tables views Rollback = []
-sources_of tables views ShowTasks = []
+sources_of tables views other = []
 
 -- whether a column with this qualifier may be one of this alias
 abbrev pub goes_by : Option Named → List ℕ → Bool

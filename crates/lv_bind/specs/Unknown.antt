@@ -36,16 +36,12 @@ abbrev pub unknown_table : List TableDef → List ViewDef → Named → List (Li
 unknown_table tables views table = shown_unless (is_table (rel_named tables views table.name)) table.name
 
 abbrev pub unknown_rels : List TableDef → List ViewDef → Stmt → List (List ℕ)
-unknown_rels tables views (CreateTable name cols key) = []
 unknown_rels tables views (CreateView name items refs c groups) = unknown_refs tables views refs
 unknown_rels tables views (Insert table tuples) = unknown_table tables views table
 unknown_rels tables views (Update table sets c) = unknown_table tables views table
 unknown_rels tables views (Delete table c) = unknown_table tables views table
 unknown_rels tables views (Select list refs c order) = unknown_refs tables views refs
-unknown_rels tables views Begin = []
-unknown_rels tables views Commit = []
-unknown_rels tables views Rollback = []
-unknown_rels tables views ShowTasks = []
+unknown_rels tables views other = []
 
 -- a qualifier that is no alias
 abbrev pub unknown_qualifier : List Alias → Option Named → List (List ℕ)
@@ -68,15 +64,7 @@ unknown_key cols key = flat_map (λ k. shown_unless (is_column cols k.name) k.na
 
 abbrev pub unknown_keys : Stmt → List (List ℕ)
 unknown_keys (CreateTable name cols key) = unknown_key cols key
-unknown_keys (CreateView name items refs c groups) = []
-unknown_keys (Insert table tuples) = []
-unknown_keys (Update table sets c) = []
-unknown_keys (Delete table c) = []
-unknown_keys (Select list refs c order) = []
-unknown_keys Begin = []
-unknown_keys Commit = []
-unknown_keys Rollback = []
-unknown_keys ShowTasks = []
+unknown_keys other = []
 
 abbrev pub unknown : List TableDef → List ViewDef → Stmt → List (List ℕ)
 unknown tables views stmt = unknown_rels tables views stmt ++ (unknown_columns (sources_of tables views stmt) (columns_in stmt) ++ unknown_keys stmt)

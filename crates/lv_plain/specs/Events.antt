@@ -27,11 +27,7 @@ item_events (item.Clean) = clean_up ∷ []
 -- whether an item is the session's turn
 abbrev pub is_turn_of : ℕ → OrderItem → Bool
 is_turn_of session (item.Turn other) = other == session
-is_turn_of session (item.Fetch worker) = false
-is_turn_of session (item.Install worker) = false
-is_turn_of session (item.Work worker) = false
-is_turn_of session (item.Mark view) = false
-is_turn_of session (item.Clean) = false
+is_turn_of session other = false
 
 -- how many statements of a session the order leaves
 abbrev pub left_over : Program → ℕ → ℕ

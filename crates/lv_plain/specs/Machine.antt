@@ -1,12 +1,10 @@
 -- The plain machine: what each event gives, its entry and the state after it.
 use Rattle.std.specs.Prelude.{ℕ, ◌+◌, Bool, List, [], slice_index, slice_set, Option, Some, None, Result, Ok, Err}
-use Rattle.std.specs.List.{position}
-use Rattle.std.specs.Str.{bytes_eq}
 use Rattle.lv_schema.specs.declared.bound.Bound.{Bound}
 use Rattle.lv_schema.specs.declared.bound.Bound.TheVariants as bound
 use Rattle.lv_schema.specs.declared.fault.Fault.{Fault}
 use Rattle.lv_schema.specs.declared.forced.Forced.{Forced}
-use Rattle.lv_schema.specs.declared.view.ViewDef.{ViewDef}
+use Rattle.lv_schema.specs.Catalog.{view_named}
 use Rattle.lv_schema.specs.Tasks.{pending_tasks}
 use Rattle.lv_schema.specs.UpkeepCases.{outcome_of, with_record, with_steps, forced_by, Fetched, Installed, busy, idle, fetched, empty, installed, moved, fetching, installing, released, marking, cleaning}
 use Rattle.lv_schema.specs.World.{Upkeep, World, Settings}
@@ -90,9 +88,6 @@ module _ (settings : Settings) (reading : Reading) (p : Program) (fails : Bool) 
   mark_by (Some v) name s =
       let done = marking (outcome_of settings fails s.world.upkeep) v s.world.upkeep in
       record { entry = entry.Marked v (mark_outcome done.answer); next = with_upkeep s done.next }
-
-  abbrev pub view_named : List ViewDef → List ℕ → Option ℕ
-  view_named views name = position (λ v. bytes_eq name v.name) views
 
   -- a clean-up
   abbrev pub clean_given : State → Given
