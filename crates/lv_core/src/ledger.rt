@@ -128,16 +128,24 @@ impl Ledger {
         self.entries.as_slice()
     }
 
-    /// Whether a session has a statement that is not answered; the setup is session 0. Cost: constant.
-    pub fn left(&self, session: u32) -> bool
+    /// Whether a session has a statement that is not answered.
+    fn has_more(&self, session: usize) -> bool
         ensures { result ≡ has_more self.now.program self.now.places session }
     {
-        let session = session as usize;
         let place = match self.places.as_slice().get(session) {
             Some(place) => *place,
             None => 0,
         };
         (place as usize) < line_count(&self.program, session)
+    }
+
+    /// Whether a session has a statement to be answered now: one that is not answered and, where it is not the setup, the
+    /// setup has none. The setup is session 0. Cost: constant.
+    pub fn left(&self, session: u32) -> bool
+        ensures { result ≡ may_turn self.now.program self.now.places session }
+    {
+        let session = session as usize;
+        self.has_more(session) && (session == 0 || !self.has_more(0))
     }
 
     /// Answers the next statement of a session, and keeps the entry. Want of memory changes nothing.

@@ -2,7 +2,7 @@
 ghost use Rattle.std.specs.Prelude.{◌≡◌, [], true, OnOk, OnErr, IfOk, map};
 ghost use Rattle.lv_plain.specs.Limits.{IsWithinLimits};
 ghost use Rattle.lv_plain.specs.LegalTurns.{start};
-ghost use Rattle.lv_plain.specs.Programs.{has_more, may_turn};
+ghost use Rattle.lv_plain.specs.Programs.{may_turn};
 ghost use Rattle.lv_core.specs.Cores.{run_of};
 ghost use Rattle.lv_core.specs.Run.{turning, IsRun, TookTurn};
 
@@ -65,9 +65,10 @@ impl Core {
         self.ledger.entries()
     }
 
-    /// Whether a session has a statement that is not answered; the setup is session 0. Cost: constant.
+    /// Whether a session has a statement to be answered now: one that is not answered and, where it is not the setup, the
+    /// setup has none. The setup is session 0. Cost: constant.
     pub fn left(&self, session: u32) -> bool
-        ensures { result ≡ has_more (run_of self.now).program (run_of self.now).places session }
+        ensures { result ≡ may_turn (run_of self.now).program (run_of self.now).places session }
     {
         self.ledger.left(session)
     }
