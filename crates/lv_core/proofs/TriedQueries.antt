@@ -1,5 +1,6 @@
 -- A query of one table keeps the same tuples of the part of its rows that it tries.
-use Rattle.std.proofs.Common.{◌≡◌, ℕ, Bool, true, false, cond, List, [], ◌∷◌, ◌++◌, map, refl, sym, ap, ◌∙◌}
+use Rattle.std.specs.List.{AllByRecursion}
+use Rattle.std.proofs.Common.{◌≡◌, ℕ, Bool, true, false, cond, List, [], ◌∷◌, ◌++◌, map, refl, sym, ap, ◌∙◌, subst}
 use Rattle.lv_values.specs.declared.value.Value.{Value}
 use Rattle.lv_schema.specs.declared.cond.Cond.{Cond}
 use Rattle.lv_schema.specs.declared.query.Rel.{Rel}
@@ -11,6 +12,9 @@ use Rattle.lv_schema.specs.Effects.{matching}
 use Rattle.lv_schema.specs.JoinViews.{selected}
 use Rattle.lv_schema.specs.Truth.{holds}
 use Rattle.lv_schema.specs.Tuples.{Tuple}
+use Rattle.lv_schema.specs.World.{table_at}
+use Rattle.lv_schema.specs.declared.table.TableDef.{TableDef}
+use Rattle.lv_core.specs.FixedKeys.{HaveOneKey, says_key}
 
 abbrev alone : List Value → Tuple
 alone row = row ∷ []
@@ -28,3 +32,20 @@ pub tried_one : (c : Cond) (views : List ViewDef) (db : Db) (rels : List Rel) (t
     → parts ≡ [] ++ part ∷ [] → matching c part ≡ matching c (rows_of db t) → selected c parts ≡ selected c (map (rel_rows views db) rels)
 tried_one c views db rels t part parts only is all =
     ap (selected c) is ∙ selected_one c part ∙ ap (map alone) all ∙ sym (selected_one c (rows_of db t)) ∙ ap (λ l. selected c (map (rel_rows views db) l)) (sym only)
+
+-- ---- where the condition fixes the key of the one table
+table_or : ℕ → List Rel → ℕ
+table_or d (Table t ∷ rels) = t
+table_or d rels = d
+
+same_table : (t u : ℕ) → ◌≡◌ {A = List Rel} (Table t ∷ []) (Table u ∷ []) → t ≡ u
+unfolding table_or
+same_table t u e = ap (table_or 0) e
+
+pub part_few : (c : Cond) (tables : List TableDef) (rels : List Rel) (t : ℕ) (part : List (List Value)) (parts : List (List (List Value))) → rels ≡ Table t ∷ []
+    → parts ≡ [] ++ part ∷ [] → (says_key c (table_at tables t).key ≡ true → HaveOneKey (table_at tables t).key part)
+    → (table : ℕ) → rels ≡ Table table ∷ [] → says_key c (table_at tables table).key ≡ true → AllByRecursion (HaveOneKey (table_at tables table).key) parts
+part_few c tables rels t part parts only is few table here says =
+    let same : t ≡ table = same_table t table (sym only ∙ here) in
+    let P : ℕ → Type 0 = λ u. says_key c (table_at tables u).key ≡ true → HaveOneKey (table_at tables u).key part in
+    subst (AllByRecursion (HaveOneKey (table_at tables table).key)) (sym is) (subst P same few says, tt)

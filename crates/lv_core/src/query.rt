@@ -1,6 +1,6 @@
 //! Queries over whole snapshots: each view is made by its definition, over the database that is read.
-ghost use Rattle.std.specs.Prelude.{◌≡◌, ◌<◌, ◌∷◌, [], true, map, length, IfOk, MatchOption};
-ghost use Rattle.std.specs.List.{list_all};
+ghost use Rattle.std.specs.Prelude.{◌≡◌, ◌≢◌, ◌<◌, ◌∷◌, ℕ, [], true, map, length, IfOk, MatchOption};
+ghost use Rattle.std.specs.List.{AllByRecursion, list_all};
 ghost use Rattle.lv_schema.specs.Answers.{answer_of, rel_rows};
 ghost use Rattle.lv_schema.specs.Bound.{has_col, rel_in_use};
 ghost use Rattle.lv_schema.specs.Cases.{queried};
@@ -10,6 +10,7 @@ ghost use Rattle.lv_schema.specs.Groups.{view_rows};
 ghost use Rattle.lv_schema.specs.JoinViews.{parts_of, plain_columns, selected};
 ghost use Rattle.lv_schema.specs.declared.query.Rel.TheVariants.{Table};
 ghost use Rattle.lv_schema.specs.World.{table_at, transaction, view_at};
+ghost use Rattle.lv_core.specs.FixedKeys.{HaveOneKey, says_key};
 ghost use Rattle.lv_core.specs.KeyOrder.{AreInKeyOrder, AreKeyOrdered, IsKeyOrderedDb};
 ghost use Rattle.lv_core.specs.Seen.{visible, IsWhole};
 ghost use Rattle.lv_core.specs.Small.{IsSmallDb};
@@ -95,7 +96,7 @@ fn query_parts(
 
 /// The table of a query that reads one table and nothing else.
 fn only_table(rels: &[Rel]) -> Option<u32>
-    ensures { MatchOption result (Unit {0}) (λ table. rels.now ≡ Table table ∷ []) }
+    ensures { MatchOption result ((table : ℕ) → rels.now ≢ Table table ∷ []) (λ table. rels.now ≡ Table table ∷ []) }
 {
     match rels {
         [Rel::Table(table)] => Some(*table),
@@ -113,14 +114,16 @@ fn table_part(
     cond: &Cond,
 ) -> Result<Rows, NoMemory>
     requires { AreInKeyOrder (table_at schema.now.tables table).key (rows_of database.now table) }
-    ensures { IfOk result (λ rows. matching cond.now rows ≡ matching cond.now (rows_of database.now table)) }
+    ensures all { IfOk result (λ rows. matching cond.now rows ≡ matching cond.now (rows_of database.now table)) }
+    ensures few { says_key cond.now (table_at schema.now.tables table).key ≡ true → IfOk result (HaveOneKey (table_at schema.now.tables table).key) }
 {
     let key = key_positions(schema, table);
     let tried = rows_to_try(alloc, key, cond, rows_of(database, table))?;
     copy_rows(alloc, tried)
 }
 
-/// Rows of each alias of a query, of which its condition keeps the same tuples as of all.
+/// Rows of each alias of a query, of which its condition keeps the same tuples as of all. Where it reads one table, and
+/// its condition fixes the key, they have one key.
 fn parts_to_try(
     alloc: Global,
     schema: &Schema,
@@ -130,7 +133,9 @@ fn parts_to_try(
     requires in_use { list_all (rel_in_use schema.now.tables schema.now.views) query.now.rels ≡ true }
     requires small { IsSmallDb database.now }
     requires ordered { IsKeyOrderedDb schema.now.tables database.now }
-    ensures { IfOk result (λ parts. selected query.now.cond parts ≡ selected query.now.cond (map (rel_rows schema.now.views database.now) query.now.rels)) }
+    ensures all { IfOk result (λ parts. selected query.now.cond parts ≡ selected query.now.cond (map (rel_rows schema.now.views database.now) query.now.rels)) }
+    ensures few { (table : ℕ) → query.now.rels ≡ Table table ∷ [] → says_key query.now.cond (table_at schema.now.tables table).key ≡ true
+        → IfOk result (AllByRecursion (HaveOneKey (table_at schema.now.tables table).key)) }
 {
     let Some(table) = only_table(query.rels.as_slice()) else {
         return query_parts(alloc, schema, database, query.rels.as_slice());
