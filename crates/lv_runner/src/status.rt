@@ -8,8 +8,9 @@ pub enum Status {
     Done,
     /// The words are refused.
     Words,
-    /// The script is refused: the first line with a fault, counted from 1, and the fault's kind. Kind 0 is a line
-    /// that breaks the form, or that is missing. Kind 2 is a script that is too long, shown at line 0.
+    /// The script is refused: the first line with a fault, counted from 1, and the lowest kind of its faults, 1 to 12.
+    /// A script that is too long has kind 2 at line 0. Kind 0 is no fault: all of the script is read, and the line is the
+    /// first up to which it says a program that is not run yet.
     Script { line: u64, kind: u8 },
     /// The source failed.
     SourceFault,
