@@ -1,5 +1,5 @@
 -- Groups after changes: their counts fit, and they are groups again.
-use Rattle.std.proofs.Common.{◌≡◌, ℕ, zero, suc, ◌+◌, ◌<◌, ◌≤◌, ◌^◌, ℤ, pos, ◌+ℤ◌, Bool, true, false, cond, not, ◌&&◌, List, [], ◌∷◌, ◌++◌, map, filter, length, FitsSigned, refl, sym, ap, ◌∙◌, subst, arith}
+use Rattle.std.proofs.Common.{◌≡◌, ℕ, ◌<◌, ◌≤◌, ◌^◌, ℤ, pos, ◌+ℤ◌, Bool, true, false, cond, not, ◌&&◌, List, [], ◌∷◌, ◌++◌, map, filter, length, FitsSigned, refl, sym, ap, ◌∙◌, subst, arith}
 use Rattle.std.proofs.lemmas.Int.{ints, int_wrap_fits, int_wrap-add_left, SFits-int_wrap}
 use Rattle.std.proofs.lemmas.List.{length-map}
 use Rattle.std.proofs.lemmas.List.Elements.{filter-append}
@@ -7,20 +7,20 @@ use Rattle.std.proofs.lemmas.List.FromFn.{length-map-range_with_len}
 use Rattle.std.specs.FinMap.{int_cmp-IsAntisymmetric}
 use Rattle.std.specs.List.{list_all, range_with_len, AllByRecursion}
 use Rattle.std.specs.Int.{int_wrap, w128}
-use Rattle.std.specs.Ordering.{int_eq, is_eq, ordering_reverse}
+use Rattle.std.specs.Ordering.{int_eq, is_eq}
 use Rattle.std.specs.declared.cmp.Ordering.TheVariants.{Less}
 use Rattle.lv_values.specs.Order.{row_cmp, row_eq}
 use Rattle.lv_values.specs.OrderLaws.{row_total}
 use Rattle.lv_schema.specs.declared.cond.Col.{Col}
 use Rattle.lv_schema.specs.declared.signed.SignedRow.{SignedRow}
 use Rattle.lv_schema.specs.declared.view.ViewDef.{ViewDef}
-use Rattle.lv_schema.specs.Applicable.{AreNetted, ApplyToGroups, LeavesCount, IsGroup, count_of}
+use Rattle.lv_schema.specs.Applicable.{AreNetted, ApplyToGroups, IsGroup, count_of}
 use Rattle.lv_schema.specs.Databases.{Db}
 use Rattle.lv_schema.specs.Differences.{is_change, groups_of, summed_columns, view_difference}
 use Rattle.lv_schema.specs.Groups.{total, number_at}
 use Rattle.lv_schema.specs.JoinViews.{parts_of}
 use Rattle.lv_schema.specs.Once.{once}
-use Rattle.lv_schema.specs.SignedRows.{entries_of, netted}
+use Rattle.lv_schema.specs.SignedRows.{entries_of}
 use Rattle.lv_schema.proofs.Apart.{all_map, all_filter, all_true, all_weaker, all_append}
 use Rattle.lv_schema.proofs.ChangeLists.{ARow, sum_place}
 use Rattle.lv_schema.proofs.DifferencesAddUp.{groups_and_difference}

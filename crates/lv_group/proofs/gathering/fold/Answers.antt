@@ -3,8 +3,7 @@ use Rattle.std.proofs.lemmas.List.{length-map}
 use Rattle.std.proofs.lemmas.List.Sorted.{length_permutation}
 use Rattle.std.specs.List.{filter_map}
 use Rattle.lv_schema.specs.Differences.{summed_column}
-use Rattle.lv_schema.specs.declared.signed.SignedRow.{SignedRow}
-use Rattle.lv_group.specs.Entries.{AnEntry, gathered}
+use Rattle.lv_group.specs.Entries.{gathered}
 use Rattle.lv_group.specs.Gathered.{AreGroups}
 use Rattle.lv_group.proofs.Groupings.{entry, gathered_are}
 use Rattle.lv_group.proofs.Regroups.{gathered_groups}

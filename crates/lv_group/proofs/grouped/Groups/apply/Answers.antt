@@ -1,12 +1,9 @@
-use Rattle.std.proofs.Common.{◌≡◌, List, ◌++◌, filter, length, sym, ap, ◌∙◌, subst}
+use Rattle.std.proofs.Common.{◌++◌, filter, length, sym, ap, ◌∙◌, subst}
 use Rattle.std.specs.List.{filter_map}
-use Rattle.lv_schema.specs.declared.signed.SignedRow.{SignedRow}
-use Rattle.lv_schema.specs.declared.view.Item.{Item}
 use Rattle.lv_schema.specs.Applicable.{AreNetted, ApplyToGroups}
 use Rattle.lv_schema.specs.Differences.{summed_column}
-use Rattle.lv_bags.specs.Bags.{HaveSums}
 use Rattle.lv_bags.proofs.AddedUp.{own_width}
-use Rattle.lv_group.specs.Gathered.{AreGroups, Gathered, has_tuples, regrouped}
+use Rattle.lv_group.specs.Gathered.{Gathered, has_tuples, regrouped}
 use Rattle.lv_group.proofs.Regroups.{both_have_sums, own_width_entries, regrouped_groups, regrouped_is}
 use Rattle.lv_group.proofs.grouped.Groups.apply.Goals as goal
 
