@@ -1,5 +1,5 @@
 //! Two entries of one row as one, and an entry in its place.
-ghost use Rattle.std.specs.Prelude.{◌≡◌, ◌<◌, ◌≤◌, ◌+◌, ◌+ℤ◌, length, slice_get, All, FitsSigned, OnOk, IsOk};
+ghost use Rattle.std.specs.Prelude.{◌≡◌, ◌<◌, ◌≤◌, ◌+◌, ◌+ℤ◌, length, slice_get, All, FitsSigned, OnOk, OnErr, IsOk};
 ghost use Rattle.std.specs.Int.{int_wrap, w128};
 ghost use Rattle.std.specs.Vec.{vec_len, vec_capacity};
 ghost use Rattle.lv_bags.specs.Bags.{HaveSums};
@@ -82,11 +82,12 @@ pub fn place_of(list: &[SignedRow], row: &Row) -> usize
 }
 
 /// Puts an entry in its place: its numbers go to the entry of its row, where there is one. It takes no memory where
-/// there is room. Cost: a move of the entries behind it, where its row is new.
+/// there is room, and want of memory changes nothing. Cost: a move of the entries behind it, where its row is new.
 pub fn put_at(list: &mut Vec<SignedRow>, at: usize, s: SignedRow) -> Result<(), NoMemory>
     requires place { IsPlace s.row at list.old.items }
     requires sums { HaveSums (length s.sums) list.old.items }
     ensures put { OnOk result (list.new.items ≡ put s list.old.items) }
+    ensures refused { OnErr result (list.new.items ≡ list.old.items) }
     ensures room { vec_len list.old < vec_capacity list.old → IsOk result }
     ensures capacity { vec_capacity list.old ≤ vec_capacity list.new }
     ensures len { vec_len list.new ≤ vec_len list.old + 1 }
