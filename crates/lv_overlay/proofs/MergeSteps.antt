@@ -1,5 +1,5 @@
 -- The steps of a merge of a table's rows and the writes on it.
-use Rattle.std.proofs.Common.{◌≡◌, ℕ, zero, suc, ◌+◌, ◌<◌, ◌≤◌, Bool, true, false, ◌&&◌, List, [], ◌∷◌, ◌++◌, drop, length, Option, Some, None, refl, sym, ap, ap₂, ◌∙◌, subst, append_assoc, arith}
+use Rattle.std.proofs.Common.{◌≡◌, ℕ, zero, suc, ◌+◌, ◌≤◌, Bool, true, false, ◌&&◌, List, [], ◌∷◌, ◌++◌, drop, Option, Some, None, refl, sym, ap, ◌∙◌, subst, append_assoc, arith}
 use Rattle.std.specs.Prelude.{◌==◌, slice_get}
 use Rattle.std.specs.List.{AllByRecursion, cons_option}
 use Rattle.std.specs.Ordering.{is_eq, is_gt, ordering_reverse}
@@ -114,7 +114,7 @@ module _ (key : List ℕ) (t : ℕ) (puts : List Put) (at : ℕ) (up : Ascends p
       by (Some q) e l =
           let first = less_turned (values_at key row) q.key (and_right (t == q.table) _ l) in
           let below : AllByRecursion (λ r. row_cmp q.key (values_at key r) ≡ Less) (row ∷ others) =
-              (first, all_weaker (λ r. key_cmp key row r ≡ Less) (λ r. row_cmp q.key (values_at key r) ≡ Less) (λ r. row_total.trans q.key (values_at key row) (values_at key r) first) others rise.0) in
+          (first, all_weaker (λ r. key_cmp key row r ≡ Less) (λ r. row_cmp q.key (values_at key r) ≡ Less) (λ r. row_total.trans q.key (values_at key row) (values_at key r) first) others rise.0) in
           written q rows after (row ∷ others) e (made q e) (put_first key t q (drop (at + 1) puts) (row ∷ others) (same_number t q.table (and_left _ _ l)) (up_from q e) below)
 
   pub over_step : (row : ARow) (others rows after : List ARow) → is_same t (values_at key row) (slice_get puts at) ≡ true → ((q : Put) → slice_get puts at ≡ Some q → after ≡ rows ++ cons_option q.row [])

@@ -1,8 +1,8 @@
 -- The rows over a table's rows, one key after another.
-use Rattle.std.proofs.Common.{◌≡◌, ℕ, zero, suc, ◌<◌, ◌≤◌, Bool, true, false, cond, ◌&&◌, List, [], ◌∷◌, ◌++◌, map, drop, length, Option, Some, None, refl, sym, ap, ap₂, ◌∙◌, subst, inl, inr, arith}
+use Rattle.std.proofs.Common.{◌≡◌, ℕ, zero, suc, ◌<◌, ◌≤◌, Bool, true, false, cond, ◌&&◌, List, [], ◌∷◌, ◌++◌, map, drop, Option, Some, None, refl, sym, ap, ap₂, ◌∙◌, subst, inl, inr, arith}
 use Rattle.std.specs.Prelude.{◌==◌, ◌⊎◌, slice_get, unwrap_or}
 use Rattle.std.specs.List.{AllByRecursion, cons_option, filter_map}
-use Rattle.std.specs.Ordering.{is_eq, is_gt, is_lt, nat_cmp, ordering_reverse, ordering_then}
+use Rattle.std.specs.Ordering.{is_eq, is_lt, ordering_reverse, ordering_then}
 use Rattle.std.specs.Cmp.{nat_cmp_is}
 use Rattle.std.specs.FinMap.Entries.{by_order}
 use Rattle.std.specs.declared.cmp.Ordering.{Ordering}
@@ -12,9 +12,9 @@ use Rattle.std.proofs.lemmas.Bool.Decides.{nat_tests}
 use Rattle.std.proofs.lemmas.Cmp.{tied_itself}
 use Rattle.lv_values.specs.declared.value.Value.{Value}
 use Rattle.lv_values.specs.Order.{row_cmp, row_eq}
-use Rattle.lv_values.specs.OrderLaws.{row_total, row_exact}
+use Rattle.lv_values.specs.OrderLaws.{row_total}
 use Rattle.lv_values.specs.Rows.{values_at, key_cmp}
-use Rattle.lv_schema.specs.Commits.{Place, place_cmp, same_place}
+use Rattle.lv_schema.specs.Commits.{place_cmp, same_place}
 use Rattle.lv_schema.specs.Keys.{row_at}
 use Rattle.lv_schema.specs.Once.{Ascends, once, put_once}
 use Rattle.lv_schema.proofs.Apart.{all_append, all_map, all_weaker}

@@ -1,8 +1,7 @@
 -- A write that comes in, or that takes the place of the one at its place.
-use Rattle.std.proofs.Common.{◌≡◌, ℕ, zero, suc, ◌<◌, ◌≤◌, Bool, true, false, cond, ◌&&◌, List, [], ◌∷◌, length, set, Option, Some, None, refl, sym, ap, ◌∙◌, subst, arith}
+use Rattle.std.proofs.Common.{◌≡◌, ℕ, zero, suc, Bool, true, false, cond, ◌&&◌, List, [], ◌∷◌, set, Option, Some, None, refl, sym, ap, ◌∙◌, subst}
 use Rattle.std.specs.Prelude.{slice_get}
 use Rattle.std.specs.List.{AllByRecursion, insert, list_all}
-use Rattle.std.specs.Ordering.{is_lt}
 use Rattle.std.specs.declared.cmp.Ordering.TheVariants.{Less}
 use Rattle.lv_values.specs.declared.value.Value.{Value}
 use Rattle.lv_schema.specs.Commits.{Place, place_cmp, same_place}
@@ -11,7 +10,6 @@ use Rattle.lv_schema.proofs.FirstCommitter.{place_of}
 use Rattle.lv_shelf.specs.Cuts.{IsCut}
 use Rattle.lv_overlay.specs.declared.put.Put.{Put}
 use Rattle.lv_overlay.specs.Ordered.{put_place, put_cmp, is_before, is_there}
-use Rattle.lv_overlay.specs.PlaceOrder.{place_total}
 use Rattle.lv_overlay.specs.Puts.{put_at, PutIs}
 use Rattle.lv_overlay.proofs.Cutting.{above_through}
 use Rattle.lv_overlay.proofs.Places.{after_differs, comes_after, less_of, place_itself}

@@ -43,7 +43,12 @@ fn is_same(overlay: &Overlay, at: usize, table: &TableDef, row: &Row) -> bool
 }
 
 /// Adds a copy of the row that a write left, if it left one.
-fn push_written(alloc: Global, overlay: &Overlay, at: usize, rows: &mut Rows) -> Result<(), NoMemory>
+fn push_written(
+    alloc: Global,
+    overlay: &Overlay,
+    at: usize,
+    rows: &mut Rows,
+) -> Result<(), NoMemory>
     requires { at < length overlay.now.list }
     ensures { OnOk result ((q : Put) → slice_get overlay.now.list at ≡ Some q → rows.new ≡ rows.old ++ cons_option q.row []) }
 {

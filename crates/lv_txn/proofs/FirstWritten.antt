@@ -1,6 +1,6 @@
 -- The first of the places that later entries write, entry by entry.
-use Rattle.std.proofs.Common.{◌≡◌, ℕ, zero, suc, ◌+◌, ◌<◌, ◌≤◌, Bool, true, false, cond, ◌&&◌, List, [], ◌∷◌, ◌++◌, map, take, length, get_or, Option, Some, None, refl, sym, ap, ap₂, ◌∙◌, subst, inl, inr, arith}
-use Rattle.std.specs.Prelude.{◌==◌, ◌⊎◌, nat_lt, nat_le, option_map, slice_get}
+use Rattle.std.proofs.Common.{◌≡◌, ℕ, zero, suc, ◌+◌, ◌<◌, ◌≤◌, Bool, true, false, cond, List, [], ◌∷◌, ◌++◌, map, take, length, get_or, Option, Some, None, refl, sym, ap, ◌∙◌, subst, inl, inr, arith}
+use Rattle.std.specs.Prelude.{◌==◌, ◌⊎◌, nat_lt, option_map, slice_get}
 use Rattle.std.specs.List.{AllByRecursion, cons_option, filter, filter_map, last_or}
 use Rattle.std.specs.List.Sorted.{IsPartitionPoint}
 use Rattle.std.specs.Ordering.{is_eq, is_gt, is_lt}
@@ -10,14 +10,13 @@ use Rattle.std.proofs.lemmas.Bool.{cases_lt}
 use Rattle.std.proofs.lemmas.Bool.Decides.{nat_tests}
 use Rattle.std.proofs.lemmas.List.{take_more}
 use Rattle.std.proofs.lemmas.Option.{slice_get-get_or, slice_get_past}
-use Rattle.lv_values.specs.declared.value.Value.{Value}
 use Rattle.lv_values.specs.Ascending.{ascending}
 use Rattle.lv_schema.specs.declared.action.Action.{Action}
 use Rattle.lv_schema.specs.declared.action.DeltaEntry.{DeltaEntry}
 use Rattle.lv_schema.specs.declared.fault.Fault.{Fault}
 use Rattle.lv_schema.specs.declared.fault.Fault.TheVariants.{Conflict}
 use Rattle.lv_schema.specs.declared.table.TableDef.{TableDef}
-use Rattle.lv_schema.specs.Commits.{Place, place_cmp, first_conflict, conflict_in, same_place, written_place, writer_in, writes_above}
+use Rattle.lv_schema.specs.Commits.{Place, place_cmp, first_conflict, conflict_in, same_place, written_place, writer_in}
 use Rattle.lv_schema.proofs.FirstCommitter.{place_of}
 use Rattle.lv_delta.specs.Kept.{is_above}
 use Rattle.lv_delta.proofs.Searched.{filter_both}
@@ -81,29 +80,33 @@ module _ (tables : List TableDef) (e : DeltaEntry) (places : List Place) (at : �
   pub not_there : (writer : Place → Option ℕ) (found : Option Found) → is_there here (slice_get places at) ≡ false → IsFirst places writer found → IsFirst places (more writer) found
   not_there writer None absent first =
       all_from (λ p. more writer p ≡ None) places (λ k d lt. other writer (get_or places k d) (none_here absent k d lt) ∙ all_at (λ p. writer p ≡ None) places k d lt first)
-  not_there writer (Some f) absent first =
-      (first.0
-      , (λ k d lt. other writer (get_or places k d) (none_here absent k d (let h = first.0 in omega arith)) ∙ first.1 k d lt)
-      , (λ d. other writer (get_or places f.at d) (none_here absent f.at d first.0) ∙ first.2 d))
+  not_there writer (Some f) absent first = (
+    first.0,
+    (λ k d lt. other writer (get_or places k d) (none_here absent k d (let h = first.0 in omega arith)) ∙ first.1 k d lt),
+    (λ d. other writer (get_or places f.at d) (none_here absent f.at d first.0) ∙ first.2 d),
+  )
 
   there_at : is_there here (slice_get places at) ≡ true → (at < length places) × ((d : Place) → same_place (get_or places at d) here ≡ true)
   there_at present = by (cases_lt at (length places))
     where
       by : (at < length places) ⊎ (length places ≤ at) → (at < length places) × ((d : Place) → same_place (get_or places at d) here ≡ true)
-      by (inl lt) =
-          (lt, λ d.
-          let equal : is_eq (place_cmp (get_or places at d) here) ≡ true = ap (is_there here) (sym (slice_get-get_or places at d lt)) ∙ present in
-          let one : get_or places at d ≡ here = place_exact (get_or places at d) here (equal_from _ equal) in
-          subst (λ (p : Place). same_place p here ≡ true) (sym one) (place_itself here))
+      by (inl lt) = (
+        lt,
+        λ d.
+            let equal : is_eq (place_cmp (get_or places at d) here) ≡ true = ap (is_there here) (sym (slice_get-get_or places at d lt)) ∙ present in
+            let one : get_or places at d ≡ here = place_exact (get_or places at d) here (equal_from _ equal) in
+            subst (λ (p : Place). same_place p here ≡ true) (sym one) (place_itself here),
+      )
       by (inr le) = absurd (true_false (sym present ∙ ap (is_there here) (slice_get_past places at le)))
 
   first_here : (writer : Place → Option ℕ) → is_there here (slice_get places at) ≡ true → ((k : ℕ) (d : Place) → k < at → at < length places → writer (get_or places k d) ≡ None)
       → IsFirst places (more writer) (Some (record { at = at; number = e.number }))
   first_here writer present none =
-      let stands = there_at present in
-      (stands.0
-      , (λ k d lt. other writer (get_or places k d) (before_here k d lt) ∙ none k d lt stands.0)
-      , (λ d. ap (λ b. cond b (Some e.number) (writer (get_or places at d))) (stands.1 d)))
+      let stands = there_at present in (
+        stands.0,
+        (λ k d lt. other writer (get_or places k d) (before_here k d lt) ∙ none k d lt stands.0),
+        (λ d. ap (λ b. cond b (Some e.number) (writer (get_or places at d))) (stands.1 d)),
+      )
 
   pub there : (writer : Place → Option ℕ) (found : Option Found) → is_there here (slice_get places at) ≡ true → IsFirst places writer found → IsFirst places (more writer) (sooner at e.number found)
   there writer None present first = first_here writer present (λ k d lt within. all_at (λ p. writer p ≡ None) places k d (omega arith) first)
@@ -111,10 +114,11 @@ module _ (tables : List TableDef) (e : DeltaEntry) (places : List Place) (at : �
     where
       by : (b : Bool) → nat_lt f.at at ≡ b → IsFirst places (more writer) (cond b (Some f) (Some (record { at = at; number = e.number })))
       by true c =
-          let lt : f.at < at = before_of f.at at c in
-          (first.0
-          , (λ k d less. other writer (get_or places k d) (before_here k d (omega arith)) ∙ first.1 k d less)
-          , (λ d. other writer (get_or places f.at d) (before_here f.at d lt) ∙ first.2 d))
+          let lt : f.at < at = before_of f.at at c in (
+            first.0,
+            (λ k d less. other writer (get_or places k d) (before_here k d (omega arith)) ∙ first.1 k d less),
+            (λ d. other writer (get_or places f.at d) (before_here f.at d lt) ∙ first.2 d),
+          )
       by false c = let le : at ≤ f.at = not_before_of f.at at c in first_here writer present (λ k d lt within. first.1 k d (omega arith))
 
 -- ---- the writers of one entry more

@@ -1,5 +1,5 @@
 -- The writes that actions make, one after another.
-use Rattle.std.proofs.Common.{◌≡◌, ℕ, Bool, true, false, cond, ◌&&◌, List, [], ◌∷◌, ◌++◌, map, length, Option, Some, None, refl, sym, ap, ◌∙◌, arith}
+use Rattle.std.proofs.Common.{◌≡◌, Bool, true, false, cond, ◌&&◌, List, [], ◌∷◌, ◌++◌, map, length, Option, Some, refl, ap, ◌∙◌, arith}
 use Rattle.std.specs.Prelude.{unwrap_or}
 use Rattle.lv_values.specs.declared.value.Value.{Value}
 use Rattle.lv_schema.specs.declared.action.Action.{Action}
@@ -7,7 +7,7 @@ use Rattle.lv_schema.specs.declared.table.TableDef.{TableDef}
 use Rattle.lv_schema.specs.Commits.{Place, same_place, written_place}
 use Rattle.lv_schema.specs.Keys.{carried, left_by}
 use Rattle.lv_overlay.specs.declared.put.Put.{Put}
-use Rattle.lv_overlay.specs.Puts.{over, put_at, PutsTake}
+use Rattle.lv_overlay.specs.Puts.{put_at, PutsTake}
 use Rattle.lv_txn.specs.Written.{left_at, put_of}
 
 pub left_next : (done : List Put) (q : Put) (p : Place) (x : Option (Option (List Value))) → left_at (done ++ q ∷ []) p x ≡ cond (same_place p (q.table, q.key)) (Some q.row) (left_at done p x)

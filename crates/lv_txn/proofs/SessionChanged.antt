@@ -1,10 +1,10 @@
 -- A session's transaction is taken out, changed and put back.
-use Rattle.std.proofs.Common.{◌≡◌, ℕ, zero, suc, ◌<◌, Bool, true, List, [], ◌∷◌, length, get_or, set, Option, Some, None, refl, sym, ap, subst, ◌∙◌, arith}
-use Rattle.std.specs.Prelude.{is_some, unwrap_or, OnErr, OnOk, Result, Ok, Err}
-use Rattle.std.proofs.lemmas.List.{get_or-set_same, get_or_default, length-set, set-get_or, set-set}
+use Rattle.std.proofs.Common.{◌≡◌, ℕ, zero, suc, ◌<◌, List, [], ◌∷◌, length, get_or, set, Option, Some, None, sym, ap, subst, ◌∙◌, arith}
+use Rattle.std.specs.Prelude.{unwrap_or, OnErr, OnOk, Result, Ok, Err}
+use Rattle.std.proofs.lemmas.List.{get_or-set_same, get_or_default, set-get_or, set-set}
 use Rattle.lv_schema.specs.declared.action.Action.{Action}
 use Rattle.lv_schema.specs.declared.table.TableDef.{TableDef}
-use Rattle.lv_txn.specs.Kept.{TransactionKept, begun, transaction_at, transaction_of, IsLive, Changes, SessionChanges}
+use Rattle.lv_txn.specs.Kept.{TransactionKept, begun, transaction_of, IsLive, Changes, SessionChanges}
 
 pub on_ok : {T E : Type 0} (r : Result T E) (P Q : Type 0) → (P → Q) → OnOk r P → OnOk r Q
 on_ok (Ok a) P Q f p = f p

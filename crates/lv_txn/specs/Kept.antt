@@ -1,6 +1,5 @@
 -- What is kept of the live transactions.
 use Rattle.std.specs.Prelude.{◌≡◌, ℕ, ◌+◌, Bool, false, ◌&&◌, nat_le, nat_lt, min, List, [], ◌∷◌, ◌++◌, is_some, true, slice_index_or, slice_set, Option, Some, None, unwrap_or}
-use Rattle.lv_values.specs.declared.value.Value.{Value}
 use Rattle.lv_schema.specs.declared.action.Action.{Action}
 use Rattle.lv_schema.specs.declared.table.TableDef.{TableDef}
 use Rattle.lv_schema.specs.Cases.{numbered}

@@ -1,5 +1,5 @@
 -- The writes that actions make, and the later writers of the places that are written.
-use Rattle.std.specs.Prelude.{◌≡◌, ℕ, ◌<◌, Bool, true, false, nat_lt, cond, List, [], ◌∷◌, filter, map, length, slice_index_or, Option, Some, None}
+use Rattle.std.specs.Prelude.{◌≡◌, ℕ, ◌<◌, Bool, false, nat_lt, cond, List, [], ◌∷◌, filter, map, length, slice_index_or, Option, Some, None}
 use Rattle.std.specs.List.{AllByRecursion, last_or}
 use Rattle.std.specs.Ordering.{is_eq, is_gt, is_lt}
 use Rattle.lv_values.specs.declared.value.Value.{Value}

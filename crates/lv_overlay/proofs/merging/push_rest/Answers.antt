@@ -1,5 +1,4 @@
-use Rattle.std.proofs.Common.{◌++◌, [], drop, sym, ◌∙◌}
-use Rattle.lv_overlay.specs.Puts.{rows_over}
+use Rattle.std.proofs.Common.{sym, ◌∙◌}
 use Rattle.lv_overlay.proofs.MergeSteps.{from_next, rest_end, rest_step}
 use Rattle.lv_overlay.proofs.merging.push_rest.Goals as goal
 

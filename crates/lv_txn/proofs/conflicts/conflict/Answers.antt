@@ -1,6 +1,5 @@
-use Rattle.std.proofs.Common.{◌≡◌, ℕ, List, map, Option, Some, None, sym, ap, ap₂, subst, ◌∙◌}
+use Rattle.std.proofs.Common.{ℕ, List, map, Some, sym, ap₂, subst, ◌∙◌}
 use Rattle.lv_values.specs.declared.value.Value.{Value}
-use Rattle.lv_schema.specs.declared.fault.Fault.{Fault}
 use Rattle.lv_schema.specs.declared.fault.Fault.TheVariants.{Conflict}
 use Rattle.lv_schema.specs.Commits.{Place, written_place}
 use Rattle.lv_txn.specs.Written.{writer_among, AreInOrder, IsFirst}

@@ -1,9 +1,8 @@
-use Rattle.std.proofs.Common.{◌≡◌, [], List, drop, sym, ◌∙◌, subst}
+use Rattle.std.proofs.Common.{◌≡◌, [], List, sym, ◌∙◌, subst}
 use Rattle.std.specs.Prelude.{IfOk}
 use Rattle.lv_values.specs.declared.value.Value.{Value}
 use Rattle.lv_shelf.specs.Cuts.{IsCut}
 use Rattle.lv_overlay.specs.Ordered.{is_before}
-use Rattle.lv_overlay.specs.Puts.{rows_over}
 use Rattle.lv_overlay.proofs.MergeSteps.{alone}
 use Rattle.lv_overlay.proofs.RowsOver.{all_from_table, rows_from}
 use Rattle.lv_overlay.proofs.overlay.Overlay.merged.Goals as goal

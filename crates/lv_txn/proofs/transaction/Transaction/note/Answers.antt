@@ -14,9 +14,9 @@ returns-clause-noted c =
     let actions = c.args.actions in
     let shown = c.self.view_is in
     let all : c.push_numbered.new.list.list ≡ c.args.self.now.actions ++ numbered (c.args.self.now.changes + 1) actions =
-        c.push_numbered.ensures
-        ∙ ap (λ (l : List Action). l ++ numbered (c.self.inside.changes + 1) actions) c.in_ok-reserve-2.ensures.same
-        ∙ ap (λ (t : TransactionKept). t.actions ++ numbered (t.changes + 1) actions) shown in
+    c.push_numbered.ensures
+    ∙ ap (λ (l : List Action). l ++ numbered (c.self.inside.changes + 1) actions) c.in_ok-reserve-2.ensures.same
+    ∙ ap (λ (t : TransactionKept). t.actions ++ numbered (t.changes + 1) actions) shown in
     record {
       is = λ i. record {
         snapshot = ap (λ (t : TransactionKept). t.snapshot) shown i;

@@ -29,10 +29,10 @@ returns-clause-only c =
     let t = c.unwrap-transaction.result in
     let changed = c.note-noted.new.self in
     let old : transaction_of c.args.self.now s ≡ t =
-        ap (λ (l : List (Option TransactionKept)). transaction_of l s) (sym c.self.view_is)
-        ∙ old_of sessions c.replace.new.self c.set.new.self s c.replace.result t changed (live c) c.replace.ensures.taken c.unwrap-transaction.ensures c.replace.ensures.replaced c.set.ensures in
+    ap (λ (l : List (Option TransactionKept)). transaction_of l s) (sym c.self.view_is)
+    ∙ old_of sessions c.replace.new.self c.set.new.self s c.replace.result t changed (live c) c.replace.ensures.taken c.unwrap-transaction.ensures c.replace.ensures.replaced c.set.ensures in
     let new : transaction_of c.set.new.self s ≡ changed =
-        new_of sessions c.replace.new.self c.set.new.self s c.replace.result t changed (live c) c.replace.ensures.taken c.unwrap-transaction.ensures c.replace.ensures.replaced c.set.ensures in
+    new_of sessions c.replace.new.self c.set.new.self s c.replace.result t changed (live c) c.replace.ensures.taken c.unwrap-transaction.ensures c.replace.ensures.replaced c.set.ensures in
     on_ok c.note-noted.result ((test : Put → Bool) → list_all test (map (put_of tables) c.args.actions) ≡ true → list_all test t.puts ≡ true → list_all test changed.puts ≡ true)
     ((test : Put → Bool) → list_all test (map (put_of tables) c.args.actions) ≡ true → list_all test (transaction_of c.args.self.now s).puts ≡ true → list_all test (transaction_of c.set.new.self s).puts ≡ true)
     (λ h test a b.
