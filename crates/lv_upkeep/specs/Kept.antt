@@ -5,8 +5,8 @@ use Rattle.std.specs.Option.{option_to_list}
 use Rattle.lv_schema.specs.declared.forced.Forced.{Forced}
 use Rattle.lv_schema.specs.declared.pending.Pending.{Pending}
 use Rattle.lv_schema.specs.Policies.{is_claim_of}
-use Rattle.lv_schema.specs.World.{least}
 use Rattle.lv_schema.specs.StepPlans.{step_end, step_of, then_more}
+use Rattle.lv_schema.specs.World.{least}
 use Rattle.lv_tasks.specs.declared.task.Task.{Task}
 use Rattle.lv_tasks.specs.Kept.{commits_between, pairs_of, pending_in, tasks_kept}
 
