@@ -1,5 +1,5 @@
--- Groups with changes are the groups and the changes added up.
-use Rattle.std.proofs.Common.{◌≡◌, ℕ, zero, suc, ◌<◌, ℤ, pos, ◌+ℤ◌, Bool, true, cond, Option, Some, None, List, [], ◌∷◌, ◌++◌, map, length, get_or, refl, sym, ap, ◌∙◌, arith}
+-- Groups with changes are those that `Groups::apply` leaves.
+use Rattle.std.proofs.Common.{◌≡◌, ℕ, zero, suc, ◌<◌, ℤ, pos, ◌+ℤ◌, Bool, true, cond, Option, Some, None, List, [], ◌∷◌, ◌++◌, map, filter, length, get_or, refl, sym, ap, ◌∙◌, arith}
 use Rattle.std.specs.Prelude.{FitsSigned}
 use Rattle.std.specs.Int.{int_wrap, w128}
 use Rattle.std.specs.List.{AllByRecursion, range_with_len}
@@ -16,6 +16,7 @@ use Rattle.lv_schema.specs.SignedRows.{entries_of, netted, summed}
 use Rattle.lv_schema.proofs.Apart.{all_filter}
 use Rattle.lv_schema.proofs.ChangeLists.{quiet_alone, same_changes, sum_place, summed_covers}
 use Rattle.lv_schema.proofs.NetsLead.{passes, same_row}
+use Rattle.lv_group.specs.Gathered.{has_tuples, regrouped}
 use Rattle.lv_shelf.proofs.Cutting.{all_at}
 use Rattle.lv_viewrows.specs.Changed.{SumsFit, after_changes, group_with, groups_with, sums_added}
 use Rattle.lv_viewrows.proofs.Entries.{AtMostOne, at_most_one, covered}
@@ -78,12 +79,13 @@ module _ (n : ℕ) where
   says q (x ∷ []) (s ∷ t ∷ list) m k a b d e f g = absurd k
   says q (x ∷ y ∷ groups) list m k a b d e f g = absurd m
 
-  pub groups_with_adds_up : (groups list : List SignedRow) → AreNetted n groups → AreNetted n list → AllByRecursion SumsFit groups → AllByRecursion SumsFit list → groups_with list groups ≡ netted n (groups ++ list)
+  pub groups_with_adds_up : (groups list : List SignedRow) → AreNetted n groups → AreNetted n list → AllByRecursion SumsFit groups → AllByRecursion SumsFit list → groups_with list groups ≡ regrouped n groups list
   groups_with_adds_up groups list a b f g =
-      same_changes (λ q. after_changes q (entries_of q groups) (entries_of q list)) (summed n (groups ++ list)) (map (λ (s : SignedRow). s.row) (groups ++ list)) (map (λ (s : SignedRow). s.row) (groups ++ list))
+      ap (filter has_tuples)
+      (same_changes (λ q. after_changes q (entries_of q groups) (entries_of q list)) (summed n (groups ++ list)) (map (λ (s : SignedRow). s.row) (groups ++ list)) (map (λ (s : SignedRow). s.row) (groups ++ list))
       (covered list groups)
       (summed_covers n (groups ++ list))
       (λ q. (let own : SignedRow → Bool = λ s. row_eq q s.row in
       says q (entries_of q groups) (entries_of q list) (at_most_one q groups a.ascend) (at_most_one q list b.ascend) (passes own groups) (passes own list)
       (all_filter HasSums own groups a.sums) (all_filter HasSums own list b.sums) (all_filter SumsFit own groups f) (all_filter SumsFit own list g)
-      ∙ ap (λ l. shows (added q l)) (sym (filter-append own groups list))))
+      ∙ ap (λ l. shows (added q l)) (sym (filter-append own groups list)))))

@@ -11,12 +11,12 @@ use Rattle.lv_values.specs.Ascending.{placed}
 use Rattle.lv_values.specs.Order.{row_cmp, row_eq}
 use Rattle.lv_values.specs.OrderLaws.{row_total}
 use Rattle.lv_schema.specs.declared.signed.SignedRow.{SignedRow}
-use Rattle.lv_schema.specs.Differences.{is_change}
 use Rattle.lv_schema.specs.Once.{Ascends}
 use Rattle.lv_schema.specs.SignedRows.{entries_of}
 use Rattle.lv_schema.specs.Versions.{end_by, ends_after}
 use Rattle.lv_schema.proofs.Apart.{all_both, all_map, all_weaker, apart_map, apart_weaker}
 use Rattle.lv_schema.proofs.NetsLead.{same_row}
+use Rattle.lv_group.specs.Gathered.{has_tuples}
 use Rattle.lv_shelf.specs.Cuts.{Apart}
 use Rattle.lv_viewrows.specs.declared.version.GroupVersion.{GroupVersion}
 use Rattle.lv_viewrows.specs.Kept.{groups_at, is_there, version_from}
@@ -76,10 +76,10 @@ joined_row [] s = refl
 joined_row (group ∷ groups) s = refl
 
 -- what a group that is put gives, and what it leaves
-put_by : (Q : List GroupVersion → Type 0) (number : ℕ) (group : SignedRow) (vs : List GroupVersion) → (is_change group ≡ true → Q (placed version_cmp (version_from number group) vs)) → Q vs → Q (put number group vs)
-put_by Q number group vs f q = by (is_change group) refl
+put_by : (Q : List GroupVersion → Type 0) (number : ℕ) (group : SignedRow) (vs : List GroupVersion) → (has_tuples group ≡ true → Q (placed version_cmp (version_from number group) vs)) → Q vs → Q (put number group vs)
+put_by Q number group vs f q = by (has_tuples group) refl
   where
-    by : (b : Bool) → is_change group ≡ b → Q (cond b (placed version_cmp (version_from number group) vs) vs)
+    by : (b : Bool) → has_tuples group ≡ b → Q (cond b (placed version_cmp (version_from number group) vs) vs)
     by true e = f e
     by false e = q
 
@@ -195,7 +195,7 @@ all_before number n (s ∷ list) vs lt =
 
 -- ---- the current groups of a row
 abbrev pub kept : SignedRow → List SignedRow
-kept group = cond (is_change group) (group ∷ []) []
+kept group = cond (has_tuples group) (group ∷ []) []
 
 abbrev group_of : GroupVersion → SignedRow
 group_of v = v.group
@@ -269,7 +269,7 @@ placed_own number q group (w ∷ vs) h none = by (is_current q w) refl none (λ 
 
 -- after one change
 pub changed_current : (number : ℕ) (q : List Value) (s : SignedRow) (vs : List GroupVersion) → current q (changed number s vs) ≡ cond (row_eq q s.row) (kept (joined (current s.row vs) s)) (current q vs)
-changed_current number q s vs = by (row_eq q s.row) refl (is_change group) refl
+changed_current number q s vs = by (row_eq q s.row) refl (has_tuples group) refl
   where
     group : SignedRow
     group = joined (current s.row vs) s
@@ -283,7 +283,7 @@ changed_current number q s vs = by (row_eq q s.row) refl (is_change group) refl
     left_is : (b : Bool) → row_eq q s.row ≡ b → current q (map (ended number s.row) vs) ≡ cond b [] (current q vs)
     left_is b e = ended_current number q s.row vs ∙ ap (λ c. cond c [] (current q vs)) e
 
-    by : (b : Bool) → row_eq q s.row ≡ b → (c : Bool) → is_change (joined (current s.row vs) s) ≡ c
+    by : (b : Bool) → row_eq q s.row ≡ b → (c : Bool) → has_tuples (joined (current s.row vs) s) ≡ c
         → current q (cond c (placed version_cmp (version_from number (joined (current s.row vs) s)) (map (ended number s.row) vs)) (map (ended number s.row) vs)) ≡ cond b (cond c (joined (current s.row vs) s ∷ []) []) (current q vs)
     by true e true f = placed_own number q (joined (current s.row vs) s) (map (ended number s.row) vs) (own true e) (left_is true e)
     by true e false f = left_is true e

@@ -1,8 +1,8 @@
 -- The groups with changes: each row's entries determine an ascending list of groups.
-use Rattle.std.proofs.Common.{◌≡◌, Bool, true, false, cond, List, [], ◌∷◌, ◌++◌, map, filter, get_or, Some, None, refl, sym, ap, ap₂, ◌∙◌, subst}
-use Rattle.std.specs.Prelude.{◌||◌}
-use Rattle.std.specs.List.{AllByRecursion, list_any}
-use Rattle.std.specs.Ordering.{is_eq, ordering_reverse}
+use Rattle.std.proofs.Common.{◌≡◌, pos, Bool, true, false, cond, List, [], ◌∷◌, ◌++◌, map, filter, get_or, Some, None, refl, sym, ap, ap₂, ◌∙◌, subst}
+use Rattle.std.specs.Prelude.{◌&&◌, ◌||◌, not}
+use Rattle.std.specs.List.{AllByRecursion, list_all, list_any}
+use Rattle.std.specs.Ordering.{int_eq, is_eq, ordering_reverse}
 use Rattle.std.specs.declared.cmp.Ordering.{Ordering}
 use Rattle.std.specs.declared.cmp.Ordering.TheVariants.{Less, Equal, Greater}
 use Rattle.std.proofs.lemmas.List.{map-append}
@@ -20,6 +20,7 @@ use Rattle.lv_schema.proofs.ChangeLists.{Covers, own_of, shown_changes}
 use Rattle.lv_schema.proofs.DifferencesAddUp.{any_once}
 use Rattle.lv_schema.proofs.NetsLead.{passes, row_itself, same_row}
 use Rattle.lv_schema.proofs.OnceLists.{once_up}
+use Rattle.lv_group.specs.Gathered.{has_tuples}
 use Rattle.lv_viewrows.specs.Changed.{after_changes, groups_with}
 use Rattle.lv_viewrows.proofs.Changes.{RowsAscend, kept, none_above, settled}
 
@@ -84,7 +85,7 @@ choices true false x e = cc
 choices false true x e = cc
 choices false false x e = refl
 
-pub entries_of_changes : (at : List Value → SignedRow) → ((q : List Value) → (at q).row ≡ q) → (rows : List (List Value)) → Covers at rows → (q : List Value) → entries_of q (changes at rows) ≡ kept (at q)
+pub entries_of_changes : (at : List Value → SignedRow) → ((q : List Value) → (at q).row ≡ q) → (rows : List (List Value)) → Covers at rows → (q : List Value) → entries_of q (changes at rows) ≡ cond (is_change (at q)) (at q ∷ []) []
 entries_of_changes at named rows covers q =
     let some = filter (λ row. is_change (at row)) rows in
     let there : has_row q (once row_cmp some) ≡ is_change (at q) = any_once q some ∙ choices (has_row q some) (is_change (at q)) (at q) (shown_changes at rows covers q) in
@@ -106,6 +107,35 @@ changes_ascend at named rows = up (once row_cmp (filter (λ row. is_change (at r
       up ks a.1,
     )
 
+-- ---- of those that pass a test
+pub filters_swap : {X : Type 0} (p r : X → Bool) (xs : List X) → filter p (filter r xs) ≡ filter r (filter p xs)
+filters_swap p r [] = refl
+filters_swap {X} p r (x ∷ xs) = by (p x) refl (r x) refl (filters_swap p r xs)
+  where
+    by : (a : Bool) → p x ≡ a → (b : Bool) → r x ≡ b → filter p (filter r xs) ≡ filter r (filter p xs) → filter p (cond b (x ∷ filter r xs) (filter r xs)) ≡ filter r (cond a (x ∷ filter p xs) (filter p xs))
+    by true e true f ih = (λ i. cond (e i) (x ∷ filter p (filter r xs)) (filter p (filter r xs))) ∙ ap (λ l. x ∷ l) ih ∙ (λ i. cond (sym f i) (x ∷ filter r (filter p xs)) (filter r (filter p xs)))
+    by true e false f ih = ih ∙ (λ i. cond (sym f i) (x ∷ filter r (filter p xs)) (filter r (filter p xs)))
+    by false e true f ih = (λ i. cond (e i) (x ∷ filter p (filter r xs)) (filter p (filter r xs))) ∙ ih
+    by false e false f ih = ih
+
+pub filter_ascends : (p : SignedRow → Bool) (list : List SignedRow) → RowsAscend list → RowsAscend (filter p list)
+filter_ascends p [] a = tt
+filter_ascends p (s ∷ list) a = by (p s) (filter_ascends p list a.1)
+  where
+    by : (b : Bool) → RowsAscend (filter p list) → RowsAscend (cond b (s ∷ filter p list) (filter p list))
+    by true ih = (all_filter (λ (t : SignedRow). row_cmp s.row t.row ≡ Less) p list a.0, ih)
+    by false ih = ih
+
+-- a change without a tuple goes
+with_tuples : (s : SignedRow) → filter has_tuples (cond (is_change s) (s ∷ []) []) ≡ kept s
+with_tuples s = by (int_eq s.count (pos 0)) refl (list_all (λ n. int_eq n (pos 0)) s.sums)
+  where
+    by : (a : Bool) → int_eq s.count (pos 0) ≡ a → (b : Bool) → filter has_tuples (cond (not (a && b)) (s ∷ []) []) ≡ cond (not a) (s ∷ []) []
+    by true e true = refl
+    by true e false = λ i. cond (not (e i)) (s ∷ []) []
+    by false e true = λ i. cond (not (e i)) (s ∷ []) []
+    by false e false = λ i. cond (not (e i)) (s ∷ []) []
+
 -- ---- of groups with changes
 abbrev pub AtMostOne : List SignedRow → Type 0
 AtMostOne [] = Unit {0}
@@ -120,7 +150,7 @@ at_most_one q (s ∷ list) a = by (row_eq q s.row) refl (at_most_one q list a.1)
     by true e ih = subst (λ l. AtMostOne (s ∷ l)) (sym (ap (λ r. entries_of r list) (same_row q s.row e) ∙ none_above s.row list a.0)) tt
     by false e ih = ih
 
-settled_kept : (q : List Value) (groups list : List SignedRow) → AtMostOne groups → AllByRecursion (λ s. is_change s ≡ true) groups → settled groups list ≡ kept (after_changes q groups list)
+settled_kept : (q : List Value) (groups list : List SignedRow) → AtMostOne groups → AllByRecursion (λ s. has_tuples s ≡ true) groups → settled groups list ≡ kept (after_changes q groups list)
 settled_kept q [] [] one c = refl
 settled_kept q (s ∷ []) [] one c = λ i. cond (sym c.0 i) (s ∷ []) []
 settled_kept q (s ∷ t ∷ more) [] one c = absurd one
@@ -162,16 +192,17 @@ module _ (list groups : List SignedRow) where
           (λ i. cond (parts.0 i) (x ∷ entries_of q xs) (entries_of q xs)) ∙ none_of xs parts.1
 
   pub entries_with : (q : List Value) → entries_of q (groups_with list groups) ≡ kept (at q)
-  entries_with q = entries_of_changes at named rows covered q
+  entries_with q =
+      filters_swap (λ (s : SignedRow). row_eq q s.row) has_tuples (changes at rows) ∙ ap (filter has_tuples) (entries_of_changes at named rows covered q) ∙ with_tuples (at q)
 
   pub with_ascend : RowsAscend (groups_with list groups)
-  with_ascend = changes_ascend at named rows
+  with_ascend = filter_ascends has_tuples (changes at rows) (changes_ascend at named rows)
 
   -- a list with the entries that changes leave is the groups with the changes
-  pub groups_with_is : RowsAscend groups → AllByRecursion (λ s. is_change s ≡ true) groups → (after : List SignedRow) → RowsAscend after
+  pub groups_with_is : RowsAscend groups → AllByRecursion (λ s. has_tuples s ≡ true) groups → (after : List SignedRow) → RowsAscend after
       → ((q : List Value) → entries_of q after ≡ settled (entries_of q groups) (entries_of q list)) → after ≡ groups_with list groups
   groups_with_is up c after a says =
       only_groups after (groups_with list groups) a with_ascend
       (λ q. says q
-      ∙ settled_kept q (entries_of q groups) (entries_of q list) (at_most_one q groups up) (all_filter (λ s. is_change s ≡ true) (λ (s : SignedRow). row_eq q s.row) groups c)
+      ∙ settled_kept q (entries_of q groups) (entries_of q list) (at_most_one q groups up) (all_filter (λ s. has_tuples s ≡ true) (λ (s : SignedRow). row_eq q s.row) groups c)
       ∙ sym (entries_with q))

@@ -14,12 +14,12 @@ use Rattle.lv_values.specs.OrderLaws.{row_total}
 use Rattle.lv_schema.specs.declared.signed.SignedRow.{SignedRow}
 use Rattle.lv_schema.specs.declared.view.ViewDef.{ViewDef}
 use Rattle.lv_schema.specs.Applicable.{ApplyToGroups, LeavesCount}
-use Rattle.lv_schema.specs.Differences.{is_change}
 use Rattle.lv_schema.specs.Groups.{total}
 use Rattle.lv_schema.specs.SignedRows.{entries_of}
 use Rattle.lv_schema.specs.Versions.{ends_after}
 use Rattle.lv_schema.proofs.Apart.{all_both, all_filter, all_map, all_true, all_weaker, apart_filter}
 use Rattle.lv_schema.proofs.NetsLead.{same_row}
+use Rattle.lv_group.specs.Gathered.{has_tuples}
 use Rattle.lv_shelf.specs.Cuts.{Apart}
 use Rattle.lv_viewrows.specs.declared.version.GroupVersion.{GroupVersion}
 use Rattle.lv_viewrows.specs.Changed.{groups_with}
@@ -118,8 +118,8 @@ module _ (view : ViewDef) (at : ℕ) (vs : List GroupVersion) (held : AreVersion
   pub now_ascend : RowsAscend now
   now_ascend = groups_ascend at vs held.order
 
-  pub now_change : AllByRecursion (λ s. is_change s ≡ true) now
-  now_change = all_there (λ s. is_change s ≡ true) at vs held.counts
+  pub now_change : AllByRecursion (λ s. has_tuples s ≡ true) now
+  now_change = all_there (λ s. has_tuples s ≡ true) at vs held.counts
 
   abbrev IsOneRow : SignedRow → Type 0
   IsOneRow g = g ≡ one_row g.row
@@ -176,7 +176,7 @@ ended_all : (P : SignedRow → Type 0) (number : ℕ) (row : List Value) (vs : L
 ended_all P number row vs a = all_map (ended number row) (λ (v : GroupVersion). P v.group) vs a
 
 pub all_changed : (P : SignedRow → Type 0) (number : ℕ) (list : List SignedRow) (vs : List GroupVersion) → RowsAscend list → AllByRecursion (λ v. P v.group) vs
-    → AllByRecursion (λ s. is_change (joined (current s.row vs) s) ≡ true → P (joined (current s.row vs) s)) list → AllByRecursion (λ v. P v.group) (changed_all number list vs)
+    → AllByRecursion (λ s. has_tuples (joined (current s.row vs) s) ≡ true → P (joined (current s.row vs) s)) list → AllByRecursion (λ v. P v.group) (changed_all number list vs)
 all_changed P number [] vs up a f = a
 all_changed P number (s ∷ list) vs up a f = by (joined (current s.row inner) s) (ap (λ l. joined l s) same) (all_changed P number list vs up.1 a f.1)
   where
@@ -187,13 +187,13 @@ all_changed P number (s ∷ list) vs up a f = by (joined (current s.row inner) s
     same = all_current number s.row list vs up.1 ∙ ap (settled (current s.row vs)) (none_above s.row list up.0)
 
     by : (group : SignedRow) → group ≡ joined (current s.row vs) s → AllByRecursion (λ v. P v.group) (changed_all number list vs) → AllByRecursion (λ (v : GroupVersion). P v.group) (put number group (map (ended number s.row) (changed_all number list vs)))
-    by group is ih = at (is_change group) refl
+    by group is ih = at (has_tuples group) refl
       where
         left : List GroupVersion
         left = map (ended number s.row) (changed_all number list vs)
 
-        at : (b : Bool) → is_change group ≡ b → AllByRecursion (λ (v : GroupVersion). P v.group) (cond b (placed version_cmp (version_from number group) (map (ended number s.row) (changed_all number list vs))) (map (ended number s.row) (changed_all number list vs)))
-        at true e = all_placed (λ (v : GroupVersion). P v.group) (version_from number group) (map (ended number s.row) (changed_all number list vs)) (subst P (sym is) (f.0 (ap is_change (sym is) ∙ e))) (ended_all P number s.row (changed_all number list vs) ih)
+        at : (b : Bool) → has_tuples group ≡ b → AllByRecursion (λ (v : GroupVersion). P v.group) (cond b (placed version_cmp (version_from number group) (map (ended number s.row) (changed_all number list vs))) (map (ended number s.row) (changed_all number list vs)))
+        at true e = all_placed (λ (v : GroupVersion). P v.group) (version_from number group) (map (ended number s.row) (changed_all number list vs)) (subst P (sym is) (f.0 (ap has_tuples (sym is) ∙ e))) (ended_all P number s.row (changed_all number list vs) ih)
         at false e = ended_all P number s.row (changed_all number list vs) ih
 
 -- ---- versions that are not there may be dropped
@@ -243,16 +243,16 @@ pub some_kept : (view : ViewDef) (at : ℕ) (p : GroupVersion → Bool) (vs : Li
 some_kept view at p vs held = record {
   order = apart_filter Precedes p vs held.order;
   each = all_filter (IsBy at) p vs held.each;
-  counts = all_filter (λ (v : GroupVersion). is_change v.group ≡ true) p vs held.counts;
+  counts = all_filter (λ (v : GroupVersion). has_tuples v.group ≡ true) p vs held.counts;
   rows = λ e. all_filter IsRow p vs (held.rows e);
 }
 
 -- ---- groups that are there from the start
-pub first_kept : (view : ViewDef) (at : ℕ) (groups : List SignedRow) → RowsAscend groups → AllByRecursion (λ s. is_change s ≡ true) groups → (view.grouped ≡ false → AllByRecursion (λ s. s ≡ one_row s.row) groups) → AreVersions view at (map (version_from 0) groups)
+pub first_kept : (view : ViewDef) (at : ℕ) (groups : List SignedRow) → RowsAscend groups → AllByRecursion (λ s. has_tuples s ≡ true) groups → (view.grouped ≡ false → AllByRecursion (λ s. s ≡ one_row s.row) groups) → AreVersions view at (map (version_from 0) groups)
 first_kept view at groups up c ones = record {
   order = order groups up;
   each = all_map (version_from 0) (IsBy at) groups (all_true (λ g. IsBy at (version_from 0 g)) (λ g. (omega arith, tt)) groups);
-  counts = all_map (version_from 0) (λ (v : GroupVersion). is_change v.group ≡ true) groups c;
+  counts = all_map (version_from 0) (λ (v : GroupVersion). has_tuples v.group ≡ true) groups c;
   rows = λ e. all_map (version_from 0) IsRow groups (ones e);
 }
   where

@@ -5,10 +5,10 @@ use Rattle.std.specs.List.{AllByRecursion}
 use Rattle.lv_schema.specs.declared.signed.SignedRow.{SignedRow}
 use Rattle.lv_schema.specs.declared.view.ViewDef.{ViewDef}
 use Rattle.lv_schema.specs.Applicable.{ApplyToGroups, ApplyToRows, with_changes}
-use Rattle.lv_schema.specs.Differences.{is_change, summed_columns}
+use Rattle.lv_schema.specs.Differences.{summed_columns}
 use Rattle.lv_schema.specs.SignedRows.{entries_of}
 use Rattle.lv_schema.proofs.Apart.{all_true, all_weaker}
-use Rattle.lv_group.specs.Gathered.{rows_of}
+use Rattle.lv_group.specs.Gathered.{has_tuples, rows_of}
 use Rattle.lv_shelf.specs.Cuts.{Apart}
 use Rattle.lv_viewrows.specs.declared.version.GroupVersion.{GroupVersion}
 use Rattle.lv_viewrows.specs.Changed.{CanInstall, groups_with}
@@ -60,17 +60,17 @@ module _ (k : ViewKept) (held : AreVersions k.def k.at k.versions) (hi : ℕ) (l
   pub meet : AllByRecursion (MeetAll hi k.versions) list
   meet = all_met k.def k.at k.versions held hi can.later list fit
 
-  made : k.def.grouped ≡ false → AllByRecursion (λ s. is_change (joined (current s.row k.versions) s) ≡ true → IsOneRow (joined (current s.row k.versions) s)) list
+  made : k.def.grouped ≡ false → AllByRecursion (λ s. has_tuples (joined (current s.row k.versions) s) ≡ true → IsOneRow (joined (current s.row k.versions) s)) list
   made e =
-      all_weaker (λ s. is_change (joined (entries_of s.row now) s) ≡ true → IsOneRow (joined (entries_of s.row now) s)) (λ s. is_change (joined (current s.row k.versions) s) ≡ true → IsOneRow (joined (current s.row k.versions) s))
-      (λ s f. subst (λ gs. is_change (joined gs s) ≡ true → IsOneRow (joined gs s)) (entries_now k.def k.at k.versions held s.row) f) list
+      all_weaker (λ s. has_tuples (joined (entries_of s.row now) s) ≡ true → IsOneRow (joined (entries_of s.row now) s)) (λ s. has_tuples (joined (current s.row k.versions) s) ≡ true → IsOneRow (joined (current s.row k.versions) s))
+      (λ s f. subst (λ gs. has_tuples (joined gs s) ≡ true → IsOneRow (joined gs s)) (entries_now k.def k.at k.versions held s.row) f) list
       (rows_made now list (now_ascend k.def k.at k.versions held) can.netted.ascend (now_rows k.def k.at k.versions held e) (apply e) (plain e))
 
   pub kept_after : Apart Precedes after → AllByRecursion (IsBy hi) after → AreVersions k.def hi after
   kept_after order each = record {
     order = order;
     each = each;
-    counts = all_changed (λ s. is_change s ≡ true) hi list k.versions can.netted.ascend held.counts (all_true (λ s. is_change (joined (current s.row k.versions) s) ≡ true → is_change (joined (current s.row k.versions) s) ≡ true) (λ s e. e) list);
+    counts = all_changed (λ s. has_tuples s ≡ true) hi list k.versions can.netted.ascend held.counts (all_true (λ s. has_tuples (joined (current s.row k.versions) s) ≡ true → has_tuples (joined (current s.row k.versions) s) ≡ true) (λ s e. e) list);
     rows = λ e. all_changed IsOneRow hi list k.versions can.netted.ascend (held.rows e) (made e);
   }
 

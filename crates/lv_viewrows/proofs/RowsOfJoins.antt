@@ -10,17 +10,17 @@ use Rattle.lv_values.specs.Order.{row_cmp, row_eq}
 use Rattle.lv_values.specs.OrderLaws.{row_exact, row_total}
 use Rattle.lv_schema.specs.declared.signed.SignedRow.{SignedRow}
 use Rattle.lv_schema.specs.Applicable.{ApplyToRows, coming, going, with_changes}
-use Rattle.lv_schema.specs.Differences.{is_change}
 use Rattle.lv_schema.specs.Nets.{has_row, lacking}
 use Rattle.lv_schema.specs.Once.{Ascends, are_apart}
 use Rattle.lv_schema.specs.SignedRows.{entries_of}
 use Rattle.lv_schema.proofs.Apart.{Apart, Untied, all_both, all_filter, all_map, all_weaker, apart_append, apart_filter, ascends_apart, ascends_ascending}
 use Rattle.lv_schema.proofs.NetsLead.{any_ascending, any_lacking, only_rows, passes, row_itself, same_row}
+use Rattle.lv_group.specs.Gathered.{has_tuples}
 use Rattle.lv_viewrows.specs.Changed.{after_changes, group_with, groups_with, sums_added}
 use Rattle.lv_viewrows.specs.Kept.{one_row, version_from}
 use Rattle.lv_viewrows.specs.Standing.{IsCount, joined}
 use Rattle.lv_viewrows.proofs.Changes.{RowsAscend, kept}
-use Rattle.lv_viewrows.proofs.Entries.{AtMostOne, at_most_one, entries_with, with_ascend}
+use Rattle.lv_viewrows.proofs.Entries.{filter_ascends, filters_swap, AtMostOne, at_most_one, entries_with, with_ascend}
 use Rattle.lv_viewrows.proofs.Installing.{Fits}
 
 abbrev pub row_of : SignedRow → List Value
@@ -42,16 +42,6 @@ has_entries q (s ∷ list) = by (row_eq q s.row) (has_entries q list)
     by true ih = refl
     by false ih = ih
 
-filters_swap : {X : Type 0} (p r : X → Bool) (xs : List X) → filter p (filter r xs) ≡ filter r (filter p xs)
-filters_swap p r [] = refl
-filters_swap {X} p r (x ∷ xs) = by (p x) refl (r x) refl (filters_swap p r xs)
-  where
-    by : (a : Bool) → p x ≡ a → (b : Bool) → r x ≡ b → filter p (filter r xs) ≡ filter r (filter p xs) → filter p (cond b (x ∷ filter r xs) (filter r xs)) ≡ filter r (cond a (x ∷ filter p xs) (filter p xs))
-    by true e true f ih = (λ i. cond (e i) (x ∷ filter p (filter r xs)) (filter p (filter r xs))) ∙ ap (λ l. x ∷ l) ih ∙ (λ i. cond (sym f i) (x ∷ filter r (filter p xs)) (filter r (filter p xs)))
-    by true e false f ih = ih ∙ (λ i. cond (sym f i) (x ∷ filter r (filter p xs)) (filter r (filter p xs)))
-    by false e true f ih = (λ i. cond (e i) (x ∷ filter p (filter r xs)) (filter p (filter r xs))) ∙ ih
-    by false e false f ih = ih
-
 -- of the changes that pass a test
 has_passing : (p : SignedRow → Bool) (q : List Value) (list : List SignedRow) → has_row q (map row_of (filter p list)) ≡ some (filter p (entries_of q list))
 has_passing p q list = has_entries q (filter p list) ∙ ap some (filters_swap (λ s. row_eq q s.row) p list)
@@ -71,23 +61,23 @@ goes s = int_eq s.count (neg_ℤ (pos 1))
 abbrev comes : SignedRow → Bool
 comes s = int_eq s.count (pos 1)
 
-quiet : (count : ℤ) (sums : List ℤ) (row : List Value) → count ≡ pos 0 → sums ≡ [] → is_change (record { row = row; count = count; sums = sums }) ≡ false
-quiet count sums row c e = λ i. is_change (record { row = row; count = c i; sums = e i })
+quiet : (count : ℤ) (sums : List ℤ) (row : List Value) → count ≡ pos 0 → sums ≡ [] → has_tuples (record { row = row; count = count; sums = sums }) ≡ false
+quiet count sums row c e = λ i. has_tuples (record { row = row; count = c i; sums = e i })
 
-loud : (count : ℤ) (sums : List ℤ) (row : List Value) → count ≡ pos 1 → sums ≡ [] → is_change (record { row = row; count = count; sums = sums }) ≡ true
-loud count sums row c e = λ i. is_change (record { row = row; count = c i; sums = e i })
+loud : (count : ℤ) (sums : List ℤ) (row : List Value) → count ≡ pos 1 → sums ≡ [] → has_tuples (record { row = row; count = count; sums = sums }) ≡ true
+loud count sums row c e = λ i. has_tuples (record { row = row; count = c i; sums = e i })
 
-gone : (g s : SignedRow) → IsOneRow g → IsRowChange true s → is_change (group_with g s) ≡ false
+gone : (g s : SignedRow) → IsOneRow g → IsRowChange true s → has_tuples (group_with g s) ≡ false
 gone g s one c = quiet (g.count +ℤ s.count) (sums_added g.sums s.sums) s.row (λ i. (one i).count +ℤ c.count i) ((λ i. sums_added (one i).sums s.sums) ∙ c.sums)
 
-is_there : (s : SignedRow) → IsRowChange false s → is_change s ≡ true
+is_there : (s : SignedRow) → IsRowChange false s → has_tuples s ≡ true
 is_there s c = loud s.count s.sums s.row c.count c.sums
 
 -- by the entries that a row has in the groups and in the changes
 told : (q : List Value) (groups list : List SignedRow) → AtMostOne groups → AtMostOne list → AllByRecursion IsOneRow groups → AllByRecursion (IsRowChange (some groups)) list
-    → is_change (after_changes q groups list) ≡ ((not (some (filter goes list)) && some groups) || some (filter comes list))
+    → has_tuples (after_changes q groups list) ≡ ((not (some (filter goes list)) && some groups) || some (filter comes list))
 told q [] [] m n a c = refl
-told q (g ∷ []) [] m n a c = λ i. is_change (a.0 i)
+told q (g ∷ []) [] m n a c = λ i. has_tuples (a.0 i)
 told q (g ∷ h ∷ groups) list m n a c = absurd m
 told q [] (s ∷ []) m n a c =
     is_there s c.0 ∙ sym (λ i. (not (some (cond (int_eq (c.0.count i) (neg_ℤ (pos 1))) (s ∷ []) [])) && false) || some (cond (int_eq (c.0.count i) (pos 1)) (s ∷ []) []))
@@ -111,8 +101,8 @@ module _ (groups list : List SignedRow) (up : RowsAscend groups) (list_up : Rows
   abbrev rows : List (List Value)
   rows = map row_of groups
 
-  some_kept : (g : SignedRow) → some (kept g) ≡ is_change g
-  some_kept g = by (is_change g)
+  some_kept : (g : SignedRow) → some (kept g) ≡ has_tuples g
+  some_kept g = by (has_tuples g)
     where
       by : (b : Bool) → some (cond b (g ∷ []) []) ≡ b
       by true = refl
@@ -134,14 +124,6 @@ module _ (groups list : List SignedRow) (up : RowsAscend groups) (list_up : Rows
 
   all_passing : (p : SignedRow → Bool) (P : SignedRow → Type 0) (ss : List SignedRow) → ((s : SignedRow) → p s ≡ true → P s) → AllByRecursion P (filter p ss)
   all_passing p P ss f = all_weaker (λ s. p s ≡ true) P f (filter p ss) (passes p ss)
-
-  filter_up : (p : SignedRow → Bool) (ss : List SignedRow) → RowsAscend ss → RowsAscend (filter p ss)
-  filter_up p [] a = tt
-  filter_up p (s ∷ ss) a = by (p s) (filter_up p ss a.1)
-    where
-      by : (b : Bool) → RowsAscend (filter p ss) → RowsAscend (cond b (s ∷ filter p ss) (filter p ss))
-      by true ih = (all_filter (λ (t : SignedRow). row_cmp s.row t.row ≡ Less) p ss a.0, ih)
-      by false ih = ih
 
   -- rows that come are not there
   absent : (there : Bool) (count : ℤ) → count ≡ cond there (neg_ℤ (pos 1)) (pos 1) → int_eq count (pos 1) ≡ true → there ≡ false
@@ -175,7 +157,7 @@ module _ (groups list : List SignedRow) (up : RowsAscend groups) (list_up : Rows
       ascends_ascending row_total (lacking rows (going list) ++ coming list)
       (apart_append (Untied row_total) (lacking rows (going list)) (coming list)
       (apart_filter (Untied row_total) (λ row. not (has_row row (going list))) rows (ascends_apart row_total rows (rows_up groups up)))
-      (ascends_apart row_total (coming list) (rows_up (filter comes list) (filter_up comes list list_up)))
+      (ascends_apart row_total (coming list) (rows_up (filter comes list) (filter_ascends comes list list_up)))
       (swap_all (Untied row_total) (lacking rows (going list)) (coming list)
       (all_weaker (λ y. has_row y rows ≡ false) (λ y. AllByRecursion (λ x. Untied row_total x y) (lacking rows (going list)))
       (λ y h. all_filter (λ x. Untied row_total x y) (λ row. not (has_row row (going list))) rows (other_rows y rows h)) (coming list) come_new)))
@@ -201,13 +183,13 @@ module _ (groups list : List SignedRow) (up : RowsAscend groups) (list_up : Rows
       all_weaker (λ s. IsRowChange (some (entries_of s.row groups)) s) (Fits groups)
       (λ s c g more e. fits_by s (entries_of s.row groups) (all_filter IsOneRow (λ (t : SignedRow). row_eq s.row t.row) groups ones) c g more e) list (row_changes groups list apply plain)
 
-  makes : (s : SignedRow) (own : List SignedRow) → AllByRecursion IsOneRow own → IsRowChange (some own) s → is_change (joined own s) ≡ true → IsOneRow (joined own s)
+  makes : (s : SignedRow) (own : List SignedRow) → AllByRecursion IsOneRow own → IsRowChange (some own) s → has_tuples (joined own s) ≡ true → IsOneRow (joined own s)
   makes s [] a c h = ap₂ (λ (n : ℤ) (l : List ℤ). record { row = s.row; count = n; sums = l }) c.count c.sums
   makes s (g ∷ own) a c h = let f = gone g s a.0 c in cc
 
-  pub rows_made : AllByRecursion (λ s. is_change (joined (entries_of s.row groups) s) ≡ true → IsOneRow (joined (entries_of s.row groups) s)) list
+  pub rows_made : AllByRecursion (λ s. has_tuples (joined (entries_of s.row groups) s) ≡ true → IsOneRow (joined (entries_of s.row groups) s)) list
   rows_made =
-      all_weaker (λ s. IsRowChange (some (entries_of s.row groups)) s) (λ s. is_change (joined (entries_of s.row groups) s) ≡ true → IsOneRow (joined (entries_of s.row groups) s))
+      all_weaker (λ s. IsRowChange (some (entries_of s.row groups)) s) (λ s. has_tuples (joined (entries_of s.row groups) s) ≡ true → IsOneRow (joined (entries_of s.row groups) s))
       (λ s c. makes s (entries_of s.row groups) (all_filter IsOneRow (λ (t : SignedRow). row_eq s.row t.row) groups ones) c) list (row_changes groups list apply plain)
 
 -- ---- distinct rows in order, as groups
@@ -231,7 +213,7 @@ pub one_rows_ascend : (rows : List (List Value)) → Ascends row_cmp rows → Ro
 one_rows_ascend [] a = tt
 one_rows_ascend (row ∷ rows) a = (all_map one_row (λ (s : SignedRow). row_cmp row s.row ≡ Less) rows a.0, one_rows_ascend rows a.1)
 
-pub one_rows_change : (rows : List (List Value)) → AllByRecursion (λ s. is_change s ≡ true) (map one_row rows)
+pub one_rows_change : (rows : List (List Value)) → AllByRecursion (λ s. has_tuples s ≡ true) (map one_row rows)
 one_rows_change [] = tt
 one_rows_change (row ∷ rows) = (refl, one_rows_change rows)
 

@@ -1,5 +1,5 @@
 -- Groups with changes.
-use Rattle.std.specs.Prelude.{◌≡◌, ℕ, ℤ, ◌<◌, FitsSigned, pos, true, false, ◌+ℤ◌, List, [], ◌∷◌, ◌++◌, map, if◌then◌else◌, length}
+use Rattle.std.specs.Prelude.{◌≡◌, ℕ, ℤ, ◌<◌, FitsSigned, pos, true, false, ◌+ℤ◌, List, [], ◌∷◌, ◌++◌, map, filter, if◌then◌else◌, length}
 use Rattle.std.specs.Int.{int_wrap, w128}
 use Rattle.std.specs.List.{AllByRecursion}
 use Rattle.lv_values.specs.declared.value.Value.{Value}
@@ -8,6 +8,7 @@ use Rattle.lv_schema.specs.declared.view.ViewDef.{ViewDef}
 use Rattle.lv_schema.specs.Applicable.{AreNetted, ApplyToGroups, ApplyToRows}
 use Rattle.lv_schema.specs.Differences.{changes, summed_columns}
 use Rattle.lv_schema.specs.SignedRows.{entries_of}
+use Rattle.lv_group.specs.Gathered.{has_tuples}
 use Rattle.lv_viewrows.specs.Kept.{ViewKept, groups_at, shown}
 
 -- each sum is a number of 128 bits
@@ -43,6 +44,6 @@ after_changes row [] (s ∷ more) = s
 after_changes row (group ∷ groups) [] = group
 after_changes row (group ∷ groups) (s ∷ more) = group_with group s
 
--- groups with changes: those that have none stay as they are, and one whose numbers are all 0 then is gone
+-- groups with changes: those that have none stay as they are, and one without a tuple is gone
 abbrev pub groups_with : List SignedRow → List SignedRow → List SignedRow
-groups_with list groups = changes (λ row. after_changes row (entries_of row groups) (entries_of row list)) (map (λ s. s.row) (groups ++ list))
+groups_with list groups = filter has_tuples (changes (λ row. after_changes row (entries_of row groups) (entries_of row list)) (map (λ s. s.row) (groups ++ list)))

@@ -9,8 +9,8 @@ use Rattle.lv_values.specs.Ascending.{placed}
 use Rattle.lv_values.specs.Order.{row_cmp, row_eq}
 use Rattle.lv_schema.specs.declared.signed.SignedRow.{SignedRow}
 use Rattle.lv_schema.specs.declared.view.ViewDef.{ViewDef}
-use Rattle.lv_schema.specs.Differences.{is_change}
 use Rattle.lv_schema.specs.Versions.{end_by}
+use Rattle.lv_group.specs.Gathered.{has_tuples}
 use Rattle.lv_shelf.specs.Cuts.{Apart}
 use Rattle.lv_viewrows.specs.declared.version.GroupVersion.{GroupVersion}
 use Rattle.lv_viewrows.specs.Changed.{group_with}
@@ -45,7 +45,7 @@ IsRow v = v.group ≡ one_row v.group.row
 pub record AreVersions (view : ViewDef) (at : ℕ) (versions : List GroupVersion) : Type 0 where
   pub order : Apart Precedes versions
   pub each : AllByRecursion (IsBy at) versions
-  pub counts : AllByRecursion (λ v. is_change v.group ≡ true) versions
+  pub counts : AllByRecursion (λ v. has_tuples v.group ≡ true) versions
   pub rows : view.grouped ≡ false → AllByRecursion IsRow versions
 
 -- ---- what a change does
@@ -79,9 +79,9 @@ abbrev pub joined : List SignedRow → SignedRow → SignedRow
 joined [] s = s
 joined (group ∷ groups) s = group_with group s
 
--- a group goes in if one of its numbers is not 0
+-- a group goes in if it has a tuple
 abbrev pub put : ℕ → SignedRow → List GroupVersion → List GroupVersion
-put number group versions = if is_change group then placed version_cmp (version_from number group) versions else versions
+put number group versions = if has_tuples group then placed version_cmp (version_from number group) versions else versions
 
 -- the versions after a change, and after several, the last one first
 abbrev pub changed : ℕ → SignedRow → List GroupVersion → List GroupVersion

@@ -9,7 +9,7 @@ ghost use Rattle.lv_shelf.specs.Cuts.{Apart};
 ghost use Rattle.lv_viewrows.specs.Kept.{version_from};
 ghost use Rattle.lv_viewrows.specs.Standing.{IsBy, Meets, MeetAll, Precedes, changed, changed_all, current, ended, joined, put, version_cmp};
 
-use crate::numbers::{is_change, with_group};
+use crate::numbers::{has_tuples, with_group};
 use crate::version::{ComesBefore, EndAt, GroupVersion};
 use lv_schema::{Signed, SignedRow};
 use lv_shelf::Shelf;
@@ -53,14 +53,14 @@ fn put_group(group: SignedRow, number: u64, versions: &mut Shelf<GroupVersion>)
     versions.insert(at, GroupVersion::from_commit(number, group));
 }
 
-/// Puts a group at its place unless all its numbers are 0.
+/// Puts a group at its place if it has a tuple.
 fn put_change(group: SignedRow, number: u64, versions: &mut Shelf<GroupVersion>)
     requires order { Apart Precedes versions.old.list }
     requires room { 0 < versions.old.spare }
     ensures put { versions.new.list ≡ put number group versions.old.list }
     ensures room { versions.old.spare ≤ versions.new.spare + 1 }
 {
-    if is_change(&group) {
+    if has_tuples(&group) {
         put_group(group, number, versions);
     }
 }

@@ -8,6 +8,6 @@ mod reading;
 mod version;
 mod viewrows;
 
-pub use laws::groups_with_changes_are_added_up;
+pub use laws::groups_with_changes_are_regrouped;
 pub use version::GroupVersion;
 pub use viewrows::ViewRows;

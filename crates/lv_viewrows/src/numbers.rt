@@ -1,26 +1,17 @@
 //! The numbers of a group with those of a change.
-ghost use Rattle.std.specs.Prelude.{◌≡◌, ◌<◌, ◌+ℤ◌, pos, length, slice_index_or};
+ghost use Rattle.std.specs.Prelude.{◌≡◌, ◌<◌, ◌+ℤ◌, length, slice_index_or};
 ghost use Rattle.std.specs.Int.{int_wrap, w128};
-ghost use Rattle.std.specs.List.{list_all};
-ghost use Rattle.std.specs.Ordering.{int_eq};
-ghost use Rattle.lv_schema.specs.Differences.{is_change};
+ghost use Rattle.lv_group.specs.Gathered.{has_tuples};
 ghost use Rattle.lv_viewrows.specs.Changed.{sums_added, group_with};
 ghost use Rattle.lv_viewrows.specs.Standing.{IsCount};
 
 use lv_schema::{SignedRow, Sums};
 
-/// Whether each sum is 0.
-fn are_zero(sums: &[i128]) -> bool
-    ensures { result ≡ list_all (λ n. int_eq n (pos 0)) sums.now }
+/// Whether a group has a tuple.
+pub(crate) fn has_tuples(group: &SignedRow) -> bool
+    ensures { result ≡ has_tuples group.now }
 {
-    sums.iter().all(|sum| *sum == 0)
-}
-
-/// Whether one of the numbers is not 0.
-pub(crate) fn is_change(group: &SignedRow) -> bool
-    ensures { result ≡ is_change group.now }
-{
-    group.count != 0 || !are_zero(group.sums.as_slice())
+    group.count != 0
 }
 
 /// The sum of two numbers, wrapped to 128 bits.

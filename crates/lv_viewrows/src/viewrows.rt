@@ -7,7 +7,7 @@ ghost use Rattle.lv_schema.specs.Applicable.{AreNetted, with_changes};
 ghost use Rattle.lv_schema.specs.Differences.{summed_columns};
 ghost use Rattle.lv_schema.specs.Once.{are_apart};
 ghost use Rattle.lv_schema.specs.Versions.{ends_after};
-ghost use Rattle.lv_group.specs.Gathered.{IsOfView, rows_of};
+ghost use Rattle.lv_group.specs.Gathered.{IsOfView, has_tuples, rows_of};
 ghost use Rattle.lv_viewrows.specs.Changed.{CanInstall, groups_with};
 ghost use Rattle.lv_viewrows.specs.Kept.{groups_at, one_row, rows_listed, shown, version_from};
 ghost use Rattle.lv_viewrows.specs.Standing.{has_no_end};
@@ -154,6 +154,7 @@ impl ViewRows {
         requires grouped { def.grouped ≡ true }
         requires of_view { IsOfView def groups }
         requires netted { AreNetted (length (summed_columns def)) groups.groups }
+        requires tuples { AllByRecursion (λ g. has_tuples g ≡ true) groups.groups }
         ensures def { IfOk result (λ v. v.def ≡ def) }
         ensures at { IfOk result (λ v. v.at ≡ point) }
         ensures versions { IfOk result (λ v. v.versions ≡ map (version_from 0) groups.groups) }

@@ -14,7 +14,7 @@ pub invariant_of-result : goal.invariant_of-result
 invariant_of-result c =
     let groups = c.args.groups.groups in
     let made : c.in_ok-versions.versions.list ≡ map (version_from 0) c.args.groups.groups = c.in_ok-versions.ensures ∙ ap (map (version_from 0)) c.into_groups.ensures in
-    subst (AreVersions c.args.def c.args.point) (sym made) (first_kept c.args.def c.args.point groups c.requires.netted.ascend c.requires.netted.change (λ e. absurd (not_either (sym c.requires.grouped ∙ e))))
+    subst (AreVersions c.args.def c.args.point) (sym made) (first_kept c.args.def c.args.point groups c.requires.netted.ascend c.requires.tuples (λ e. absurd (not_either (sym c.requires.grouped ∙ e))))
 
 pub returns-clause-rows : goal.returns-clause-rows
 returns-clause-rows c = λ n.
