@@ -17,6 +17,7 @@ use Rattle.lv_parser.specs.declared.tree.Stmt.{Stmt}
 use Rattle.lv_parser.specs.declared.tree.Stmt.TheVariants.{CreateTable, CreateView, Insert, Update, Delete, Select, Begin, Commit, Rollback, ShowTasks}
 use Rattle.lv_schema.specs.declared.bound.Bound.TheVariants as bound
 use Rattle.lv_schema.specs.declared.cond.Col.{Col}
+use Rattle.lv_schema.specs.declared.query.OrderCol.{OrderCol}
 use Rattle.lv_schema.specs.declared.query.Query.{Query}
 use Rattle.lv_schema.specs.declared.query.Rel.{Rel}
 use Rattle.lv_schema.specs.declared.query.Rel.TheVariants.{Table, View}
@@ -174,7 +175,7 @@ module _ (tables : List TableDef) (views : List ViewDef) (sound : IsSchema table
     some_list = some_listed tables views sound list refs spoken.0 spoken.1 there;
     few_list = rw (list_size sources list) (none_over 64 (list_length sources list ∷ []) clean.small.1.1.1.1.0).0;
     list_in_range = subst (λ columns. list_all (is_in_range columns) (bound_list sources list) ≡ true) same_columns (list_range sources list known.0);
-    few_order = rw (length-map order (λ by. record { col = bound_col sources by.0; descending = by.1 })) (none_over 16 (length order ∷ []) clean.small.1.1.1.1.1.0).0;
+    few_order = rw (length-map {B = OrderCol} order (λ by. record { col = bound_col sources by.0; descending = by.1 })) (none_over 16 (length order ∷ []) clean.small.1.1.1.1.1.0).0;
     order_in_range = subst (λ columns. list_all (λ by. is_in_range columns by.col) (bound_order sources order) ≡ true) same_columns (order_range sources order known_after.1);
   }
 
