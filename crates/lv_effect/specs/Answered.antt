@@ -1,0 +1,30 @@
+-- What a call says of the effect of a change.
+use Rattle.std.specs.Prelude.{◌≡◌, ℕ, ◌+◌, cond, nat_lt, List, length, Option, Result, Ok, Err}
+use Rattle.lv_values.specs.declared.value.Value.{Value}
+use Rattle.lv_schema.specs.declared.action.Action.{Action}
+use Rattle.lv_schema.specs.declared.change.Change.{Change}
+use Rattle.lv_schema.specs.declared.change.Change.TheVariants.{Insert, Update, Delete}
+use Rattle.lv_schema.specs.declared.fault.Fault.{Fault}
+use Rattle.lv_schema.specs.declared.fault.Fault.TheVariants.{Duplicate, TableFull}
+use Rattle.lv_schema.specs.declared.table.TableDef.{TableDef}
+use Rattle.lv_schema.specs.Effects.{Effect, first_fault, option_fault, fault_where, first_taken}
+use Rattle.lv_effect.specs.FixedKeys.{says_key}
+use Rattle.lv_effect.specs.declared.fault.EffectFault.{EffectFault}
+use Rattle.lv_effect.specs.declared.fault.EffectFault.TheVariants.{Stmt, NoMemory}
+
+-- the number of rows and the actions, or the fault; want of memory says nothing
+abbrev pub GivesEffect : Result (ℕ × List Action) EffectFault → Result Effect Fault → Type 0
+GivesEffect (Ok e) effect = effect ≡ Ok (record { count = e.0; actions = e.1 })
+GivesEffect (Err (Stmt fault)) effect = effect ≡ Err fault
+GivesEffect (Err NoMemory) effect = Unit {0}
+
+-- why an INSERT is refused
+abbrev pub insert_fault : ℕ → TableDef → List (List Value) → List (List Value) → Option Fault
+insert_fault table def new rows =
+    first_fault (option_fault (Duplicate table) (first_taken def.key rows new)) (fault_where (nat_lt 65535 (length rows + length new)) (TableFull table))
+
+-- how many base rows a change reads at most, where so many are there: one where its condition fixes the key
+abbrev pub most_steps : List ℕ → Change → ℕ → ℕ
+most_steps key (Insert table new) rows = rows
+most_steps key (Update table sets c) rows = cond (says_key c key) 1 rows
+most_steps key (Delete table c) rows = cond (says_key c key) 1 rows

@@ -1,0 +1,5 @@
+pub mod Answered
+pub mod FixedKeys
+pub mod KeyOrder
+pub mod Sums
+pub mod TableActions

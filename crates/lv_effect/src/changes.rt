@@ -1,0 +1,62 @@
+//! What a change does to a table.
+ghost use Rattle.std.specs.Prelude.{◌≡◌, ◌≤◌, ◌+◌, length};
+ghost use Rattle.lv_schema.specs.Effects.{effect_on};
+ghost use Rattle.lv_overlay.specs.Puts.{StandUnder, rows_over};
+ghost use Rattle.lv_versions.specs.Versions.{state_at};
+ghost use Rattle.lv_effect.specs.Answered.{GivesEffect, most_steps};
+ghost use Rattle.lv_effect.specs.Sums.{ChangeSumsFit};
+
+use crate::effects::{delete_effect, insert_effect, update_effect};
+use crate::fault::EffectFault;
+use crate::reading::{merged_rows, rows_to_try};
+use lv_overlay::{Overlay, writes_give_own_rows};
+use lv_schema::{Actions, Change, TableDef};
+use lv_values::Steps;
+use lv_versions::Versions;
+use std::alloc::Global;
+use std::sync::ledger::Ledger;
+
+/// What a change does to a table's rows after commit n with a transaction's own writes over them: the number of rows
+/// that it inserts, updates or deletes, and its actions, not numbered yet. Refused with a number out of range, a
+/// duplicate key or a full table, in this order. Cost: an UPDATE or DELETE whose condition fixes every key column finds
+/// its row by two binary searches; any other change reads the rows in one pass. An INSERT then searches them, and its
+/// rows before, for each of its rows.
+pub fn effect<L: Ledger>(
+    alloc: Global,
+    table: &TableDef,
+    base: &Versions,
+    n: u64,
+    own: &Overlay,
+    change: &Change,
+    steps: &mut Steps<L>,
+) -> Result<(u64, Actions), EffectFault>
+    requires table { base.now.def ≡ table.now }
+    requires floor { base.now.floor ≤ n }
+    requires own { StandUnder table.now.key table.now.no own.now.list }
+    requires sums { ChangeSumsFit change.now (rows_over table.now.key own.now.list table.now.no (state_at n base.now.versions)) }
+    ensures given { GivesEffect result (effect_on table.now change.now (rows_over table.now.key own.now.list table.now.no (state_at n base.now.versions))) }
+    ensures cost { steps.new ≤ steps.old + most_steps table.now.key change.now (length (state_at n base.now.versions)) }
+{
+    writes_give_own_rows();
+    match change {
+        Change::Insert {
+            table: no,
+            rows: new,
+        } => {
+            let rows = merged_rows(alloc, table, base, n, own, steps)?;
+            insert_effect(alloc, *no, table, new.as_slice(), rows.as_slice())
+        }
+        Change::Update {
+            table: no,
+            sets,
+            cond,
+        } => {
+            let tried = rows_to_try(alloc, table, base, n, own, cond, steps)?;
+            update_effect(alloc, *no, sets.as_slice(), cond, tried.as_slice())
+        }
+        Change::Delete { table: no, cond } => {
+            let tried = rows_to_try(alloc, table, base, n, own, cond, steps)?;
+            delete_effect(alloc, *no, cond, tried.as_slice())
+        }
+    }
+}

@@ -1,0 +1,109 @@
+//! The rows that a change reads: those of a snapshot with a transaction's own writes over them.
+ghost use Rattle.std.specs.Prelude.{◌≡◌, ◌≤◌, ◌+◌, true, false, length, List, Some, None, IfOk, MatchOption};
+ghost use Rattle.std.specs.Option.{option_to_list};
+ghost use Rattle.lv_values.specs.Rows.{key_cmp};
+ghost use Rattle.lv_schema.specs.Effects.{matching};
+ghost use Rattle.lv_schema.specs.Keys.{row_at};
+ghost use Rattle.lv_schema.specs.Once.{Ascends};
+ghost use Rattle.lv_schema.specs.declared.change.Set.{Set as ASet};
+ghost use Rattle.lv_overlay.specs.Puts.{StandUnder, rows_over};
+ghost use Rattle.lv_versions.specs.Versions.{state_at};
+ghost use Rattle.lv_effect.specs.FixedKeys.{says_key};
+ghost use Rattle.lv_effect.specs.Sums.{SumsFit};
+
+use crate::fixing::fixed_key;
+use lv_overlay::{Overlay, writes_give_own_rows};
+use lv_schema::{Cond, TableDef};
+use lv_values::{Copying, NoMemory, Row, Rows, Steps};
+use lv_versions::Versions;
+use std::alloc::Global;
+use std::sync::ledger::Ledger;
+
+/// The rows of a table after commit n with the writes over them. Cost: one pass.
+pub(crate) fn merged_rows<L: Ledger>(
+    alloc: Global,
+    table: &TableDef,
+    base: &Versions,
+    n: u64,
+    own: &Overlay,
+    steps: &mut Steps<L>,
+) -> Result<Rows, NoMemory>
+    requires table { base.now.def ≡ table.now }
+    requires floor { base.now.floor ≤ n }
+    ensures rows { IfOk result (λ rows. rows ≡ rows_over table.now.key own.now.list table.now.no (state_at n base.now.versions)) }
+    ensures cost { steps.new ≤ steps.old + length (state_at n base.now.versions) }
+{
+    let rows = base.scan(alloc, n, steps)?;
+    own.merged(alloc, table, rows)
+}
+
+/// The row at a key after commit n with the writes over it. Cost: two binary searches.
+fn row_there<'a, L: Ledger>(
+    table: &TableDef,
+    base: &'a Versions,
+    n: u64,
+    own: &'a Overlay,
+    key: &Row,
+    steps: &mut Steps<L>,
+) -> Option<&'a Row>
+    requires table { base.now.def ≡ table.now }
+    requires floor { base.now.floor ≤ n }
+    requires own { StandUnder table.now.key table.now.no own.now.list }
+    ensures found { MatchOption result (row_at table.now.key key.now (rows_over table.now.key own.now.list table.now.no (state_at n base.now.versions)) ≡ None) (λ row. row_at table.now.key key.now (rows_over table.now.key own.now.list table.now.no (state_at n base.now.versions)) ≡ Some row.now) }
+    ensures cost { steps.new ≤ steps.old + 1 }
+{
+    writes_give_own_rows();
+    match own.get(table.no, key) {
+        Some(written) => written.as_ref(),
+        None => base.read(n, key, steps),
+    }
+}
+
+/// A copy of the row at a key, if one is there. Cost: two binary searches.
+fn rows_there<L: Ledger>(
+    alloc: Global,
+    table: &TableDef,
+    base: &Versions,
+    n: u64,
+    own: &Overlay,
+    key: &Row,
+    steps: &mut Steps<L>,
+) -> Result<Rows, NoMemory>
+    requires table { base.now.def ≡ table.now }
+    requires floor { base.now.floor ≤ n }
+    requires own { StandUnder table.now.key table.now.no own.now.list }
+    ensures rows { IfOk result (λ rows. rows ≡ option_to_list (row_at table.now.key key.now (rows_over table.now.key own.now.list table.now.no (state_at n base.now.versions)))) }
+    ensures cost { steps.new ≤ steps.old + 1 }
+{
+    let mut rows = Rows::new(alloc);
+    if let Some(row) = row_there(table, base, n, own, key, steps) {
+        rows.push(row.copy(alloc)?)?;
+    }
+    Ok(rows)
+}
+
+/// The rows to try: the one with a key, where the condition fixes it, or else all. Cost: that of finding the key in the
+/// condition and two binary searches, or else one pass.
+pub(crate) fn rows_to_try<L: Ledger>(
+    alloc: Global,
+    table: &TableDef,
+    base: &Versions,
+    n: u64,
+    own: &Overlay,
+    cond: &Cond,
+    steps: &mut Steps<L>,
+) -> Result<Rows, NoMemory>
+    requires table { base.now.def ≡ table.now }
+    requires floor { base.now.floor ≤ n }
+    requires own { StandUnder table.now.key table.now.no own.now.list }
+    ensures all { IfOk result (λ tried. matching cond.now tried ≡ matching cond.now (rows_over table.now.key own.now.list table.now.no (state_at n base.now.versions))) }
+    ensures sums { (sets : List ASet) → SumsFit sets (rows_over table.now.key own.now.list table.now.no (state_at n base.now.versions)) → IfOk result (λ tried. SumsFit sets tried) }
+    ensures cost { says_key cond.now table.now.key ≡ false → steps.new ≤ steps.old + length (state_at n base.now.versions) }
+    ensures few { says_key cond.now table.now.key ≡ true → steps.new ≤ steps.old + 1 }
+{
+    writes_give_own_rows();
+    match fixed_key(alloc, table.key.as_slice(), cond)? {
+        Some(key) => rows_there(alloc, table, base, n, own, &key, steps),
+        None => merged_rows(alloc, table, base, n, own, steps),
+    }
+}
