@@ -1,6 +1,7 @@
 //! The text of faults.
-ghost use Rattle.std.specs.Prelude.{◌≡◌, ◌++◌, ◌<◌, OnOk, length, decimal, codes};
+ghost use Rattle.std.specs.Prelude.{◌≡◌, ◌++◌, ◌<◌, OnOk, OnErr, length, decimal, codes};
 ghost use Rattle.std.specs.Fmt.{signed_decimal};
+ghost use Rattle.lv_values.specs.Print.{StaysInFront};
 ghost use Rattle.lv_lines.specs.Entries.{FaultHasNames};
 ghost use Rattle.lv_lines.specs.Transcript.{name_of, key_text, limit_word, rule_word, fault_text};
 
@@ -12,14 +13,16 @@ use lv_values::{Bytes, NoMemory, Row, print_natural, print_number, print_values}
 /// Appends the name at a place.
 pub(crate) fn print_name(names: &Texts, number: u32, out: &mut Bytes) -> Result<(), NoMemory>
     requires { number < length names.now }
-    ensures { OnOk result (out.new ≡ out.old ++ name_of names.now number) }
+    ensures appended { OnOk result (out.new ≡ out.old ++ name_of names.now number) }
+    ensures front { OnErr result (StaysInFront out.old out.new) }
 {
     out.extend_from_slice(names.get(number as usize).as_bytes())
 }
 
 /// Appends words and a number.
 pub(crate) fn print_count(words: &[u8], number: u64, out: &mut Bytes) -> Result<(), NoMemory>
-    ensures { OnOk result (out.new ≡ out.old ++ (words.now ++ decimal number)) }
+    ensures appended { OnOk result (out.new ≡ out.old ++ (words.now ++ decimal number)) }
+    ensures front { OnErr result (StaysInFront out.old out.new) }
 {
     out.extend_from_slice(words)?;
     print_natural(number, out)?;
@@ -28,7 +31,8 @@ pub(crate) fn print_count(words: &[u8], number: u64, out: &mut Bytes) -> Result<
 
 /// Appends words and a signed number.
 fn print_wide(words: &[u8], number: &i128, out: &mut Bytes) -> Result<(), NoMemory>
-    ensures { OnOk result (out.new ≡ out.old ++ (words.now ++ signed_decimal number.now)) }
+    ensures appended { OnOk result (out.new ≡ out.old ++ (words.now ++ signed_decimal number.now)) }
+    ensures front { OnErr result (StaysInFront out.old out.new) }
 {
     out.extend_from_slice(words)?;
     print_number(*number, out)?;
@@ -37,7 +41,8 @@ fn print_wide(words: &[u8], number: &i128, out: &mut Bytes) -> Result<(), NoMemo
 
 /// Appends words and a word.
 fn print_word(words: &[u8], word: &[u8], out: &mut Bytes) -> Result<(), NoMemory>
-    ensures { OnOk result (out.new ≡ out.old ++ (words.now ++ word.now)) }
+    ensures appended { OnOk result (out.new ≡ out.old ++ (words.now ++ word.now)) }
+    ensures front { OnErr result (StaysInFront out.old out.new) }
 {
     out.extend_from_slice(words)?;
     out.extend_from_slice(word)?;
@@ -47,7 +52,8 @@ fn print_word(words: &[u8], word: &[u8], out: &mut Bytes) -> Result<(), NoMemory
 /// Appends words and a table's name.
 fn print_table(words: &[u8], names: &Names, table: u32, out: &mut Bytes) -> Result<(), NoMemory>
     requires { table < length names.now.tables }
-    ensures { OnOk result (out.new ≡ out.old ++ (words.now ++ name_of names.now.tables table)) }
+    ensures appended { OnOk result (out.new ≡ out.old ++ (words.now ++ name_of names.now.tables table)) }
+    ensures front { OnErr result (StaysInFront out.old out.new) }
 {
     out.extend_from_slice(words)?;
     print_name(&names.tables, table, out)?;
@@ -56,7 +62,8 @@ fn print_table(words: &[u8], names: &Names, table: u32, out: &mut Bytes) -> Resu
 
 /// Appends a key: its values in parentheses.
 fn print_key(key: &Row, out: &mut Bytes) -> Result<(), NoMemory>
-    ensures { OnOk result (out.new ≡ out.old ++ key_text key.now) }
+    ensures appended { OnOk result (out.new ≡ out.old ++ key_text key.now) }
+    ensures front { OnErr result (StaysInFront out.old out.new) }
 {
     out.extend_from_slice(b"(")?;
     print_values(b", ", key.as_slice(), out)?;
@@ -73,7 +80,8 @@ fn print_table_key(
     out: &mut Bytes,
 ) -> Result<(), NoMemory>
     requires { table < length names.now.tables }
-    ensures { OnOk result (out.new ≡ out.old ++ (words.now ++ name_of names.now.tables table ++ codes " " ++ key_text key.now)) }
+    ensures appended { OnOk result (out.new ≡ out.old ++ (words.now ++ name_of names.now.tables table ++ codes " " ++ key_text key.now)) }
+    ensures front { OnErr result (StaysInFront out.old out.new) }
 {
     print_table(words, names, table, out)?;
     out.extend_from_slice(b" ")?;
@@ -110,7 +118,8 @@ pub(crate) fn rule_word(which: ProfileRule) -> &'static [u8]
 }
 
 fn print_limit(which: LimitKind, most: u32, out: &mut Bytes) -> Result<(), NoMemory>
-    ensures { OnOk result (out.new ≡ out.old ++ (codes "6 limit " ++ limit_word which ++ codes " " ++ decimal most)) }
+    ensures appended { OnOk result (out.new ≡ out.old ++ (codes "6 limit " ++ limit_word which ++ codes " " ++ decimal most)) }
+    ensures front { OnErr result (StaysInFront out.old out.new) }
 {
     print_word(b"6 limit ", limit_word(which), out)?;
     print_count(b" ", u64::from(most), out)?;
@@ -125,7 +134,8 @@ fn print_conflict(
     out: &mut Bytes,
 ) -> Result<(), NoMemory>
     requires { table < length names.now.tables }
-    ensures { OnOk result (out.new ≡ out.old ++ (codes "15 write conflict " ++ name_of names.now.tables table ++ codes " " ++ key_text key.now ++ codes " commit " ++ decimal commit)) }
+    ensures appended { OnOk result (out.new ≡ out.old ++ (codes "15 write conflict " ++ name_of names.now.tables table ++ codes " " ++ key_text key.now ++ codes " commit " ++ decimal commit)) }
+    ensures front { OnErr result (StaysInFront out.old out.new) }
 {
     print_table_key(b"15 write conflict ", names, table, key, out)?;
     print_count(b" commit ", commit, out)?;
@@ -133,7 +143,8 @@ fn print_conflict(
 }
 
 fn print_journal_full(need: u64, limit: u64, out: &mut Bytes) -> Result<(), NoMemory>
-    ensures { OnOk result (out.new ≡ out.old ++ (codes "18 journal full need " ++ decimal need ++ codes " limit " ++ decimal limit)) }
+    ensures appended { OnOk result (out.new ≡ out.old ++ (codes "18 journal full need " ++ decimal need ++ codes " limit " ++ decimal limit)) }
+    ensures front { OnErr result (StaysInFront out.old out.new) }
 {
     print_count(b"18 journal full need ", need, out)?;
     print_count(b" limit ", limit, out)?;
@@ -143,7 +154,8 @@ fn print_journal_full(need: u64, limit: u64, out: &mut Bytes) -> Result<(), NoMe
 /// Appends the fault's number and what it says.
 pub(crate) fn print_fault(names: &Names, fault: &Fault, out: &mut Bytes) -> Result<(), NoMemory>
     requires { FaultHasNames names.now fault.now }
-    ensures { OnOk result (out.new ≡ out.old ++ fault_text names.now fault.now) }
+    ensures appended { OnOk result (out.new ≡ out.old ++ fault_text names.now fault.now) }
+    ensures front { OnErr result (StaysInFront out.old out.new) }
 {
     match fault {
         Fault::Syntax { byte } => print_count(b"1 syntax at byte ", u64::from(*byte), out),
