@@ -12,7 +12,8 @@ use lv_parser::{
     Tuple,
 };
 use lv_schema::{
-    Col, Cols, Cond, Conds, Op, Operand, OrderCol, OrderCols, Rel, Rels, Schema, Set, SetValue, Sets,
+    Col, Cols, Cond, Conds, Op, Operand, OrderCol, OrderCols, Rel, Rels, Schema, Set, SetValue,
+    Sets,
 };
 use lv_values::{Boxed, Copying, Items, NoMemory, Row, Rows, Value};
 use std::alloc::Global;

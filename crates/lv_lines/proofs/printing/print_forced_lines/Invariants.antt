@@ -8,5 +8,5 @@ abbrev pub invariant-loop-step : goal.invariant-loop-step
 invariant-loop-step l = record {
   done : l.out ++ flat_map (forced_line l.names) (drop l.step-index l.forced) ≡ l.initial.out ++ flat_map (forced_line l.names) l.initial.forced;
   longer : length l.initial.out ≤ length l.out;
-  front : StaysInFront l.initial.out l.out
+  front : StaysInFront l.initial.out l.out;
 }

@@ -7,5 +7,5 @@ abbrev pub invariant-loop-row : goal.invariant-loop-row
 invariant-loop-row l = record {
   done : l.out ++ flat_map row_line (drop l.row-index l.rows) ≡ l.initial.out ++ flat_map row_line l.initial.rows;
   longer : length l.initial.out ≤ length l.out;
-  front : StaysInFront l.initial.out l.out
+  front : StaysInFront l.initial.out l.out;
 }

@@ -8,5 +8,5 @@ abbrev pub invariant-loop-task : goal.invariant-loop-task
 invariant-loop-task l = record {
   done : l.out ++ flat_map (task_line l.names) (drop l.task-index l.tasks) ≡ l.initial.out ++ flat_map (task_line l.names) l.initial.tasks;
   longer : length l.initial.out ≤ length l.out;
-  front : StaysInFront l.initial.out l.out
+  front : StaysInFront l.initial.out l.out;
 }
