@@ -1,5 +1,5 @@
 -- What a search of a key finds, and what a clean-up leaves.
-use Rattle.std.proofs.Common.{◌≡◌, ℕ, zero, suc, ◌+◌, ◌<◌, ◌≤◌, Bool, true, false, cond, List, [], ◌∷◌, ◌++◌, append_assoc, drop, length, map, filter, get_or, Option, Some, None, refl, sym, ap, ◌∙◌, subst, arith}
+use Rattle.std.proofs.Common.{◌≡◌, ℕ, zero, suc, ◌+◌, ◌<◌, ◌≤◌, Bool, true, false, cond, List, [], ◌∷◌, ◌++◌, append_assoc, drop, length, map, filter, get_or, Option, Some, None, refl, sym, ap, ap₂, ◌∙◌, subst, arith}
 use Rattle.std.specs.Prelude.{◌&&◌, nat_lt, nat_le, slice_get}
 use Rattle.std.specs.List.{AllByRecursion}
 use Rattle.std.specs.Ordering.{is_eq, ordering_reverse}
@@ -140,6 +140,29 @@ pruned_newest n last floor (v ∷ vs) le a = by (ends_after floor v.until) refl 
     by true e false f ih = rw f ih
     by false e true f ih = let t = ended_shows n last floor v.until le a.0.1 e in let u = (both (nat_le v.from n) (ends_after n v.until) f).1 in cc
     by false e false f ih = rw f ih
+
+shows_alike : (n last : ℕ) (v : RowVersion) → last ≤ n → IsBy last v → is_at n v ≡ is_at last v
+shows_alike n last v le h = by v.until h.1
+  where
+    came : nat_le v.from n ≡ nat_le v.from last
+    came = let e : v.from ≤ last = h.0 in grind (arith, nat_tests)
+
+    by : (u : Option ℕ) → EndsAtMost last u → (nat_le v.from n && ends_after n u) ≡ (nat_le v.from last && ends_after last u)
+    by None e = ap (λ b. b && true) came
+    by (Some k) e =
+        let f : nat_lt n k ≡ nat_lt last k = grind (arith, nat_tests) in
+        ap₂ (λ a b. a && b) came f
+
+pub newest_rows : (n last : ℕ) (vs : List RowVersion) → last ≤ n → AllByRecursion (IsBy last) vs → state_at n vs ≡ state_at last vs
+newest_rows n last [] le a = refl
+newest_rows n last (v ∷ vs) le a = by (is_at n v) (is_at last v) (shows_alike n last v le a.0) (newest_rows n last vs le a.1)
+  where
+    by : (s t : Bool) → s ≡ t → state_at n vs ≡ state_at last vs
+        → map (λ (w : RowVersion). w.row) (cond s (v ∷ filter (is_at n) vs) (filter (is_at n) vs)) ≡ map (λ (w : RowVersion). w.row) (cond t (v ∷ filter (is_at last) vs) (filter (is_at last) vs))
+    by true true e ih = ap (λ l. v.row ∷ l) ih
+    by true false e ih = cc
+    by false true e ih = cc
+    by false false e ih = ih
 
 -- ---- the rows version by version
 pub state_cons : (n : ℕ) (v : RowVersion) (vs : List RowVersion) → state_at n (v ∷ []) ++ state_at n vs ≡ state_at n (v ∷ vs)

@@ -168,6 +168,13 @@ impl Versions {
         self.floor = floor;
     }
 
+    /// From its last commit on a table shows the rows that it showed then: a law, and the call does nothing.
+    pub fn newest(&self)
+        ensures { (n : ℕ) → self.now.last ≤ n → state_at n self.now.versions ≡ state_at self.now.last self.now.versions }
+    {
+        let _ = &self.last;
+    }
+
     /// The number of versions.
     pub fn count(&self) -> u64
         ensures { result ≡ length self.now.versions }
