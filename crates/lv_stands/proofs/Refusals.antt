@@ -136,7 +136,7 @@ all_has before after (r ∷ xs) a = (ap not (any_lacking r before after) ∙ by 
     by false true e = refl
     by x false e = cc
 
-rows_counted : (key : List ℕ) (before after : List (List Value)) → Ascends (key_cmp key) before → Ascends (key_cmp key) after → rows_after (length before) (net_of before after) ≡ length after
+pub rows_counted : (key : List ℕ) (before after : List (List Value)) → Ascends (key_cmp key) before → Ascends (key_cmp key) after → rows_after (length before) (net_of before after) ≡ length after
 rows_counted key before after a b =
     let whole = net_leads key before after a b in
     let long = long_ascending (key_cmp key) (lacking before (lacking before after) ++ lacking after before) in
