@@ -1,0 +1,3 @@
+pub mod NetChanges
+pub mod Places
+pub mod Prepared

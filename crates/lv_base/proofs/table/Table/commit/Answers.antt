@@ -1,0 +1,35 @@
+use Rattle.std.proofs.Common.{◌≡◌, ◌+◌, length, suc, sym, ap, subst, arith}
+use Rattle.lv_stands.specs.Moves.{TableCommits}
+use Rattle.lv_versions.specs.Versions.{Kept}
+use Rattle.lv_base.specs.Bases.{CanTakeNet, kept_of}
+use Rattle.lv_base.proofs.NetChanges.{applies, gone_fewer, rows_follow, table_commits}
+use Rattle.lv_base.proofs.table.Table.commit.Goals as goal
+
+pub commit-requires-clause-applies : goal.commit-requires-clause-applies
+commit-requires-clause-applies c =
+    let old = c.self.inside.versions in
+    let takes : CanTakeNet c.args.last c.args.net old = subst (CanTakeNet c.args.last c.args.net) (sym c.self.view_is) c.requires.takes in
+    applies c.args.last c.args.net old takes c.newest.ensures
+
+pub overflow_sub-self : goal.overflow_sub-self
+overflow_sub-self c =
+    let old = c.self.inside.versions in
+    let takes : CanTakeNet c.args.last c.args.net old = subst (CanTakeNet c.args.last c.args.net) (sym c.self.view_is) c.requires.takes in
+    omega (arith, gone_fewer c.args.last c.args.net old takes c.newest.ensures, c.self.invariant, ap length c.as_slice.ensures)
+
+pub invariant_of-self : goal.invariant_of-self
+invariant_of-self c =
+    let old = c.self.inside.versions in
+    let new = c.commit.new.self in
+    let takes : CanTakeNet c.args.last c.args.net old = subst (CanTakeNet c.args.last c.args.net) (sym c.self.view_is) c.requires.takes in
+    rows_follow c.args.last c.args.net old takes c.newest.ensures c.self.inside.rows (length c.as_slice.result.now) (length c.as_slice-2.result.now) new.last new c.self.invariant
+    (ap length c.as_slice.ensures) (ap length c.as_slice-2.ensures) (c.commit.ensures.state new.last (omega (arith, c.commit.ensures.last)))
+
+pub returns : goal.returns
+returns c =
+    let old = c.self.inside.versions in
+    let new = c.commit.new.self in
+    let takes : CanTakeNet c.args.last c.args.net old = subst (CanTakeNet c.args.last c.args.net) (sym c.self.view_is) c.requires.takes in
+    let next : c.args.last + 1 ≡ suc c.args.last = omega arith in
+    subst (λ (k : Kept). TableCommits c.args.last c.args.net (kept_of k) (kept_of new)) c.self.view_is
+    (table_commits c.args.last c.args.net old takes c.newest.ensures (c.args.last + 1) new next c.commit.ensures.def c.commit.ensures.last c.commit.ensures.floor c.commit.ensures.state c.commit.ensures.before c.commit.ensures.versions)

@@ -1,0 +1,91 @@
+//! One table.
+ghost use Rattle.std.specs.Prelude.{◌≡◌, ◌≤◌, ◌<◌, ◌+◌, ◌^◌, [], ℕ, length, OnOk};
+ghost use Rattle.lv_base.specs.Bases.{CanTakeNet, kept_of};
+ghost use Rattle.lv_stands.specs.Kept.{shown};
+ghost use Rattle.lv_stands.specs.Moves.{TableCleaned, TableCommits};
+
+use lv_schema::{Net, TableDef};
+use lv_values::NoMemory;
+use lv_versions::Versions;
+use std::alloc::Global;
+use std::marker::Model;
+
+/// A table's versions, with the number of the rows that its last state has. Contracts see the versions.
+#[derive(Drop)]
+pub(crate) struct Table {
+    versions: Versions,
+    rows: u64,
+}
+
+impl Model for Table {
+    ghost use Rattle.std.specs.Prelude.{◌≡◌, length};
+    ghost use Rattle.lv_stands.specs.Kept.{shown};
+    ghost use Rattle.lv_versions.specs.Versions.{Kept};
+
+    ghost Value = { Kept };
+
+    ghost view = { λ t. t.versions };
+
+    ghost invariant = { λ t. t.rows ≡ length (shown t.versions.last t.versions.versions) };
+}
+
+impl Table {
+    /// A table without a row after any commit. It takes no memory.
+    pub(crate) fn new(alloc: Global, def: TableDef) -> Table
+        ensures def { result.def ≡ def }
+        ensures none { result.versions ≡ [] }
+        ensures last { result.last ≡ 0 }
+        ensures floor { result.floor ≡ 0 }
+    {
+        Table {
+            versions: Versions::new(alloc, def),
+            rows: 0,
+        }
+    }
+
+    /// The versions.
+    pub(crate) fn versions(&self) -> &Versions
+        ensures { result.now ≡ self.now }
+    {
+        &self.versions
+    }
+
+    /// How many rows it has from its last commit on.
+    pub(crate) fn rows(&self) -> u64
+        ensures { (n : ℕ) → self.now.last ≤ n → result ≡ length (shown n self.now.versions) }
+    {
+        self.versions.newest();
+        self.rows
+    }
+
+    /// Makes room for `rows` rows. What is kept stays as it was, and the room never shrinks.
+    pub(crate) fn reserve(&mut self, rows: u64) -> Result<(), NoMemory>
+        ensures same { kept_of self.new ≡ kept_of self.old }
+        ensures room { OnOk result (rows ≤ self.new.spare) }
+        ensures kept { self.old.spare ≤ self.new.spare }
+    {
+        self.versions.reserve(rows)
+    }
+
+    /// Takes a net change as the commit after `last`. It takes no memory.
+    pub(crate) fn commit(&mut self, last: u64, net: Net)
+        requires takes { CanTakeNet last net self.old }
+        requires fits { last + 1 < 2 ^ 64 }
+        ensures { TableCommits last net (kept_of self.old) (kept_of self.new) }
+    {
+        let gone = net.minus.as_slice().len() as u64;
+        let come = net.plus.as_slice().len() as u64;
+        self.versions.newest();
+        self.versions.commit(last + 1, net);
+        self.rows = self.rows - gone + come;
+    }
+
+    /// Drops the versions that ended at or below a floor. It takes no memory.
+    pub(crate) fn prune(&mut self, floor: u64)
+        requires { self.old.floor ≤ floor }
+        ensures cleaned { TableCleaned floor (kept_of self.old) (kept_of self.new) }
+        ensures room { self.old.spare ≤ self.new.spare }
+    {
+        self.versions.prune(floor);
+    }
+}
