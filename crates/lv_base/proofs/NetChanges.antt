@@ -1,5 +1,5 @@
 -- A net change between two tables can be taken, and what a table is after it.
-use Rattle.std.proofs.Common.{◌≡◌, ℕ, suc, ◌+◌, ◌-◌, ◌<◌, ◌≤◌, Bool, true, false, cond, not, ◌&&◌, List, [], ◌∷◌, ◌++◌, map, length, refl, sym, ap, ◌∙◌, subst, arith}
+use Rattle.std.proofs.Common.{◌≡◌, ℕ, suc, ◌+◌, ◌-◌, ◌<◌, ◌≤◌, Bool, true, false, not, ◌&&◌, List, [], ◌∷◌, ◌++◌, map, length, refl, sym, ap, ◌∙◌, subst, arith}
 use Rattle.std.specs.Prelude.{◌||◌}
 use Rattle.std.specs.List.{sum_by, AllByRecursion}
 use Rattle.std.specs.List.Sorted.{IsPermutation}
@@ -21,6 +21,7 @@ use Rattle.lv_stands.specs.Moves.{rows_after, TableCommits}
 use Rattle.lv_stands.proofs.Refusals.{rows_counted}
 use Rattle.lv_versions.specs.Versions.{Applies, Kept, lost, new_version, state_at}
 use Rattle.lv_base.specs.Bases.{CanTakeNet, kept_of}
+use Rattle.lv_base.proofs.Places.{filter_fewer}
 
 abbrev ARow : Type 0
 ARow = List Value
@@ -78,15 +79,6 @@ module _ (key : List ℕ) (before after : List ARow) (up : Ascends (key_cmp key)
     new = new_keys;
   }
 
--- what is lacking is no more than there is
-pub lacking_fewer : (rows others : List ARow) → length (lacking rows others) ≤ length rows
-lacking_fewer [] others = omega arith
-lacking_fewer (r ∷ rows) others = by (not (has_row r others)) (lacking_fewer rows others)
-  where
-    by : (t : Bool) → length (lacking rows others) ≤ length rows → length (cond t (r ∷ lacking rows others) (lacking rows others)) ≤ suc (length rows)
-    by true h = omega (arith, h)
-    by false h = omega (arith, h)
-
 module _ (m : ℕ) (net : Net) (old : Kept) (takes : CanTakeNet m net old) (newest : (n : ℕ) → old.last ≤ n → state_at n old.versions ≡ state_at old.last old.versions) where
   abbrev key : List ℕ
   key = old.def.key
@@ -103,7 +95,7 @@ module _ (m : ℕ) (net : Net) (old : Kept) (takes : CanTakeNet m net old) (newe
   pub gone_fewer : length net.minus ≤ length (state_at old.last old.versions)
   gone_fewer =
       subst (λ (rows : List ARow). length net.minus ≤ length rows) last_is
-      (subst (λ (n : Net). length n.minus ≤ length before) (sym takes.leads.net_is) (lacking_fewer before takes.leads.after))
+      (subst (λ (n : Net). length n.minus ≤ length before) (sym takes.leads.net_is) (filter_fewer (λ row. not (has_row row takes.leads.after)) before))
 
   pub few : length (state_at old.last old.versions) ≤ 65535
   few = subst (λ (rows : List ARow). length rows ≤ 65535) last_is takes.few

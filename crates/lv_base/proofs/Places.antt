@@ -1,12 +1,12 @@
 -- Lists of tables by place, and what is added up over them.
-use Rattle.std.proofs.Common.{◌≡◌, ◌≢◌, ℕ, suc, ◌+◌, ◌<◌, ◌≤◌, Bool, true, false, cond, List, [], ◌∷◌, ◌++◌, drop, take, map, length, get_or, refl, sym, ap, ap₂, ◌∙◌, subst, arith}
+use Rattle.std.proofs.Common.{◌≡◌, ◌≢◌, ℕ, suc, ◌+◌, ◌<◌, ◌≤◌, Bool, List, [], ◌∷◌, ◌++◌, drop, take, map, length, get_or, refl, sym, ap, ap₂, ◌∙◌, subst, arith}
 use Rattle.std.specs.Prelude.{◌⊎◌, slice_set}
 use Rattle.std.specs.List.{filter, range_with_len, sum_by}
 use mathlib.Core.Logic.{inl, inr}
 use Rattle.std.proofs.Math.ListN.{get_or-map}
 use Rattle.std.proofs.Math.Seq.{get_or-append_seam}
 use Rattle.std.proofs.lemmas.List.{append-nil, drop_all, take_all, get_or_append_left, get_or_default, get_or-set_other, get_or-set_same, length-append, length-map, length-set}
-use Rattle.std.proofs.lemmas.List.Sums.{sum_by-cons}
+use Rattle.std.proofs.lemmas.List.Sums.{count_by-le-length, length-filter, sum_by-cons}
 use Rattle.lv_schema.specs.declared.action.Action.{Action}
 use Rattle.lv_schema.specs.declared.net.Net.{Net}
 use Rattle.lv_schema.specs.declared.table.TableDef.{TableDef}
@@ -84,13 +84,8 @@ all_longer m old new nets a b each =
     sum_both (λ (k : Kept). length k.versions) (λ (net : Net). length net.plus) (λ (k : Kept). length k.versions) no_versions no_net no_versions old nets new a b
     (λ t lt. longer m (net_in nets t) (kept_of (table_in old t)) (kept_of (table_in new t)) (each t lt))
 
-filter_fewer : {X : Type 0} (p : X → Bool) (xs : List X) → length (filter p xs) ≤ length xs
-filter_fewer p [] = omega arith
-filter_fewer p (x ∷ xs) = by (p x) (filter_fewer p xs)
-  where
-    by : (t : Bool) → length (filter p xs) ≤ length xs → length (cond t (x ∷ filter p xs) (filter p xs)) ≤ suc (length xs)
-    by true h = omega (arith, h)
-    by false h = omega (arith, h)
+pub filter_fewer : {X : Type 0} (p : X → Bool) (xs : List X) → length (filter p xs) ≤ length xs
+filter_fewer p xs = omega (arith, length-filter p xs, count_by-le-length p xs)
 
 pub all_fewer : (floor : ℕ) (old new : List Kept) → length new ≡ length old → ((t : ℕ) → t < length old → TableCleaned floor (kept_of (table_in old t)) (kept_of (table_in new t))) → versions_in new ≤ versions_in old
 all_fewer floor old new a each =
