@@ -1,3 +1,4 @@
 pub mod NetChanges
 pub mod Places
 pub mod Prepared
+pub mod Told

@@ -30,7 +30,7 @@ use Rattle.lv_versions.specs.Versions.{Kept}
 use Rattle.lv_base.specs.Bases.{BaseRoom, CanCommit, CanTakeNet, IsBase, IsReady, base_of, brought_in, defs_of, kept_of, last_state, net_in, no_versions, table_in, versions_in}
 use Rattle.lv_base.proofs.Places.{all_fewer, all_longer, def_at, kept_at, whole}
 
-state_at_place : (b : BaseRoom) (t : ℕ) → rows_of (last_state b) t ≡ shown b.number (table_in b.tables t).versions
+pub state_at_place : (b : BaseRoom) (t : ℕ) → rows_of (last_state b) t ≡ shown b.number (table_in b.tables t).versions
 state_at_place b t = get_or-map (λ (k : Kept). shown b.number k.versions) b.tables t no_versions
 
 -- ---- each table can take its net change

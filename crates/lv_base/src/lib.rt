@@ -3,6 +3,7 @@
 
 mod base;
 mod cleaning;
+mod laws;
 mod preparing;
 mod ready;
 mod table;
@@ -10,4 +11,5 @@ mod tables;
 
 pub use base::Base;
 pub use cleaning::Kept;
+pub use laws::bases_that_stand_can_commit;
 pub use ready::Ready;
