@@ -14,5 +14,6 @@ pub mod Committing
 pub mod Small
 pub mod Answering
 pub mod Named
+pub mod NoTasks
 pub mod Run
 pub mod Cores

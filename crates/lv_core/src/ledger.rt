@@ -4,6 +4,7 @@ ghost use Rattle.std.specs.Option.{option_map};
 ghost use Rattle.lv_plain.specs.Limits.{IsStatementLine, IsWithinLimits};
 ghost use Rattle.lv_plain.specs.LegalTurns.{start};
 ghost use Rattle.lv_plain.specs.Programs.{has_more, lines_of, may_turn};
+ghost use Rattle.lv_core.specs.NoTasks.{HasNoTasks};
 ghost use Rattle.lv_core.specs.Run.{turning, view_of, IsRun, TookTurn};
 ghost use Rattle.lv_core.specs.Seen.{IsWhole};
 
@@ -67,6 +68,7 @@ impl Ledger {
     /// A program of which no statement is answered.
     pub fn new(alloc: Global, program: Program) -> Result<Ledger, NoMemory>
         requires within { IsWithinLimits program }
+        requires tasks { HasNoTasks program }
         ensures program { IfOk result (λ l. l.program ≡ program) }
         ensures start { IfOk result (λ l. turning l ≡ start program) }
         ensures entries { IfOk result (λ l. l.entries ≡ []) }

@@ -4,6 +4,7 @@ ghost use Rattle.lv_plain.specs.Limits.{IsWithinLimits};
 ghost use Rattle.lv_plain.specs.LegalTurns.{start};
 ghost use Rattle.lv_plain.specs.Programs.{may_turn};
 ghost use Rattle.lv_core.specs.Cores.{run_of};
+ghost use Rattle.lv_core.specs.NoTasks.{HasNoTasks};
 ghost use Rattle.lv_core.specs.Run.{turning, IsRun, TookTurn};
 
 use crate::ledger::Ledger;
@@ -18,9 +19,10 @@ pub struct Core {
 }
 
 impl Core {
-    /// A program of which no statement is answered.
+    /// A program of which no statement is answered. None of them is SHOW TASKS, since no tasks are kept yet.
     pub fn new(alloc: Global, program: Program) -> Result<Core, NoMemory>
         requires within { IsWithinLimits program }
+        requires tasks { HasNoTasks program }
         ensures program { IfOk result (λ core. (run_of core).program ≡ program) }
         ensures start { IfOk result (λ core. turning (run_of core) ≡ start program) }
         ensures entries { IfOk result (λ core. (run_of core).entries ≡ []) }

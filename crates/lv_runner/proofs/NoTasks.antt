@@ -1,52 +1,47 @@
 -- Whether a line is SHOW TASKS, and whether a program is run.
-use Rattle.std.proofs.Common.{◌≡◌, ℕ, ◌≤◌, Bool, true, false, ◌&&◌, not, List, length, MatchBool, Result, Ok, Err, ◌⊎◌, inl, inr, sym, subst, ◌∙◌}
+use Rattle.std.proofs.Common.{◌≡◌, ℕ, ◌≤◌, Bool, true, false, ◌&&◌, not, List, length, MatchBool, Result, Ok, Err, sym, ap, subst, ◌∙◌, refl}
 use Rattle.std.specs.Prelude.{IfOk}
 use Rattle.std.specs.List.{All, sum_by}
 use Rattle.lv_parser.specs.declared.stop.ParseFault.{ParseFault}
 use Rattle.lv_parser.specs.declared.stop.ParseFault.TheVariants as stop
 use Rattle.lv_parser.specs.declared.tree.Stmt.{Stmt}
 use Rattle.lv_parser.specs.declared.tree.Stmt.TheVariants.{ShowTasks}
-use Rattle.lv_parser.specs.Lines.{ReadsAs}
+use Rattle.lv_parser.specs.Parsed.{parsed}
+use Rattle.lv_core.specs.NoTasks.{IsNoTasks}
 use Rattle.lv_plain.specs.declared.program.OrderItem.{OrderItem}
 use Rattle.lv_plain.specs.declared.program.OrderItem.TheVariants as item
 use Rattle.lv_plain.specs.declared.program.Program.{Program}
 use Rattle.lv_order.specs.Turns.{AreTurns, IsFirstOther}
-use Rattle.lv_runner.specs.Built.{IsBuilt, IsNoTasks, IsUnread}
+use Rattle.lv_runner.specs.Built.{IsBuilt, IsUnread}
 
-abbrev Only : List ℕ → Result Stmt ParseFault → Type 0
-Only line p = (stmt : Stmt) → ReadsAs line stmt → (p ≡ Ok stmt) ⊎ (p ≡ Err stop.NoMemory)
+-- the decision on a line, by what it is parsed as
+abbrev pub IsDecided : List ℕ → Bool → Type 0
+IsDecided line b = MatchBool b (IsNoTasks line) (IsNoTasks line → ⊥)
 
-pub no_tasks_read : (line : List ℕ) (p : Result Stmt ParseFault) (stmt : Stmt) (b : Bool) → p ≡ Ok stmt → ReadsAs line stmt → Only line p
-    → MatchBool b (stmt ≡ ShowTasks) (stmt ≡ ShowTasks → ⊥) → MatchBool (not b) (IsNoTasks line) (IsNoTasks line → ⊥)
-no_tasks_read line p stmt true is reads only same = λ none. none (subst (ReadsAs line) same reads)
-no_tasks_read line p stmt false is reads only differs = λ tasks. by (only ShowTasks tasks)
+pub no_tasks_read : (line : List ℕ) (stmt : Stmt) (b : Bool) → parsed line ≡ Ok stmt → MatchBool b (stmt ≡ ShowTasks) (stmt ≡ ShowTasks → ⊥) → IsDecided line (not b)
+no_tasks_read line stmt true read same = λ none. none (read ∙ ap (λ s. Ok s) same)
+no_tasks_read line stmt false read differs = λ tasks. differs (same (sym read ∙ tasks))
   where
-    by : (p ≡ Ok ShowTasks) ⊎ (p ≡ Err stop.NoMemory) → ⊥
-    by (inl e) = differs (same (sym is ∙ e))
-      where
-        same : ◌≡◌ {A = Result Stmt ParseFault} (Ok stmt) (Ok ShowTasks) → stmt ≡ ShowTasks
-        same e = cc
-    by (inr e) = cc
+    same : ◌≡◌ {A = Result Stmt ℕ} (Ok stmt) (Ok ShowTasks) → stmt ≡ ShowTasks
+    same e = cc
 
-pub no_tasks_unread : {E : Type 0} (line : List ℕ) (p : Result Stmt ParseFault) (fault : ParseFault) (r : Result Bool E) → p ≡ Err fault → Only line p → IsUnread fault r
-    → IfOk r (λ b. MatchBool b (IsNoTasks line) (IsNoTasks line → ⊥))
-no_tasks_unread {E} line p (stop.Syntax byte) r is only said =
-    subst (λ (q : Result Bool E). IfOk q (λ b. MatchBool b (IsNoTasks line) (IsNoTasks line → ⊥))) (sym said) (λ tasks. by (only ShowTasks tasks))
+pub no_tasks_unread : {E : Type 0} (line : List ℕ) (fault : ParseFault) (r : Result Bool E) → ((byte : ℕ) → fault ≡ stop.Syntax byte → parsed line ≡ Err byte) → IsUnread fault r
+    → IfOk r (IsDecided line)
+no_tasks_unread {E} line (stop.Syntax byte) r stops said = subst (λ (q : Result Bool E). IfOk q (IsDecided line)) (sym said) (λ tasks. apart (sym (stops byte refl) ∙ tasks))
   where
-    by : (p ≡ Ok ShowTasks) ⊎ (p ≡ Err stop.NoMemory) → ⊥
-    by (inl e) = cc
-    by (inr e) = cc
-no_tasks_unread line p stop.NoMemory (Ok quiet) is only said = absurd said
-no_tasks_unread line p stop.NoMemory (Err e) is only said = tt
+    apart : ◌≡◌ {A = Result Stmt ℕ} (Err byte) (Ok ShowTasks) → ⊥
+    apart e = cc
+no_tasks_unread line stop.NoMemory (Ok quiet) stops said = absurd said
+no_tasks_unread line stop.NoMemory (Err e) stops said = tt
 
 pub built_when : (p : Program) (a b c d : Bool) → MatchBool a (AreTurns p.order) (AreTurns p.order → ⊥)
     → MatchBool b (sum_by (λ s. length s.lines) p.sessions ≤ 1000) (sum_by (λ s. length s.lines) p.sessions ≤ 1000 → ⊥)
     → MatchBool c (All IsNoTasks p.setup) (All IsNoTasks p.setup → ⊥)
     → MatchBool d (All (λ s. All IsNoTasks s.lines) p.sessions) (All (λ s. All IsNoTasks s.lines) p.sessions → ⊥)
     → MatchBool (a && b && c && d) (IsBuilt p) (IsBuilt p → ⊥)
-built_when p true true true true turns few setup sessions = record { turns = turns; few = few; setup = setup; sessions = sessions }
-built_when p true true true false turns few setup sessions = λ built. sessions built.sessions
-built_when p true true false d turns few setup sessions = λ built. setup built.setup
+built_when p true true true true turns few setup sessions = record { turns = turns; few = few; tasks = record { setup = setup; sessions = sessions } }
+built_when p true true true false turns few setup sessions = λ built. sessions built.tasks.sessions
+built_when p true true false d turns few setup sessions = λ built. setup built.tasks.setup
 built_when p true false c d turns few setup sessions = λ built. few built.few
 built_when p false b c d turns few setup sessions = λ built. turns built.turns
 

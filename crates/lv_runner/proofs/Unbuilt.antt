@@ -10,7 +10,9 @@ use Rattle.lv_lines.specs.declared.script_fault.ScriptFault.{ScriptFault}
 use Rattle.lv_lines.specs.Script.{script_of, start}
 use Rattle.lv_lines.specs.ScriptLine.{piece_len}
 use Rattle.lv_order.specs.Turns.{IsTurn}
-use Rattle.lv_runner.specs.Built.{IsNoTasks, IsBuilt, IsBuiltScript, IsFirstUnbuilt, front}
+use Rattle.lv_core.specs.NoTasks.{IsNoTasks}
+use Rattle.lv_runner.specs.Built.{IsBuilt, IsBuiltScript, IsFirstUnbuilt, front}
+use Rattle.lv_runner.proofs.FirstUnbuilt.{built_before}
 
 -- one that fails
 pub not_all : {X : Type 0} (P : X → Type 0) (xs : List X) (i : ℕ) (x : X) → i < length xs → x ≡ get_or xs i x → (P x → ⊥) → All P xs → ⊥
@@ -50,7 +52,11 @@ pub built_fault : (bytes : List ℕ) (fault : ScriptFault) → script_of bytes �
 built_fault bytes fault e q f = absurd cc
 
 pub built_none : IsBuiltScript []
-built_none = built_by [] start.program refl (record { turns = All-nil IsTurn; few = omega arith; setup = All-nil IsNoTasks; sessions = All-nil (λ s. All IsNoTasks s.lines) })
+built_none = built_by [] start.program refl (record {
+  turns = All-nil IsTurn;
+  few = omega arith;
+  tasks = record { setup = All-nil IsNoTasks; sessions = All-nil (λ s. All IsNoTasks s.lines) };
+})
 
 -- ---- the front lines
 
@@ -110,7 +116,20 @@ has_line bytes (suc n) e fails = omega arith
 pub all_unbuilt : (bytes whole : List ℕ) → whole ≡ bytes → (IsBuiltScript bytes → ⊥) → IsBuiltScript whole → ⊥
 all_unbuilt bytes whole e fails h = fails (subst IsBuiltScript e h)
 
-pub first_between : (bytes : List ℕ) (low high : ℕ) → low < high → high - low ≤ 1 → IsBuiltScript (front low bytes) → (IsBuiltScript (front high bytes) → ⊥) → IsFirstUnbuilt bytes high
-first_between bytes low high lt near built unbuilt =
-    let e : low ≡ high - 1 = omega (arith, lt, near) in
-    record { before = subst (λ (n : ℕ). IsBuiltScript (front n bytes)) e built; here = unbuilt }
+-- a script that is not run is read: it has a program
+pub read_unbuilt : (bytes : List ℕ) → (IsBuiltScript bytes → ⊥) → (p : Program) × (script_of bytes ≡ Ok p)
+read_unbuilt bytes unbuilt = by (script_of bytes) refl
+  where
+    by : (r : Result Program ScriptFault) → script_of bytes ≡ r → (p : Program) × (script_of bytes ≡ Ok p)
+    by (Ok p) e = (p, e)
+    by (Err fault) e = absurd (unbuilt (built_fault bytes fault e))
+
+pub first_between : (bytes : List ℕ) (low high : ℕ) → (IsBuiltScript bytes → ⊥) → low < high → high - low ≤ 1 → IsBuiltScript (front low bytes) → (IsBuiltScript (front high bytes) → ⊥) → IsFirstUnbuilt bytes high
+first_between bytes low high whole lt near built unbuilt =
+    let read = read_unbuilt bytes whole in
+    record {
+      program = read.0;
+      script = read.1;
+      before = λ n before. built_before bytes read.0 n low read.1 (omega (arith, lt, near, before)) built;
+      here = unbuilt;
+    }

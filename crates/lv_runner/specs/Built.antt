@@ -1,25 +1,19 @@
 -- The programs that the command runs today: the order has turns of sessions alone, the sessions have at most 1,000
 -- statements, and none of the statements is SHOW TASKS.
-use Rattle.std.specs.Prelude.{◌≡◌, ℕ, zero, suc, ◌+◌, ◌-◌, ◌≤◌, List, [], ◌++◌, length, take, drop, Bool, true, Result, Ok, Err}
-use Rattle.std.specs.List.{All, sum_by}
+use Rattle.std.specs.Prelude.{◌≡◌, ℕ, zero, suc, ◌+◌, ◌<◌, ◌≤◌, List, [], ◌++◌, length, take, drop, Bool, true, Result, Ok, Err}
+use Rattle.std.specs.List.{sum_by}
 use Rattle.lv_parser.specs.declared.stop.ParseFault.{ParseFault}
 use Rattle.lv_parser.specs.declared.stop.ParseFault.TheVariants.{Syntax, NoMemory}
-use Rattle.lv_parser.specs.declared.tree.Stmt.TheVariants.{ShowTasks}
-use Rattle.lv_parser.specs.Lines.{ReadsAs}
+use Rattle.lv_core.specs.NoTasks.{HasNoTasks}
 use Rattle.lv_order.specs.Turns.{AreTurns}
 use Rattle.lv_plain.specs.declared.program.Program.{Program}
 use Rattle.lv_lines.specs.Script.{script_of}
 use Rattle.lv_lines.specs.ScriptLine.{piece_len}
 
--- a line that is not SHOW TASKS
-abbrev pub IsNoTasks : List ℕ → Type 0
-IsNoTasks line = ReadsAs line ShowTasks → ⊥
-
 pub record IsBuilt (p : Program) : Type 0 where
   pub turns : AreTurns p.order
   pub few : sum_by (λ s. length s.lines) p.sessions ≤ 1000
-  pub setup : All IsNoTasks p.setup
-  pub sessions : All (λ s. All IsNoTasks s.lines) p.sessions
+  pub tasks : HasNoTasks p
 
 -- the bytes of the first lines, with their line feeds
 abbrev pub front : ℕ → List ℕ → List ℕ
@@ -30,9 +24,12 @@ front (suc n) bytes = take (piece_len bytes + 1) bytes ++ front n (drop (piece_l
 abbrev pub IsBuiltScript : List ℕ → Type 0
 IsBuiltScript bytes = (p : Program) → script_of bytes ≡ Ok p → IsBuilt p
 
--- the script up to the line before this one is run, and the script up to this one is not
+-- The whole script is read, so no line of it has a fault; up to each line before this one the script is run, and up to
+-- this one it is not.
 pub record IsFirstUnbuilt (bytes : List ℕ) (line : ℕ) : Type 0 where
-  pub before : IsBuiltScript (front (line - 1) bytes)
+  pub program : Program
+  pub script : script_of bytes ≡ Ok program
+  pub before : (n : ℕ) → n < line → IsBuiltScript (front n bytes)
   pub here : IsBuiltScript (front line bytes) → ⊥
 
 -- what is said of a line that is no statement: it is not SHOW TASKS

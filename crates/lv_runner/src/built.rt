@@ -4,12 +4,13 @@ ghost use Rattle.std.specs.Bool.{MatchBool};
 ghost use Rattle.std.specs.List.{All, sum_by};
 ghost use Rattle.lv_plain.specs.Limits.{IsStatementLine, IsWithinLimits};
 ghost use Rattle.lv_lines.specs.ScriptLine.{piece_len};
+ghost use Rattle.lv_core.specs.NoTasks.{IsNoTasks};
 ghost use Rattle.lv_order.specs.Turns.{AreTurns};
 ghost use Rattle.lv_runner.specs.Built as spec;
 
 use lv_lines::{ScriptFault, read_script};
 use lv_order::first_other;
-use lv_parser::{ParseFault, Stmt, parse};
+use lv_parser::{ParseFault, Stmt, lines_are_parsed_by_the_grammar, parse};
 use lv_plain::{OrderItem, Program, Script};
 use lv_values::{NoMemory, Text};
 use std::alloc::Global;
@@ -75,8 +76,9 @@ fn unread(fault: ParseFault) -> Result<bool, NoMemory>
 /// Whether the line is not SHOW TASKS.
 fn is_no_tasks(alloc: Global, line: &Text) -> Result<bool, NoMemory>
     requires { IsStatementLine line.now }
-    ensures { IfOk result (λ no. MatchBool no (spec.IsNoTasks line.now) (spec.IsNoTasks line.now → ⊥)) }
+    ensures { IfOk result (λ no. MatchBool no (IsNoTasks line.now) (IsNoTasks line.now → ⊥)) }
 {
+    lines_are_parsed_by_the_grammar();
     match parse(alloc, line) {
         Ok(stmt) => Ok(!is_show_tasks(&stmt)),
         Err(fault) => unread(fault),
@@ -86,7 +88,7 @@ fn is_no_tasks(alloc: Global, line: &Text) -> Result<bool, NoMemory>
 /// Whether none of the lines is SHOW TASKS.
 fn are_no_tasks(alloc: Global, lines: &[Text]) -> Result<bool, NoMemory>
     requires { All IsStatementLine lines.now }
-    ensures { IfOk result (λ no. MatchBool no (All spec.IsNoTasks lines.now) (All spec.IsNoTasks lines.now → ⊥)) }
+    ensures { IfOk result (λ no. MatchBool no (All IsNoTasks lines.now) (All IsNoTasks lines.now → ⊥)) }
 {
     for line in lines {
         let quiet = is_no_tasks(alloc, line)?;
@@ -100,7 +102,7 @@ fn are_no_tasks(alloc: Global, lines: &[Text]) -> Result<bool, NoMemory>
 /// Whether none of the sessions' lines is SHOW TASKS.
 fn have_no_tasks(alloc: Global, sessions: &[Script]) -> Result<bool, NoMemory>
     requires { All (λ s. All IsStatementLine s.lines) sessions.now }
-    ensures { IfOk result (λ no. MatchBool no (All (λ s. All spec.IsNoTasks s.lines) sessions.now) (All (λ s. All spec.IsNoTasks s.lines) sessions.now → ⊥)) }
+    ensures { IfOk result (λ no. MatchBool no (All (λ s. All IsNoTasks s.lines) sessions.now) (All (λ s. All IsNoTasks s.lines) sessions.now → ⊥)) }
 {
     for session in sessions {
         let quiet = are_no_tasks(alloc, session.lines.as_slice())?;

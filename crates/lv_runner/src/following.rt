@@ -1,6 +1,7 @@
 //! The turns of a program, one after another.
 ghost use Rattle.std.specs.Prelude.{◌≡◌, [], IfOk, OnOk, map};
 ghost use Rattle.lv_core.specs.Cores.{run_of};
+ghost use Rattle.lv_core.specs.NoTasks.{HasNoTasks};
 ghost use Rattle.lv_core.specs.Run.{turning};
 ghost use Rattle.lv_order.specs.Turns.{AreTurns};
 ghost use Rattle.lv_plain.specs.Events.{schedule, turn_of};
@@ -37,6 +38,7 @@ pub(crate) fn run_program(alloc: Global, program: Program) -> Result<Core, NoMem
     requires within { IsWithinLimits program }
     requires followable { IsFollowable program }
     requires turns { AreTurns program.order }
+    requires tasks { HasNoTasks program }
     ensures program { IfOk result (λ core. (run_of core).program ≡ program) }
     ensures events { IfOk result (λ core. map event_shown (run_of core).entries ≡ schedule program) }
 {

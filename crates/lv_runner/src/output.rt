@@ -1,13 +1,14 @@
 //! What is written for the bytes of a script.
-ghost use Rattle.std.specs.Prelude.{◌≡◌, ◌≤◌, ℕ, Ok, Err, IfOk, List, ◌∷◌, codes, length};
+ghost use Rattle.std.specs.Prelude.{◌≡◌, ◌≤◌, ℕ, Ok, IfOk, MatchResult, List, ◌∷◌, codes, length};
 ghost use Rattle.lv_core.specs.Cores.{run_of};
 ghost use Rattle.lv_plain.specs.Following.{IsFollowable};
 ghost use Rattle.lv_plain.specs.Limits.{IsWithinLimits};
 ghost use Rattle.lv_lines.specs.Script.{script_of};
 ghost use Rattle.lv_lines.specs.Transcript.{text_of};
 ghost use Rattle.lv_plain.specs.SessionNames.{session_names};
-ghost use Rattle.lv_runner.specs.Built.{IsBuilt};
-ghost use Rattle.lv_runner.specs.Output.{limit, names_of, IsOutput, IsRefused};
+ghost use Rattle.lv_lines.specs.Judged.{IsFaultOf};
+ghost use Rattle.lv_runner.specs.Built.{IsBuilt, IsBuiltScript};
+ghost use Rattle.lv_runner.specs.Output.{limit, names_of, IsCause, IsOutput};
 
 use crate::built::{first_unbuilt, is_built};
 use crate::following::run_program;
@@ -18,22 +19,24 @@ use lv_plain::{Program, Texts};
 use lv_values::{Bytes, Copying, NoMemory, Text};
 use std::alloc::Global;
 
-/// Why nothing is written.
+/// Why there is no text.
 #[derive(Clone, Copy, Debug, PartialEq, Eq)]
-pub(crate) enum OutputFault {
+pub(crate) enum NoText {
     /// The script is refused at this line, with this kind.
     Script { line: u64, kind: u8 },
+    /// The source failed.
+    Source,
     /// Memory was refused.
     NoMemory,
 }
 
-impl From<NoMemory> for OutputFault {
-    ghost use Rattle.lv_runner.specs.declared.output.OutputFault.TheVariants.{NoMemory as MemoryRefused};
+impl From<NoMemory> for NoText {
+    ghost use Rattle.lv_runner.specs.declared.output.NoText.TheVariants.{NoMemory as MemoryRefused};
 
     ghost from_gives = { λ _ e. e ≡ MemoryRefused };
 
-    fn from(_: NoMemory) -> OutputFault {
-        OutputFault::NoMemory
+    fn from(_: NoMemory) -> NoText {
+        NoText::NoMemory
     }
 }
 
@@ -84,26 +87,53 @@ fn output_of(alloc: Global, program: Program) -> Result<Bytes, NoMemory>
     text_of(alloc, &core)
 }
 
+/// Why a script that is not read has no text.
+fn unread(fault: ScriptFault) -> NoText
+    ensures { (bytes : List ℕ) → IsFaultOf (script_of bytes) fault → IsCause bytes result }
+{
+    match fault {
+        ScriptFault::Bad { line, kind } => NoText::Script {
+            line,
+            kind: kind.number(),
+        },
+        ScriptFault::NoMemory => NoText::NoMemory,
+    }
+}
+
+/// Why a script whose program is not run has no text.
+fn unbuilt(alloc: Global, bytes: &[u8]) -> NoText
+    requires long { length bytes.now ≤ limit }
+    requires unbuilt { IsBuiltScript bytes.now → ⊥ }
+    ensures { IsCause bytes.now result }
+{
+    match first_unbuilt(alloc, bytes) {
+        Ok(line) => NoText::Script { line, kind: 0 },
+        Err(NoMemory) => NoText::NoMemory,
+    }
+}
+
+/// The text for a script with this program.
+fn text_for(alloc: Global, bytes: &[u8], program: Program) -> Result<Bytes, NoText>
+    requires long { length bytes.now ≤ limit }
+    requires script { script_of bytes.now ≡ Ok program }
+    requires within { IsWithinLimits program }
+    requires followable { IsFollowable program }
+    ensures { MatchResult result (IsOutput bytes.now) (IsCause bytes.now) }
+{
+    if is_built(alloc, &program)? {
+        return Ok(output_of(alloc, program)?);
+    }
+    Err(unbuilt(alloc, bytes))
+}
+
 /// The text that is written for the bytes of a script, or the line that refuses it. Cost: linear in the script, and what
 /// each statement takes.
-pub(crate) fn output(alloc: Global, bytes: &[u8]) -> Result<Bytes, OutputFault>
+pub(crate) fn output(alloc: Global, bytes: &[u8]) -> Result<Bytes, NoText>
     requires { length bytes.now ≤ limit }
-    ensures gives { IfOk result (λ text. IsOutput bytes.now text) }
-    ensures refuses { (line kind : ℕ) → result ≡ Err (OutputFault.Script line kind) → IsRefused bytes.now line kind }
+    ensures { MatchResult result (IsOutput bytes.now) (IsCause bytes.now) }
 {
-    let program = match read_script(alloc, bytes) {
-        Ok(program) => program,
-        Err(ScriptFault::Bad { line, kind }) => {
-            return Err(OutputFault::Script {
-                line,
-                kind: kind.number(),
-            });
-        }
-        Err(ScriptFault::NoMemory) => return Err(OutputFault::NoMemory),
-    };
-    if !is_built(alloc, &program)? {
-        let line = first_unbuilt(alloc, bytes)?;
-        return Err(OutputFault::Script { line, kind: 0 });
+    match read_script(alloc, bytes) {
+        Ok(program) => text_for(alloc, bytes, program),
+        Err(fault) => Err(unread(fault)),
     }
-    Ok(output_of(alloc, program)?)
 }

@@ -1,17 +1,83 @@
 //! The top call.
-ghost use Rattle.std.specs.Prelude.{◌≡◌, ◌≤◌, ◌<◌, ◌↔◌, ℕ, IsTrue, length};
-ghost use Rattle.std.specs.Io.KnownBytes.{Keeps};
-ghost use Rattle.lv_outside.specs.Causes.{Rose};
-ghost use Rattle.lv_runner.specs.Run.{Did, DidPart, Refused};
+ghost use Rattle.std.specs.Prelude.{◌≡◌, ◌≤◌, ◌<◌, ◌↔◌, ℕ, IsTrue, MatchResult, OnOk, length};
+ghost use Rattle.std.specs.Io.KnownBytes.{Appends, Consumes, IsAtEnd, Keeps};
+ghost use Rattle.lv_outside.specs.Causes.{AppendsFront, HasCause, Rose};
+ghost use Rattle.lv_runner.specs.Output.{limit};
+ghost use Rattle.lv_runner.specs.Run.{Did, DidPart, Ends, HasText, Outside, Refused, WhyNone};
 
-use crate::output::{OutputFault, output};
+use crate::output::{NoText, output};
 use crate::status::Status;
-use lv_outside::{Ended, ReadFault, Sink, Source, read_whole, write_whole};
-use lv_values::Text;
+use lv_outside::{Ended, Failed, ReadFault, Sink, Source, read_whole, write_whole};
+use lv_values::{Bytes, Text};
 use std::alloc::Global;
 
 /// The most bytes of a script.
 const LIMIT: usize = 16777216;
+
+/// Reads the bytes of a script.
+#[tactic(auto, using(crate::proofs::Written::past_limit))]
+fn read_bytes<S: Source>(alloc: Global, source: &mut S) -> Result<Bytes, NoText>
+    ensures read { MatchResult result (λ bytes. Consumes (S.left source.old) (S.left source.new) bytes × IsAtEnd (S.left source.new) × (length bytes ≤ limit))
+        (WhyNone (S.left source.old) (S.left source.new) (S.faults source.old) (S.faults source.new)) }
+    ensures count { S.faults source.old ≤ S.faults source.new }
+{
+    match read_whole(alloc, source, LIMIT) {
+        Ok((bytes, Ended::AtEnd)) => Ok(bytes),
+        Ok((_, Ended::PastLimit)) => Err(NoText::Script { line: 0, kind: 2 }),
+        Err(ReadFault::Failed) => Err(NoText::Source),
+        Err(ReadFault::NoMemory) => Err(NoText::NoMemory),
+    }
+}
+
+/// Reads a script and answers it.
+#[tactic(auto, using(crate::proofs::Ends::text_read))]
+fn read_text<S: Source>(alloc: Global, source: &mut S) -> Result<Bytes, NoText>
+    ensures text { MatchResult result (HasText (S.left source.old) (S.left source.new)) (WhyNone (S.left source.old) (S.left source.new) (S.faults source.old) (S.faults source.new)) }
+    ensures count { S.faults source.old ≤ S.faults source.new }
+{
+    let bytes = read_bytes(alloc, source)?;
+    output(alloc, bytes.as_slice())
+}
+
+/// Writes a text and flushes it.
+fn write_text<K: Sink>(sink: &mut K, text: &[u8]) -> Result<(), Failed>
+    ensures all { OnOk result (Appends (K.written sink.old) (K.written sink.new) text.now × IsTrue (K.is_flushed sink.new)) }
+    ensures part { AppendsFront (K.written sink.old) (K.written sink.new) text.now }
+    ensures cause { HasCause (K.faults sink.old) (K.faults sink.new) result }
+{
+    write_whole(sink, text)?;
+    sink.flush()
+}
+
+/// The status where there is no text.
+fn status_of(why: NoText) -> Status
+    ensures { (old new : Outside) → WhyNone old.left new.left old.source_faults new.source_faults why → Keeps old.written new.written → Ends old new result }
+{
+    match why {
+        NoText::Script { line, kind } => Status::Script { line, kind },
+        NoText::Source => Status::SourceFault,
+        NoText::NoMemory => Status::NoMemory,
+    }
+}
+
+/// Reads a script, answers it and writes its transcript.
+#[tactic(auto, using(crate::proofs::Ends::did_text, crate::proofs::Ends::did_part))]
+fn answer<S: Source, K: Sink>(alloc: Global, source: &mut S, sink: &mut K) -> Status
+    ensures ends { Ends
+        (record { left = S.left source.old; source_faults = S.faults source.old; written = K.written sink.old; is_flushed = K.is_flushed sink.old; sink_faults = K.faults sink.old })
+        (record { left = S.left source.new; source_faults = S.faults source.new; written = K.written sink.new; is_flushed = K.is_flushed sink.new; sink_faults = K.faults sink.new })
+        result }
+    ensures source_count { S.faults source.old ≤ S.faults source.new }
+    ensures sink_count { K.faults sink.old ≤ K.faults sink.new }
+{
+    match read_text(alloc, source) {
+        Ok(text) => match write_text(sink, text.as_slice()) {
+            Ok(()) => Status::Done,
+            Err(Failed) => Status::SinkFault,
+        },
+        Err(why) => status_of(why),
+    }
+}
 
 /// Reads a script and writes its transcript.
 ///
@@ -19,7 +85,7 @@ const LIMIT: usize = 16777216;
 /// the snapshot at its start with its own writes, and each view by its definition over the snapshot that a query reads.
 /// The whole text stands before the first write, so want of memory writes nothing. Cost: linear in the script, and what
 /// each statement takes.
-#[tactic(auto, using(crate::proofs::Written::past_limit))]
+#[tactic(auto, using(crate::proofs::Ends::is_done, crate::proofs::Ends::not_words, crate::proofs::Ends::is_script, crate::proofs::Ends::is_source, crate::proofs::Ends::is_sink, crate::proofs::Ends::kept_unless))]
 pub fn run<S: Source, K: Sink>(
     alloc: Global,
     words: &[Text],
@@ -40,19 +106,5 @@ pub fn run<S: Source, K: Sink>(
     if !words.is_empty() {
         return Status::Words;
     }
-    let bytes = match read_whole(alloc, source, LIMIT) {
-        Ok((bytes, Ended::AtEnd)) => bytes,
-        Ok((_, Ended::PastLimit)) => return Status::Script { line: 0, kind: 2 },
-        Err(ReadFault::Failed) => return Status::SourceFault,
-        Err(ReadFault::NoMemory) => return Status::NoMemory,
-    };
-    let text = match output(alloc, bytes.as_slice()) {
-        Ok(text) => text,
-        Err(OutputFault::Script { line, kind }) => return Status::Script { line, kind },
-        Err(OutputFault::NoMemory) => return Status::NoMemory,
-    };
-    if write_whole(sink, text.as_slice()).is_err() || sink.flush().is_err() {
-        return Status::SinkFault;
-    }
-    Status::Done
+    answer(alloc, source, sink)
 }

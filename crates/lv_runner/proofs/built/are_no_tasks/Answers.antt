@@ -1,4 +1,4 @@
-use Rattle.lv_runner.specs.Built.{IsNoTasks}
+use Rattle.lv_core.specs.NoTasks.{IsNoTasks}
 use Rattle.lv_runner.proofs.Unbuilt.{all_more, all_taken, yes_of}
 use Rattle.lv_runner.proofs.built.are_no_tasks.Goals as goal
 

@@ -1,6 +1,6 @@
 use Rattle.std.proofs.Common.{take}
 use Rattle.std.specs.List.{All}
-use Rattle.lv_runner.specs.Built.{IsNoTasks}
+use Rattle.lv_core.specs.NoTasks.{IsNoTasks}
 use Rattle.lv_runner.proofs.built.are_no_tasks.Given as goal
 
 abbrev pub invariant-loop-line : goal.invariant-loop-line

@@ -24,7 +24,7 @@ halves-preserved-then-built c =
     }
 
 pub returns : goal.returns
-returns c = first_between c.args.bytes.now c.halves.low c.halves.high c.halves.invariant.apart c.halves-test.false c.halves.invariant.built c.halves.invariant.unbuilt
+returns c = first_between c.args.bytes.now c.halves.low c.halves.high c.requires.unbuilt c.halves.invariant.apart c.halves-test.false c.halves.invariant.built c.halves.invariant.unbuilt
 
 pub halves-preserved : goal.halves-preserved
 halves-preserved c =

@@ -1,6 +1,6 @@
 use Rattle.std.specs.List.{All}
 use Rattle.lv_plain.specs.declared.program.Script.{Script}
-use Rattle.lv_runner.specs.Built.{IsNoTasks}
+use Rattle.lv_core.specs.NoTasks.{IsNoTasks}
 use Rattle.lv_runner.proofs.Unbuilt.{all_more, all_taken, yes_of}
 use Rattle.lv_runner.proofs.built.have_no_tasks.Goals as goal
 

@@ -4,7 +4,8 @@ use Rattle.std.specs.List.{All, sum_by}
 use Rattle.lv_plain.specs.declared.program.OrderItem.{OrderItem}
 use Rattle.lv_plain.specs.declared.program.Script.{Script}
 use Rattle.lv_order.specs.Turns.{AreTurns}
-use Rattle.lv_runner.specs.Built.{IsBuilt, IsNoTasks}
+use Rattle.lv_core.specs.NoTasks.{IsNoTasks}
+use Rattle.lv_runner.specs.Built.{IsBuilt}
 use Rattle.lv_runner.proofs.NoTasks.{built_when}
 use Rattle.lv_runner.proofs.built.is_built.Goals as goal
 
