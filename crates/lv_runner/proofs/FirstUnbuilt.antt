@@ -6,19 +6,13 @@ use Rattle.std.proofs.lemmas.Bool.Decides.{nat_tests}
 use Rattle.std.proofs.lemmas.List.{length-append, take-map}
 use Rattle.std.proofs.lemmas.List.Elements.{All-cons, All-head, All-nil, All-tail}
 use Rattle.std.proofs.lemmas.List.Sums.{sum_by-append, sum_by-cons}
-use Rattle.lv_plain.specs.declared.program.OrderItem.{OrderItem}
 use Rattle.lv_plain.specs.declared.program.Program.{Program}
 use Rattle.lv_plain.specs.declared.program.Script.{Script}
-use Rattle.lv_lines.specs.declared.script_fault.ScriptFault.{ScriptFault}
 use Rattle.lv_lines.specs.declared.script_fault.ScriptFault.TheVariants.{Bad}
-use Rattle.lv_lines.specs.declared.script_fault.ScriptFaultKind.{ScriptFaultKind}
 use Rattle.lv_lines.specs.declared.script_fault.ScriptFaultKind.TheVariants.{ScriptTooLong}
-use Rattle.lv_lines.specs.declared.section.Section.{Section}
-use Rattle.lv_lines.specs.declared.section.Section.TheVariants as section
-use Rattle.lv_lines.specs.declared.section.Part.{Part}
-use Rattle.lv_lines.specs.OrderLine.{items_of, left_after}
-use Rattle.lv_lines.specs.Script.{after_line, fault_of, left_of, onto_last, script_from, script_of, session_called, start, unless, with_items, with_line, with_order, with_session, with_statement}
-use Rattle.lv_lines.specs.ScriptLine.{Said, nothing, setup, session, order, wrong, statement, lines_of, piece_len, pieces_of, said, without_return}
+use Rattle.lv_lines.specs.Script.{onto_last, script_from, script_of, session_called, start}
+use Rattle.lv_lines.specs.ScriptLine.{lines_of, piece_len, pieces_of, without_return}
+use Rattle.lv_lines.proofs.FrontScripts.{IsLess, fewer_lines}
 use Rattle.lv_order.specs.Turns.{IsTurn}
 use Rattle.lv_core.specs.NoTasks.{HasNoTasks, IsNoTasks}
 use Rattle.lv_runner.specs.Built.{IsBuilt, IsBuiltScript, front}
@@ -53,109 +47,80 @@ quiet_last (s ∷ t ∷ sessions) line all =
     All-cons (λ t. All IsNoTasks t.lines) s (t ∷ sessions) (All-head (λ t. All IsNoTasks t.lines) s (onto_last (t ∷ sessions) line) all)
     (quiet_last (t ∷ sessions) line (All-tail (λ t. All IsNoTasks t.lines) s (onto_last (t ∷ sessions) line) all))
 
-statement_less : (here : Section) (part : Part) (line : List ℕ) → IsBuilt (with_statement here part line).program → IsBuilt part.program
-statement_less section.Nowhere part line built = built
-statement_less section.Setup part line built = record {
-  turns = built.turns;
-  few = built.few;
-  tasks = record { setup = all_first IsNoTasks part.program.setup (line ∷ []) built.tasks.setup; sessions = built.tasks.sessions };
+-- a program that is run was run with a line less
+less_built : IsLess IsBuilt
+less_built = record {
+  setup_line = λ p line built. record {
+    turns = built.turns;
+    few = built.few;
+    tasks = record { setup = all_first IsNoTasks p.setup (line ∷ []) built.tasks.setup; sessions = built.tasks.sessions };
+  };
+  session_line = λ p line built. record {
+    turns = built.turns;
+    few = omega (arith, built.few, count_last p.sessions line);
+    tasks = record { setup = built.tasks.setup; sessions = quiet_last p.sessions line built.tasks.sessions };
+  };
+  session_head = λ p name built. record {
+    turns = built.turns;
+    few = omega (arith, built.few, sum_by-append (λ (s : Script). length s.lines) p.sessions (session_called name ∷ []));
+    tasks = record { setup = built.tasks.setup; sessions = all_first (λ s. All IsNoTasks s.lines) p.sessions (session_called name ∷ []) built.tasks.sessions };
+  };
+  order_line = λ p items built. record {
+    turns = all_first IsTurn p.order items built.turns;
+    few = built.few;
+    tasks = record { setup = built.tasks.setup; sessions = built.tasks.sessions };
+  };
 }
-statement_less section.Session part line built = record {
-  turns = built.turns;
-  few = omega (arith, built.few, count_last part.program.sessions line);
-  tasks = record { setup = built.tasks.setup; sessions = quiet_last part.program.sessions line built.tasks.sessions };
-}
-statement_less section.Order part line built = built
-
-session_less : (part : Part) (name : List ℕ) → IsBuilt (with_session part name).program → IsBuilt part.program
-session_less part name built = record {
-  turns = built.turns;
-  few = omega (arith, built.few, sum_by-append (λ (s : Script). length s.lines) part.program.sessions (session_called name ∷ []));
-  tasks = record { setup = built.tasks.setup; sessions = all_first (λ s. All IsNoTasks s.lines) part.program.sessions (session_called name ∷ []) built.tasks.sessions };
-}
-
-items_less : (part : Part) (items : List OrderItem) (left : Option (List ℕ)) → IsBuilt (with_items part items left).program → IsBuilt part.program
-items_less part items None built = built
-items_less part items (Some left) built = record { turns = all_first IsTurn part.program.order items built.turns; few = built.few; tasks = built.tasks }
-
-order_less : (part : Part) (items : Option (List OrderItem)) → IsBuilt (with_order part items).program → IsBuilt part.program
-order_less part None built = built
-order_less part (Some items) built = items_less part items (left_after (left_of part) items) built
-
-line_less : (part : Part) (line : List ℕ) (says : Said) → IsBuilt (with_line part line says).program → IsBuilt part.program
-line_less part line nothing built = built
-line_less part line setup built = built
-line_less part line (session name) built = session_less part name built
-line_less part line (order words) built = order_less part (items_of part.program.sessions words) built
-line_less part line wrong built = built
-line_less part line statement built = statement_less part.section part line built
-
--- ---- the first lines of a script
-abbrev Read : Type 0
-Read = Result Program ScriptFault
-
-same_read : (p q : Program) → ◌≡◌ {A = Read} (Ok p) (Ok q) → p ≡ q
-same_read p q e = cc
-
-behind_line : (o : Option ScriptFaultKind) (number : ℕ) (r : Read) (p : Program) → unless o number r ≡ Ok p → (o ≡ None) × (r ≡ Ok p)
-behind_line None number r p e = (refl, e)
-behind_line (Some kind) number r p e = cc
-
--- the program of a part is run where that of the lines behind it is
-lines_less : (part : Part) (number : ℕ) (lines : List (List ℕ)) (p : Program) → script_from part number lines ≡ Ok p → IsBuilt p → IsBuilt part.program
-lines_less part number [] p e built = subst IsBuilt (sym (same_read part.program p e)) built
-lines_less part number (line ∷ lines) p e built =
-    let rest = behind_line (fault_of part line) number (script_from (after_line part line) (number + 1) lines) p e in
-    line_less part line (said line) (lines_less (after_line part line) (number + 1) lines p rest.1 built)
-
-first_read : (part : Part) (number m : ℕ) (lines : List (List ℕ)) (p : Program) → script_from part number lines ≡ Ok p → (q : Program) × (script_from part number (take m lines) ≡ Ok q)
-first_read part number zero lines p e = (part.program, refl)
-first_read part number (suc m) [] p e = (part.program, refl)
-first_read part number (suc m) (line ∷ lines) p e =
-    let rest = behind_line (fault_of part line) number (script_from (after_line part line) (number + 1) lines) p e in
-    let more = first_read (after_line part line) (number + 1) m lines p rest.1 in
-    (more.0, ap (λ (o : Option ScriptFaultKind). unless o number (script_from (after_line part line) (number + 1) (take m lines))) rest.0 ∙ more.1)
-
-abbrev IsBuiltRead : Read → Type 0
-IsBuiltRead r = (q : Program) → r ≡ Ok q → IsBuilt q
-
-fewer_built : (part : Part) (number n m : ℕ) (lines : List (List ℕ)) (p : Program) → n ≤ m → script_from part number lines ≡ Ok p
-    → IsBuiltRead (script_from part number (take m lines)) → IsBuiltRead (script_from part number (take n lines))
-fewer_built part number zero m lines p le e built q f =
-    let some = first_read part number m lines p e in
-    subst IsBuilt (same_read part.program q f) (lines_less part number (take m lines) some.0 some.1 (built some.0 some.1))
-fewer_built part number (suc n) zero lines p le e built q f = absurd (omega (arith, le))
-fewer_built part number (suc n) (suc m) [] p le e built q f = built q f
-fewer_built part number (suc n) (suc m) (line ∷ lines) p le e built q f =
-    let rest = behind_line (fault_of part line) number (script_from (after_line part line) (number + 1) lines) p e in
-    let less = behind_line (fault_of part line) number (script_from (after_line part line) (number + 1) (take n lines)) q f in
-    fewer_built (after_line part line) (number + 1) n m lines p (omega (arith, le)) rest.1
-    (λ r g. built r (ap (λ (o : Option ScriptFaultKind). unless o number (script_from (after_line part line) (number + 1) (take m lines))) rest.0 ∙ g)) q less.1
 
 -- ---- the bytes of the first lines say the first lines
 front_none : (n : ℕ) → front n [] ≡ []
 front_none zero = refl
 front_none (suc n) = front_none n
 
+-- a line feed ends a piece, and any other byte goes on with it
+pieces_end : (x : ℕ) (rest : List ℕ) → eqb x 10 ≡ true → pieces_of (x ∷ rest) ≡ [] ∷ pieces_of rest
+pieces_end x rest is = ap (λ (b : Bool). if b then [] ∷ pieces_of rest else onto_first x (pieces_of rest)) is
+
+pieces_on : (x : ℕ) (rest : List ℕ) → eqb x 10 ≡ false → pieces_of (x ∷ rest) ≡ onto_first x (pieces_of rest)
+pieces_on x rest is = ap (λ (b : Bool). if b then [] ∷ pieces_of rest else onto_first x (pieces_of rest)) is
+
+len_end : (x : ℕ) (rest : List ℕ) → eqb x 10 ≡ true → piece_len (x ∷ rest) ≡ 0
+len_end x rest is = rw is refl
+
+len_on : (x : ℕ) (rest : List ℕ) → eqb x 10 ≡ false → piece_len (x ∷ rest) ≡ suc (piece_len rest)
+len_on x rest is = let one : 1 + piece_len rest ≡ suc (piece_len rest) = omega arith in rw is one
+
 pieces_first : (xs tail : List ℕ) → 0 < length xs → (drop (piece_len xs + 1) xs ≡ [] → tail ≡ [])
     → pieces_of (take (piece_len xs + 1) xs ++ tail) ≡ take (piece_len xs) xs ∷ pieces_of tail
 pieces_first [] tail some ends = absurd (omega (arith, some))
 pieces_first (x ∷ []) tail some ends = at (eqb x 10) refl
   where
-    at : (t : Bool) → eqb x 10 ≡ t → pieces_of (take (piece_len (x ∷ []) + 1) (x ∷ []) ++ tail) ≡ take (piece_len (x ∷ [])) (x ∷ []) ∷ pieces_of tail
-    at true is = rw is refl
+    xs : List ℕ
+    xs = x ∷ []
+
+    at : (t : Bool) → eqb x 10 ≡ t → pieces_of (take (piece_len xs + 1) xs ++ tail) ≡ take (piece_len xs) xs ∷ pieces_of tail
+    at true is = ap (λ n. pieces_of (take (n + 1) xs ++ tail)) (len_end x [] is) ∙ pieces_end x tail is ∙ sym (ap (λ n. take n xs ∷ pieces_of tail) (len_end x [] is))
     at false is =
-        let none : tail ≡ [] = ends (rw is refl) in
-        rw (is, none) refl
-pieces_first (x ∷ y ∷ ys) tail some ends = at (eqb x 10) refl
+        let none : tail ≡ [] = ends (ap (λ n. drop (n + 1) xs) (len_on x [] is)) in
+        ap (λ n. pieces_of (take (n + 1) xs ++ tail)) (len_on x [] is) ∙ pieces_on x tail is ∙ ap (λ t. onto_first x (pieces_of t)) none
+        ∙ sym (ap (λ n. take n xs ∷ pieces_of tail) (len_on x [] is) ∙ ap (λ t. xs ∷ pieces_of t) none)
+pieces_first (x ∷ y ∷ ys) tail some ends = at (eqb x 10) refl (λ e. pieces_first (y ∷ ys) tail (omega arith) e)
   where
-    at : (t : Bool) → eqb x 10 ≡ t → pieces_of (take (piece_len (x ∷ y ∷ ys) + 1) (x ∷ y ∷ ys) ++ tail) ≡ take (piece_len (x ∷ y ∷ ys)) (x ∷ y ∷ ys) ∷ pieces_of tail
-    at true is = rw is refl
-    at false is =
-        let one : 1 + piece_len (y ∷ ys) ≡ suc (piece_len (y ∷ ys)) = omega arith in
-        let two : 1 + piece_len (y ∷ ys) + 1 ≡ suc (piece_len (y ∷ ys) + 1) = omega arith in
-        let more = pieces_first (y ∷ ys) tail (omega arith) (λ e. ends (rw (is, two) e)) in
-        rw (is, two, one) (ap (onto_first x) more)
+    xs : List ℕ
+    xs = x ∷ y ∷ ys
+
+    rest : List ℕ
+    rest = y ∷ ys
+
+    at : (t : Bool) → eqb x 10 ≡ t → ((drop (piece_len rest + 1) rest ≡ [] → tail ≡ []) → pieces_of (take (piece_len rest + 1) rest ++ tail) ≡ take (piece_len rest) rest ∷ pieces_of tail)
+        → pieces_of (take (piece_len xs + 1) xs ++ tail) ≡ take (piece_len xs) xs ∷ pieces_of tail
+    at true is later = ap (λ n. pieces_of (take (n + 1) xs ++ tail)) (len_end x rest is) ∙ pieces_end x tail is ∙ sym (ap (λ n. take n xs ∷ pieces_of tail) (len_end x rest is))
+    at false is later =
+        let n = piece_len rest in
+        let two : suc n + 1 ≡ suc (n + 1) = omega arith in
+        let shorter = later (λ e. ends (ap (λ k. drop (k + 1) xs) (len_on x rest is) ∙ ap (λ k. drop k xs) two ∙ e)) in
+        ap (λ k. pieces_of (take (k + 1) xs ++ tail)) (len_on x rest is) ∙ ap (λ k. pieces_of (take k xs ++ tail)) two
+        ∙ pieces_on x (take (n + 1) rest ++ tail) is ∙ ap (onto_first x) shorter ∙ sym (ap (λ k. take k xs ∷ pieces_of tail) (len_on x rest is))
 
 pieces_whole : (xs : List ℕ) → 0 < length xs → pieces_of xs ≡ take (piece_len xs) xs ∷ pieces_of (drop (piece_len xs + 1) xs)
 pieces_whole xs some = ap pieces_of (sym (take-append-drop (piece_len xs + 1) xs)) ∙ pieces_first xs (drop (piece_len xs + 1) xs) some (λ e. e)
@@ -199,4 +164,4 @@ built_before bytes p n m read le built q e =
     let short = short_of bytes p read in
     let at : (k : ℕ) → script_of (front k bytes) ≡ script_from start 1 (take k (lines_of bytes)) = λ k.
     read_short (front k bytes) (omega (arith, front_short k bytes, short)) ∙ ap (script_from start 1) (lines_fronts k bytes) in
-    fewer_built start 1 n m (lines_of bytes) p le (sym (read_short bytes short) ∙ read) (λ r f. built r (at m ∙ f)) q (sym (at n) ∙ e)
+    fewer_lines IsBuilt less_built (lines_of bytes) p n m le (sym (read_short bytes short) ∙ read) (λ r f. built r (at m ∙ f)) q (sym (at n) ∙ e)
