@@ -75,17 +75,21 @@ impl Base {
         self.tables.push_reserved(Table::new(alloc, def));
     }
 
-    /// A table's versions.
+    /// A table's versions, which can be read at the floor of the last clean-up and above.
     pub fn versions(&self, table: u32) -> &Versions
         requires { table < length self.now.tables }
-        ensures { result.now ≡ table_in self.now.tables table }
+        ensures versions { result.now ≡ table_in self.now.tables table }
+        ensures number { result.now.def.no ≡ table }
+        ensures last { result.now.last ≤ self.now.number }
+        ensures floor { result.now.floor ≤ self.now.pruned }
     {
         self.tables[table as usize].versions()
     }
 
     /// The entries of the commits above the floor of the last clean-up.
     pub fn deltas(&self) -> &Deltas
-        ensures { result.now ≡ self.now.deltas }
+        ensures deltas { result.now ≡ self.now.deltas }
+        ensures floor { result.now.floor ≡ self.now.pruned }
     {
         &self.deltas
     }
@@ -99,7 +103,8 @@ impl Base {
 
     /// The floor of the last clean-up, 0 before the first.
     pub fn pruned(&self) -> u64
-        ensures { result ≡ self.now.pruned }
+        ensures pruned { result ≡ self.now.pruned }
+        ensures within { self.now.pruned ≤ self.now.number }
     {
         self.pruned
     }
