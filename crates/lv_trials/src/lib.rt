@@ -7,6 +7,10 @@ mod base;
 #[cfg(test)]
 mod lexer;
 #[cfg(test)]
+mod maint;
+#[cfg(test)]
+mod making;
+#[cfg(test)]
 mod outside;
 #[cfg(test)]
 mod parser;
