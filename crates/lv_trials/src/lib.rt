@@ -19,4 +19,6 @@ mod reading;
 #[cfg(test)]
 mod schema;
 #[cfg(test)]
+mod streams;
+#[cfg(test)]
 mod values;
