@@ -31,7 +31,7 @@ or_false : (b : Bool) → (b || false) ≡ b
 or_false true = refl
 or_false false = refl
 
-lost_other : (number : ℕ) (row : List Value) (v : RowVersion) → is_current row v ≡ false → Lost number row v ≡ v
+pub lost_other : (number : ℕ) (row : List Value) (v : RowVersion) → is_current row v ≡ false → Lost number row v ≡ v
 lost_other number row v h = by v.until refl
   where
     same : end_by v.until (not (has_row v.row (row ∷ []))) number ≡ v.until → Lost number row v ≡ v
@@ -64,7 +64,7 @@ no_until None h = refl
 no_until (Some k) h = cc
 
 -- behind the place of the row no version is its current one
-later_other : (ps : List ℕ) (row : List Value) (number : ℕ) (v : RowVersion) → v.from < number → comes_before ps row number v ≡ false → is_current row v ≡ false
+pub later_other : (ps : List ℕ) (row : List Value) (number : ℕ) (v : RowVersion) → v.from < number → comes_before ps row number v ≡ false → is_current row v ≡ false
 later_other ps row number v lt h = by (is_current row v) refl
   where
     by : (b : Bool) → is_current row v ≡ b → b ≡ false
@@ -76,7 +76,7 @@ later_other ps row number v lt h = by (is_current row v) refl
         cc
 
 -- nor is one before the last that comes before the row
-earlier_other : (ps : List ℕ) (row : List Value) (number : ℕ) (v w : RowVersion) → Precedes ps v w → comes_before ps row number w ≡ true → is_current row v ≡ false
+pub earlier_other : (ps : List ℕ) (row : List Value) (number : ℕ) (v w : RowVersion) → Precedes ps v w → comes_before ps row number w ≡ true → is_current row v ≡ false
 earlier_other ps row number v w r h = by (is_current row v) refl
   where
     above : (o : Ordering) → o ≡ Greater → is_lt (ordering_then o (nat_cmp w.from number)) ≡ true → ⊥
@@ -143,7 +143,7 @@ lost_precedes ps number rows v w r = at (key_cmp ps v.row w.row) r
     at Equal r' = (r'.0, lost_ends v.until (not (has_row v.row rows)) number w.from r'.1)
     at Greater r' = r'
 
-all_lost : (P : RowVersion → Type 0) (number : ℕ) (rows : List (List Value)) (vs : List RowVersion) → AllByRecursion (λ v. P (lost number rows v)) vs → AllByRecursion P (map (lost number rows) vs)
+pub all_lost : (P : RowVersion → Type 0) (number : ℕ) (rows : List (List Value)) (vs : List RowVersion) → AllByRecursion (λ v. P (lost number rows v)) vs → AllByRecursion P (map (lost number rows) vs)
 all_lost P number rows [] a = tt
 all_lost P number rows (v ∷ vs) a = (a.0, all_lost P number rows vs a.1)
 
@@ -157,7 +157,7 @@ lost_order ps number rows (v ∷ vs) a = (
 pub lost_earlier : (number : ℕ) (rows : List (List Value)) (vs : List RowVersion) → AllByRecursion (λ v. v.from < number) vs → AllByRecursion (λ v. v.from < number) (map (lost number rows) vs)
 lost_earlier number rows vs a = all_lost (λ v. v.from < number) number rows vs a
 
-ends_at_most : (u : Option ℕ) (b : Bool) (last number : ℕ) → last ≤ number → EndsAtMost last u → EndsAtMost number (end_by u b number)
+pub ends_at_most : (u : Option ℕ) (b : Bool) (last number : ℕ) → last ≤ number → EndsAtMost last u → EndsAtMost number (end_by u b number)
 ends_at_most None true last number le h = tt
 ends_at_most None false last number le h = omega arith
 ends_at_most (Some k) b last number le h = omega (arith, h)
@@ -242,11 +242,9 @@ lost_from last number n rows (v ∷ vs) lt le a = by v.until refl (has_row v.row
 
 -- what a search of the row's version leaves
 pub ended_here : (ps : List ℕ) (row : List Value) (number i at : ℕ) (vs : List RowVersion) (item : RowVersion) → suc i ≡ at → Apart (Precedes ps) vs → AllByRecursion (λ v. v.from < number) vs
-    → IsCut (comes_before ps row number) at vs → slice_get vs i ≡ Some item → is_current row item ≡ true → map (Lost number row) vs ≡ set vs i (ended_at number item)
-ended_here ps row number i at vs item is a b cut e h =
-    lost_at ps row number (suc i) vs item a b (subst (λ n. IsCut (comes_before ps row number) n vs) (sym is) cut)
-    ∙ ap (λ x. set vs i (Lost number row x)) (got vs i item item e)
-    ∙ ap (set vs i) (lost_current number row item h)
+    → IsCut (comes_before ps row number) at vs → slice_get vs i ≡ Some item → map (Lost number row) vs ≡ set vs i (Lost number row item)
+ended_here ps row number i at vs item is a b cut e =
+    lost_at ps row number (suc i) vs item a b (subst (λ n. IsCut (comes_before ps row number) n vs) (sym is) cut) ∙ ap (λ x. set vs i (Lost number row x)) (got vs i item item e)
 
 pub not_ended_here : (ps : List ℕ) (row : List Value) (number i at : ℕ) (vs : List RowVersion) (item : RowVersion) → suc i ≡ at → Apart (Precedes ps) vs → AllByRecursion (λ v. v.from < number) vs
     → IsCut (comes_before ps row number) at vs → slice_get vs i ≡ Some item → is_current row item ≡ false → map (Lost number row) vs ≡ vs

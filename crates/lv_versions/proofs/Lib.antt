@@ -3,3 +3,4 @@ pub mod Ending
 pub mod Bringing
 pub mod Finding
 pub mod Committed
+pub mod Cleaning

@@ -28,7 +28,7 @@ less_of x y lt = let e : nat_lt x y ≡ true = grind (arith, nat_tests) in rw e 
 pub true_not_false : (b : Bool) → b ≡ true → b ≡ false → ⊥
 true_not_false b e f = cc
 
-is_less : (o : Ordering) → is_lt o ≡ true → o ≡ Less
+pub is_less : (o : Ordering) → is_lt o ≡ true → o ≡ Less
 is_less Less h = refl
 is_less Equal h = cc
 is_less Greater h = cc
@@ -42,7 +42,7 @@ precedes_less ps v w h = by (key_cmp ps v.row w.row) refl h
     by Equal e h' = ap (λ o. ordering_then o (nat_cmp v.from w.from)) e ∙ less_of v.from w.from h'.0
     by Greater e h' = absurd h'
 
-falls_from : (p : RowVersion → Bool) (R : RowVersion → RowVersion → Type 0) → ((v w : RowVersion) → R v w → p w ≡ true → p v ≡ true) → (vs : List RowVersion) → Apart R vs → Falls p vs
+pub falls_from : (p : RowVersion → Bool) (R : RowVersion → RowVersion → Type 0) → ((v w : RowVersion) → R v w → p w ≡ true → p v ≡ true) → (vs : List RowVersion) → Apart R vs → Falls p vs
 falls_from p R f [] a = tt
 falls_from p R f (v ∷ vs) a = (all_weaker (R v) (λ later. p later ≡ true → p v ≡ true) (λ w r. f v w r) vs a.0, falls_from p R f vs a.1)
 

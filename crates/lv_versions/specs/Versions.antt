@@ -16,6 +16,7 @@ use Rattle.lv_schema.specs.Once.{Ascends}
 use Rattle.lv_schema.specs.declared.version.RowVersion.{RowVersion}
 pub use Rattle.lv_schema.specs.Versions.{ends_after, end_by, is_at, new_version}
 use Rattle.lv_shelf.specs.Cuts.{Apart}
+use Rattle.lv_shelf.specs.Shelves.{LacksItem}
 
 -- the rows after commit n, in the order of the versions
 abbrev pub state_at : ℕ → List RowVersion → List (List Value)
@@ -69,10 +70,45 @@ abbrev pub EndsFrom : ℕ → Option ℕ → Type 0
 EndsFrom n None = Unit {0}
 EndsFrom n (Some k) = n ≤ k
 
--- and no version that a clean-up below the soonest end would drop
-pub record AreKept (positions : List ℕ) (last floor soonest : ℕ) (versions : List RowVersion) : Type 0 where
+-- the one end is no later than the other
+abbrev pub EndsNoLater : Option ℕ → Option ℕ → Type 0
+EndsNoLater None u = ⊥
+EndsNoLater (Some k) None = ⊥
+EndsNoLater (Some k) (Some j) = k ≤ j
+
+-- and it is another version's
+abbrev pub EndsSooner : RowVersion → RowVersion → Type 0
+EndsSooner v w = EndsNoLater v.until w.until × (v ≡ w → ⊥)
+
+abbrev pub HasEnded : RowVersion → Type 0
+HasEnded v = is_none v.until ≡ false
+
+-- whether a version ended at or below a floor
+abbrev pub is_over : ℕ → RowVersion → Bool
+is_over floor v = not (ends_after floor v.until)
+
+-- a version is among others
+abbrev pub IsIn : RowVersion → List RowVersion → Type 0
+IsIn v versions = LacksItem v versions → ⊥
+
+-- the versions that ended, each once, in the order of their ends
+pub record AreEnded (order versions : List RowVersion) : Type 0 where
+  pub ends : Apart EndsSooner order
+  pub ended : AllByRecursion HasEnded order
+  pub here : AllByRecursion (λ v. IsIn v versions) order
+  pub all : AllByRecursion (λ v. HasEnded v → IsIn v order) versions
+
+-- at most one further order, which is theirs
+abbrev pub AreEndedIn : List (List RowVersion) → List RowVersion → Type 0
+AreEndedIn [] versions = Unit {0}
+AreEndedIn (order ∷ []) versions = AreEnded order versions
+AreEndedIn (order ∷ next ∷ more) versions = ⊥
+
+-- and no version that a clean-up below the soonest end would drop, and those that ended have their order
+pub record AreKept (positions : List ℕ) (last floor soonest : ℕ) (others : List (List RowVersion)) (versions : List RowVersion) : Type 0 where
   pub are : AreVersions positions last floor versions
   pub ends : AllByRecursion (λ v. EndsFrom soonest v.until) versions
+  pub ended : AreEndedIn others versions
 
 -- the soonest end after a commit that takes these rows away
 abbrev pub soonest_after : ℕ → ℕ → List (List Value) → ℕ

@@ -2,6 +2,7 @@
 #![tactic(auto)]
 
 mod changing;
+mod dropping;
 mod version;
 mod versions;
 

@@ -115,19 +115,50 @@ impl Test<RowVersion> for EndsAfter {
     }
 }
 
-/// Ends a version.
+/// Tests whether a version ended at or below a floor.
 #[derive(Drop)]
-pub(crate) struct EndAt {
+pub(crate) struct IsOver {
+    pub(crate) floor: u64,
+}
+
+impl Test<RowVersion> for IsOver {
+    ghost use Rattle.lv_versions.specs.Versions.{is_over};
+
+    ghost passed = { λ t v. is_over t.floor v };
+
+    fn passes(&self, version: &RowVersion) -> bool {
+        match version.until {
+            Some(until) => self.floor >= until,
+            None => false,
+        }
+    }
+}
+
+/// Ends a version, if it has the row and has not ended.
+#[derive(Drop)]
+pub(crate) struct EndAt<'a> {
+    pub(crate) row: &'a Row,
     pub(crate) number: u64,
 }
 
-impl Edit<RowVersion> for EndAt {
-    ghost use Rattle.std.specs.Prelude.{Some};
-    ghost use Rattle.lv_versions.specs.Versions.{ended_at};
+impl<'a> Model for EndAt<'a> {
+    ghost use Rattle.std.specs.Prelude.{ℕ, List};
+    ghost use Rattle.lv_values.specs.declared.value.Value.{Value as AValue};
 
-    ghost edited = { λ e v. ended_at e.number v };
+    ghost Value = { List AValue × ℕ };
+
+    ghost view = { λ t. (t.row.now, t.number) };
+}
+
+impl<'a> Edit<RowVersion> for EndAt<'a> {
+    ghost use Rattle.std.specs.Prelude.{◌∷◌, []};
+    ghost use Rattle.lv_versions.specs.Versions.{lost};
+
+    ghost edited = { λ e v. lost e.1 (e.0 ∷ []) v };
 
     fn edit(&self, version: &mut RowVersion) {
-        version.until = Some(self.number);
+        if is_current(version, self.row) {
+            version.until = Some(self.number);
+        }
     }
 }

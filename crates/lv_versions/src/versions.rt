@@ -6,10 +6,12 @@ ghost use Rattle.std.specs.List.Sorted.{IsPermutation};
 ghost use Rattle.lv_values.specs.Rows.{key_cmp};
 ghost use Rattle.lv_schema.specs.Nets.{with_net};
 ghost use Rattle.lv_schema.specs.Once.{Ascends};
-ghost use Rattle.lv_versions.specs.Versions.{Applies, EndsFrom, IsBy, ends_after, lost, new_version, row_with, rows_hit, rows_with, soonest_after, state_at};
+ghost use Rattle.lv_shelf.specs.Cuts.{Apart};
+ghost use Rattle.lv_versions.specs.Versions.{Applies, AreEndedIn, EndsFrom, IsBy, Precedes, ends_after, lost, new_version, row_with, rows_hit, rows_with, soonest_after, state_at};
 
 use crate::changing::change;
-use crate::version::{EndsAfter, Reaches, hits, is_at};
+use crate::dropping::drop_over;
+use crate::version::{Reaches, hits, is_at};
 use lv_schema::{Net, RowVersion, TableDef};
 use lv_shelf::Shelf;
 use lv_values::{Copying, NoMemory, Row, Rows, Steps};
@@ -25,6 +27,7 @@ pub struct Versions {
     last: u64,
     floor: u64,
     soonest: u64,
+    alloc: Global,
 }
 
 impl Model for Versions {
@@ -34,7 +37,7 @@ impl Model for Versions {
 
     ghost view = { λ v. record { def = v.def; versions = v.versions.list; spare = v.versions.spare; last = v.last; floor = v.floor } };
 
-    ghost invariant = { λ v. AreKept v.def.key v.last v.floor v.soonest v.versions.list };
+    ghost invariant = { λ v. AreKept v.def.key v.last v.floor v.soonest v.versions.others v.versions.list };
 }
 
 impl Versions {
@@ -51,6 +54,7 @@ impl Versions {
             last: 0,
             floor: 0,
             soonest: u64::MAX,
+            alloc,
         }
     }
 
@@ -127,6 +131,9 @@ impl Versions {
         ensures room { OnOk result (rows ≤ self.new.spare) }
         ensures kept { self.old.spare ≤ self.new.spare }
     {
+        if self.versions.len() == 0 && self.versions.orders() == 0 {
+            self.versions.add_order(self.alloc)?;
+        }
         self.versions.reserve(rows)
     }
 
@@ -151,8 +158,9 @@ impl Versions {
         self.soonest = soonest;
     }
 
-    /// Drops the versions that ended at or below a floor. It takes no memory. Cost: constant
-    /// where none ended at or below it, or else two passes over small numbers.
+    /// Drops the versions that ended at or below a floor. It takes no memory. Cost: constant where none ended at or
+    /// below it, two binary searches and moves of small numbers for each where at most 64 did, or else two passes over
+    /// small numbers.
     pub fn prune(&mut self, floor: u64)
         requires { self.old.floor ≤ floor }
         ensures kept { self.new.versions ≡ filter (λ v. ends_after floor v.until) self.old.versions }
@@ -163,7 +171,13 @@ impl Versions {
         ensures last { self.new.last ≡ self.old.last }
         ensures room { self.old.spare ≤ self.new.spare }
     {
-        let soonest = drop_ended(&mut self.versions, self.soonest, self.last, floor);
+        let soonest = drop_ended(
+            self.def.key.as_slice(),
+            &mut self.versions,
+            self.soonest,
+            self.last,
+            floor,
+        );
         self.soonest = soonest;
         self.floor = floor;
     }
@@ -195,18 +209,27 @@ fn soonest_after(soonest: u64, number: u64, minus: &Rows) -> u64
 }
 
 /// Drops the versions that ended at or below a floor, and answers a number below which none ends. Cost: constant where
-/// none ends at or below the floor, or else two passes over small numbers.
-fn drop_ended(versions: &mut Shelf<RowVersion>, soonest: u64, last: u64, floor: u64) -> u64
+/// none ends at or below the floor, or else that of the versions that go.
+fn drop_ended(
+    positions: &[u8],
+    versions: &mut Shelf<RowVersion>,
+    soonest: u64,
+    last: u64,
+    floor: u64,
+) -> u64
+    requires order { Apart (Precedes positions.now) versions.old.list }
+    requires others { AreEndedIn versions.old.others versions.old.list }
     requires ends { AllByRecursion (λ v. EndsFrom soonest v.until) versions.old.list }
     requires each { AllByRecursion (IsBy last) versions.old.list }
     ensures kept { versions.new.list ≡ filter (λ v. ends_after floor v.until) versions.old.list }
     ensures room { versions.old.spare ≤ versions.new.spare }
+    ensures others { AreEndedIn versions.new.others versions.new.list }
     ensures ends { AllByRecursion (λ v. EndsFrom result v.until) versions.new.list }
 {
     if floor < soonest {
         return soonest;
     }
-    versions.keep(&EndsAfter { floor });
+    drop_over(positions, floor, versions);
     if floor < last { floor + 1 } else { u64::MAX }
 }
 

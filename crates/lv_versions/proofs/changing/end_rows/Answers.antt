@@ -3,7 +3,8 @@ use Rattle.std.specs.List.{AllByRecursion}
 use Rattle.std.proofs.lemmas.List.{take_more}
 use Rattle.lv_schema.specs.declared.version.RowVersion.{RowVersion}
 use Rattle.lv_shelf.specs.Cuts.{Apart}
-use Rattle.lv_versions.specs.Versions.{Precedes, lost}
+use Rattle.lv_versions.specs.Versions.{EndsAtMost, Precedes, lost}
+use Rattle.lv_versions.proofs.Cleaning.{lost_at_most}
 use Rattle.lv_versions.proofs.Ending.{lost_earlier, lost_more, lost_none, lost_order}
 use Rattle.lv_versions.proofs.changing.end_rows.Goals as goal
 
@@ -11,6 +12,8 @@ pub loop-row-init : goal.loop-row-init
 loop-row-init c = record {
   order = c.requires.order;
   earlier = c.requires.earlier;
+  ends = c.requires.ends;
+  others = c.requires.others;
   ended = sym (lost_none c.args.number c.args.versions.now.list);
   room = search rules;
 }
@@ -28,6 +31,8 @@ loop-row-preserved c =
     record {
       order = subst (Apart (Precedes ps)) (sym c.end_row.ensures.ended) (lost_order ps number (row ∷ []) vs c.loop-row.invariant.order);
       earlier = subst (AllByRecursion (λ (v : RowVersion). v.from < number)) (sym c.end_row.ensures.ended) (lost_earlier number (row ∷ []) vs c.loop-row.invariant.earlier);
+      ends = subst (AllByRecursion (λ (v : RowVersion). EndsAtMost number v.until)) (sym c.end_row.ensures.ended) (lost_at_most number (row ∷ []) vs c.loop-row.invariant.ends);
+      others = c.end_row.ensures.others;
       ended = c.end_row.ensures.ended ∙ ap (map (lost number (row ∷ []))) c.loop-row.invariant.ended ∙ lost_more number (take i rows) row start ∙ ap (λ l. map (lost number l) start) (sym more);
       room = c.end_row.ensures.room ∙ c.loop-row.invariant.room;
     }

@@ -16,6 +16,7 @@ loop-row-preserved c =
     let shorter = ap length popped ∙ length-append rest (row ∷ []) in
     record {
       order = subst (Apart (Precedes ps)) (sym c.put_row.ensures.put) (placed_order ps number row vs c.loop-row.invariant.order (last_new ps number rest row vs new));
+      others = c.put_row.ensures.others;
       new = subst (AreNew ps number rest) (sym c.put_row.ensures.put) (rest_new ps number rest row vs new);
       put = ap (with_versions ps number rest) c.put_row.ensures.put ∙ sym (put_last ps number rest row vs) ∙ ap (λ l. with_versions ps number l vs) (sym popped) ∙ c.loop-row.invariant.put;
       room = omega (arith, c.loop-row.invariant.room, c.put_row.ensures.room, shorter);

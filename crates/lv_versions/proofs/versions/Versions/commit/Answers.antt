@@ -2,7 +2,8 @@ use Rattle.std.proofs.Common.{◌<◌, ◌++◌, map, sym, ap, ◌∙◌, subst,
 use Rattle.std.specs.List.Sorted.{IsPermutation}
 use Rattle.lv_schema.specs.Nets.{with_net}
 use Rattle.lv_shelf.specs.Cuts.{Apart}
-use Rattle.lv_versions.specs.Versions.{Applies, Precedes, lost, new_version, state_at}
+use Rattle.lv_versions.specs.Versions.{Applies, AreEndedIn, Precedes, lost, new_version, state_at}
+use Rattle.lv_versions.proofs.Cleaning.{all_at_most}
 use Rattle.lv_versions.proofs.Committed.{after_before, after_ends, after_is, after_state, after_versions, all_earlier, are_new}
 use Rattle.lv_versions.proofs.versions.Versions.commit.Goals as goal
 
@@ -16,6 +17,8 @@ change-requires c =
     rw c.as_slice.ensures (record {
       order = c.self.invariant.are.order;
       earlier = all_earlier s.last c.args.number vs later c.self.invariant.are.each;
+      ends = all_at_most s.last c.args.number vs later c.self.invariant.are.each;
+      others = c.self.invariant.ended;
       new = are_new s.def.key s.last s.floor c.args.number c.args.net vs later above c.self.invariant.are applies;
       room = omega (arith, c.requires.room, ap (λ v. v.spare) c.self.view_is);
     })
@@ -32,6 +35,7 @@ invariant_of-self c =
     rw (changed, c.soonest_after-soonest.ensures) (record {
       are = after_is s.def.key s.last s.floor c.args.number c.args.net vs later above c.self.invariant.are applies order;
       ends = after_ends s.def.key s.soonest c.args.number c.args.net vs c.self.invariant.ends;
+      ended = subst (AreEndedIn c.change.new.versions.others) changed c.change.ensures.others;
     })
 
 pub returns : goal.returns

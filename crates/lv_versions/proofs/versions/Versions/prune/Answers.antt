@@ -16,6 +16,7 @@ invariant_of-self c =
         each = all_filter (IsBy s.last) kept s.versions.list c.self.invariant.are.each;
         kept = all_kept kept s.versions.list;
       });
+      ended = c.drop_ended-soonest.ensures.others;
       ends = c.drop_ended-soonest.ensures.ends;
     }
 
