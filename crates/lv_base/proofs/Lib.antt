@@ -1,3 +1,4 @@
+pub mod Added
 pub mod NetChanges
 pub mod Places
 pub mod Prepared

@@ -1,6 +1,5 @@
-use Rattle.std.proofs.Common.{◌≡◌, ◌≤◌, ◌<◌, ◌+◌, ◌-◌, suc, sym, subst, ◌∙◌, arith}
+use Rattle.std.proofs.Common.{◌≡◌, ◌+◌, ◌-◌, suc, sym, subst, ◌∙◌, arith}
 use Rattle.lv_shelf.specs.Cuts.{IsCut}
-use Rattle.lv_schema.specs.declared.version.RowVersion.{RowVersion}
 use Rattle.lv_versions.specs.Versions.{is_over}
 use Rattle.lv_versions.proofs.Cleaning.{has_first, have_in, none_over}
 use Rattle.lv_versions.proofs.dropping.drop_each.Goals as goal

@@ -1,13 +1,10 @@
-use Rattle.std.proofs.Common.{◌≡◌, ◌∷◌, [], List, Some, refl, sym, ap, subst, ◌∙◌, arith, rules}
+use Rattle.std.proofs.Common.{◌≡◌, ◌∷◌, Some, refl, sym, subst, ◌∙◌, arith}
 use Rattle.std.specs.Prelude.{slice_get}
-use Rattle.std.specs.List.{AllByRecursion, remove}
-use Rattle.lv_schema.specs.declared.version.RowVersion.{RowVersion}
-use Rattle.lv_shelf.specs.Cuts.{Apart}
-use Rattle.lv_shelf.specs.Shelves.{LacksItem, other_at}
+use Rattle.lv_shelf.specs.Shelves.{LacksItem}
 use Rattle.lv_shelf.proofs.Among.{apart_remove}
 use Rattle.lv_shelf.proofs.Cutting.{got, got_within}
-use Rattle.lv_versions.specs.Versions.{AreEnded, Precedes, ends_after}
-use Rattle.lv_versions.proofs.Cleaning.{alone, filter_gone, first_gone, first_is, found_first, not_after, the_same}
+use Rattle.lv_versions.specs.Versions.{Precedes, ends_after}
+use Rattle.lv_versions.proofs.Cleaning.{alone, filter_gone, first_gone, found_first, not_after, the_same}
 use Rattle.lv_versions.proofs.Standing.{before_falls}
 use Rattle.lv_versions.proofs.dropping.drop_first.Goals as goal
 

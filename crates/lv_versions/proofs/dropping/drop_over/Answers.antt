@@ -1,4 +1,4 @@
-use Rattle.std.proofs.Common.{◌≡◌, ◌<◌, ◌∷◌, [], length, sym, ap, subst, arith}
+use Rattle.std.proofs.Common.{◌<◌, length, sym, subst, arith}
 use Rattle.lv_shelf.specs.Cuts.{Falls, IsCut}
 use Rattle.lv_shelf.specs.Shelves.{other_at}
 use Rattle.lv_versions.specs.Versions.{ends_after, is_over}
