@@ -45,7 +45,7 @@ use Rattle.lv_bind.specs.Faults.{bound_of}
 use Rattle.lv_bind.specs.InUse.{repeated_sets}
 use Rattle.lv_bind.specs.Kinds.{assign_byte, assign_fits, assign_kinds, both_or_none, compared_kinds, insert_columns, kind_of, literal_fits, tuple_kinds, value_is_text, value_kinds}
 use Rattle.lv_bind.specs.Limits.{assign_texts, compared_texts, lengths, tuple_texts, value_texts}
-use Rattle.lv_bind.specs.Pieces.{alone, assign_columns, compared_columns, sides_of, source_columns}
+use Rattle.lv_bind.specs.Pieces.{unqualified, assign_columns, compared_columns, sides_of, source_columns}
 use Rattle.lv_bind.specs.Ranges.{wide_assign, wide_tuple, wide_value}
 use Rattle.lv_bind.specs.Sources.{Alias, column_named, columns_of, first, goes_by, no_column, place_at, place_in, place_of, shown_unless, sources_of, table_source}
 use Rattle.lv_bind.specs.Spoken.{IsSpoken, assigned_in_line, tuple_in_line, value_in_line}
@@ -156,12 +156,12 @@ named_one s col known = by (place_in 0 s col) (named_in 0 s col) known
     by None h e = absurd cc
     by (Some p) h e = h
 
-column_tells : (s : Alias) (a b : Named) → IsKnown (s ∷ []) (alone a) → IsKnown (s ∷ []) (alone b) → nat_eq (place_of (s ∷ []) (alone a)).column (place_of (s ∷ []) (alone b)).column ≡ true
+column_tells : (s : Alias) (a b : Named) → IsKnown (s ∷ []) (unqualified a) → IsKnown (s ∷ []) (unqualified b) → nat_eq (place_of (s ∷ []) (unqualified a)).column (place_of (s ∷ []) (unqualified b)).column ≡ true
     → bytes_eq a.name b.name ≡ true
 column_tells s a b p q e =
-    let same : (place_of (s ∷ []) (alone a)).column ≡ (place_of (s ∷ []) (alone b)).column = eqb-true _ _ e in
-    let of_a : a.name ≡ (get_or s.columns (place_of (s ∷ []) (alone a)).column no_column).name = (bytes_eq-Decides a.name _).0 (named_one s (alone a) p) in
-    let of_b : b.name ≡ (get_or s.columns (place_of (s ∷ []) (alone b)).column no_column).name = (bytes_eq-Decides b.name _).0 (named_one s (alone b) q) in
+    let same : (place_of (s ∷ []) (unqualified a)).column ≡ (place_of (s ∷ []) (unqualified b)).column = eqb-true _ _ e in
+    let of_a : a.name ≡ (get_or s.columns (place_of (s ∷ []) (unqualified a)).column no_column).name = (bytes_eq-Decides a.name _).0 (named_one s (unqualified a) p) in
+    let of_b : b.name ≡ (get_or s.columns (place_of (s ∷ []) (unqualified b)).column no_column).name = (bytes_eq-Decides b.name _).0 (named_one s (unqualified b) q) in
     (bytes_eq-Decides a.name b.name).1 (of_a ∙ ap (λ i. (get_or s.columns i no_column).name) same ∙ sym of_b)
 
 -- ---- what is set
@@ -193,11 +193,11 @@ module _ (s : Alias) (key : List ℕ) (table : list_all (λ c. is_table_kind c.k
       → assigned_in_line val ≡ true → AllByRecursion IsShort (assign_texts val) → set_fits s.columns k (bound_value (s ∷ []) val) ≡ true
   value_set k (value.Literal l) kind known kinds wide line short = value_so k l.value kind kinds wide line short
   value_set k (value.Column col) kind known kinds wide line short =
-      has_some (slice_get s.columns (place_of (s ∷ []) (alone col)).column) k (kind_of (s ∷ []) (alone col)) (kind_one s (alone col) known.0) (same_of_both k (kind_of (s ∷ []) (alone col)) kinds)
+      has_some (slice_get s.columns (place_of (s ∷ []) (unqualified col)).column) k (kind_of (s ∷ []) (unqualified col)) (kind_one s (unqualified col) known.0) (same_of_both k (kind_of (s ∷ []) (unqualified col)) kinds)
   value_set k (value.Plus col amount) kind known kinds wide line short =
-      let numbers : (not (is_text k) ≡ true) × (not (is_text (kind_of (s ∷ []) (alone col))) ≡ true) = and_parts (not (is_text k)) (not (is_text (kind_of (s ∷ []) (alone col)))) kinds in
-      let has : has_kind k (slice_get s.columns (place_of (s ∷ []) (alone col)).column) ≡ true =
-      has_some (slice_get s.columns (place_of (s ∷ []) (alone col)).column) k (kind_of (s ∷ []) (alone col)) (kind_one s (alone col) known.0) (same_of_numbers k (kind_of (s ∷ []) (alone col)) numbers.0 numbers.1) in
+      let numbers : (not (is_text k) ≡ true) × (not (is_text (kind_of (s ∷ []) (unqualified col))) ≡ true) = and_parts (not (is_text k)) (not (is_text (kind_of (s ∷ []) (unqualified col)))) kinds in
+      let has : has_kind k (slice_get s.columns (place_of (s ∷ []) (unqualified col)).column) ≡ true =
+      has_some (slice_get s.columns (place_of (s ∷ []) (unqualified col)).column) k (kind_of (s ∷ []) (unqualified col)) (kind_one s (unqualified col) known.0) (same_of_numbers k (kind_of (s ∷ []) (unqualified col)) numbers.0 numbers.1) in
       rw (numbers.0, has, line) refl
 
   any_comm : (at : ℕ) (ks : List ℕ) → list_any (nat_eq at) ks ≡ list_any (λ k. k == at) ks
@@ -211,26 +211,26 @@ module _ (s : Alias) (key : List ℕ) (table : list_all (λ c. is_table_kind c.k
   sets_so def same same_key (a ∷ sets) known kinds keys wide line short =
       let kn : AllByRecursion (IsKnown (s ∷ [])) (assign_columns a) × AllByRecursion (IsKnown (s ∷ [])) (flat_map assign_columns sets) = all_append (IsKnown (s ∷ [])) (assign_columns a) (flat_map assign_columns sets) known in
       let k : (assign_kinds (s ∷ []) a ≡ []) × (flat_map (assign_kinds (s ∷ [])) sets ≡ []) = append_parts (assign_kinds (s ∷ []) a) (flat_map (assign_kinds (s ∷ [])) sets) kinds in
-      let ky : (shown_unless (not (list_any (nat_eq (place_of (s ∷ []) (alone a.column)).column) key)) a.column.name ≡ []) × (assigned_keys (s ∷ []) key sets ≡ []) =
-      append_parts (shown_unless (not (list_any (nat_eq (place_of (s ∷ []) (alone a.column)).column) key)) a.column.name) (assigned_keys (s ∷ []) key sets) keys in
+      let ky : (shown_unless (not (list_any (nat_eq (place_of (s ∷ []) (unqualified a.column)).column) key)) a.column.name ≡ []) × (assigned_keys (s ∷ []) key sets ≡ []) =
+      append_parts (shown_unless (not (list_any (nat_eq (place_of (s ∷ []) (unqualified a.column)).column) key)) a.column.name) (assigned_keys (s ∷ []) key sets) keys in
       let w : (wide_assign a.value ≡ []) × (flat_map (λ a. wide_assign a.value) sets ≡ []) = append_parts (wide_assign a.value) (flat_map (λ a. wide_assign a.value) sets) wide in
       let n : (assigned_in_line a.value ≡ true) × (list_all (λ a. assigned_in_line a.value) sets ≡ true) = and_parts (assigned_in_line a.value) (list_all (λ a. assigned_in_line a.value) sets) line in
       let sh : AllByRecursion IsShort (assign_texts a.value) × AllByRecursion IsShort (flat_map (λ a. assign_texts a.value) sets) = all_append IsShort (assign_texts a.value) (flat_map (λ a. assign_texts a.value) sets) short in
-      let kind : is_table_kind (kind_of (s ∷ []) (alone a.column)) ≡ true = table_kind (s ∷ []) (alone a.column) (table, tt) kn.0.0 in
-      let fits : set_fits s.columns (kind_of (s ∷ []) (alone a.column)) (bound_value (s ∷ []) a.value) ≡ true =
-      value_set (kind_of (s ∷ []) (alone a.column)) a.value kind kn.0.1 (shown_well (assign_fits (s ∷ []) (kind_of (s ∷ []) (alone a.column)) a.value) (assign_byte a.value) k.0) w.0 n.0 sh.0 in
-      let there : column_set s.columns (slice_get s.columns (place_of (s ∷ []) (alone a.column)).column) (bound_value (s ∷ []) a.value) ≡ true =
-      set_some s.columns (slice_get s.columns (place_of (s ∷ []) (alone a.column)).column) (kind_of (s ∷ []) (alone a.column)) (bound_value (s ∷ []) a.value) (kind_one s (alone a.column) kn.0.0) fits in
-      let free : not (list_any (λ k. k == (place_of (s ∷ []) (alone a.column)).column) key) ≡ true =
-      rw (← any_comm (place_of (s ∷ []) (alone a.column)).column key) (shown_well (not (list_any (nat_eq (place_of (s ∷ []) (alone a.column)).column) key)) a.column.name ky.0) in
+      let kind : is_table_kind (kind_of (s ∷ []) (unqualified a.column)) ≡ true = table_kind (s ∷ []) (unqualified a.column) (table, tt) kn.0.0 in
+      let fits : set_fits s.columns (kind_of (s ∷ []) (unqualified a.column)) (bound_value (s ∷ []) a.value) ≡ true =
+      value_set (kind_of (s ∷ []) (unqualified a.column)) a.value kind kn.0.1 (shown_well (assign_fits (s ∷ []) (kind_of (s ∷ []) (unqualified a.column)) a.value) (assign_byte a.value) k.0) w.0 n.0 sh.0 in
+      let there : column_set s.columns (slice_get s.columns (place_of (s ∷ []) (unqualified a.column)).column) (bound_value (s ∷ []) a.value) ≡ true =
+      set_some s.columns (slice_get s.columns (place_of (s ∷ []) (unqualified a.column)).column) (kind_of (s ∷ []) (unqualified a.column)) (bound_value (s ∷ []) a.value) (kind_one s (unqualified a.column) kn.0.0) fits in
+      let free : not (list_any (λ k. k == (place_of (s ∷ []) (unqualified a.column)).column) key) ≡ true =
+      rw (← any_comm (place_of (s ∷ []) (unqualified a.column)).column key) (shown_well (not (list_any (nat_eq (place_of (s ∷ []) (unqualified a.column)).column) key)) a.column.name ky.0) in
       let here : is_bound_set def (bound_set (s ∷ []) a) ≡ true = rw (same, same_key) (and_from _ _ there free) in
       and_from (is_bound_set def (bound_set (s ∷ []) a)) _ here (sets_so def same same_key sets kn.1 k.1 ky.1 w.1 n.1 sh.1)
 
-  set_columns : (sets : List Assign) → map (λ (x : Set). x.column) (map (bound_set (s ∷ [])) sets) ≡ map (λ a. (place_of (s ∷ []) (alone a.column)).column) sets
+  set_columns : (sets : List Assign) → map (λ (x : Set). x.column) (map (bound_set (s ∷ [])) sets) ≡ map (λ a. (place_of (s ∷ []) (unqualified a.column)).column) sets
   set_columns [] = refl
-  set_columns (a ∷ sets) = ap (λ more. (place_of (s ∷ []) (alone a.column)).column ∷ more) (set_columns sets)
+  set_columns (a ∷ sets) = ap (λ more. (place_of (s ∷ []) (unqualified a.column)).column ∷ more) (set_columns sets)
 
-  each_set_known : (sets : List Assign) → AllByRecursion (IsKnown (s ∷ [])) (flat_map assign_columns sets) → AllByRecursion (λ a. IsKnown (s ∷ []) (alone a.column)) sets
+  each_set_known : (sets : List Assign) → AllByRecursion (IsKnown (s ∷ [])) (flat_map assign_columns sets) → AllByRecursion (λ a. IsKnown (s ∷ []) (unqualified a.column)) sets
   each_set_known [] h = tt
   each_set_known (a ∷ sets) h =
       let kn : AllByRecursion (IsKnown (s ∷ [])) (assign_columns a) × AllByRecursion (IsKnown (s ∷ [])) (flat_map assign_columns sets) = all_append (IsKnown (s ∷ [])) (assign_columns a) (flat_map assign_columns sets) h in
@@ -239,7 +239,7 @@ module _ (s : Alias) (key : List ℕ) (table : list_all (λ c. is_table_kind c.k
   sets_apart : (sets : List Assign) → AllByRecursion (IsKnown (s ∷ [])) (flat_map assign_columns sets) → repeated_sets sets ≡ []
       → are_apart nat_eq (map (λ (x : Set). x.column) (map (bound_set (s ∷ [])) sets)) ≡ true
   sets_apart sets h e =
-      rw (set_columns sets) (apart_mapped (λ a. a.column.name) (λ a. (place_of (s ∷ []) (alone a.column)).column) bytes_eq nat_eq (λ a. IsKnown (s ∷ []) (alone a.column))
+      rw (set_columns sets) (apart_mapped (λ a. a.column.name) (λ a. (place_of (s ∷ []) (unqualified a.column)).column) bytes_eq nat_eq (λ a. IsKnown (s ∷ []) (unqualified a.column))
       (λ a b p q same. column_tells s a.column b.column p q same) sets (each_set_known sets h) (repeated_apart (map (λ a. a.column.name) sets) e))
 
 -- ---- the whole

@@ -18,7 +18,7 @@ use Rattle.lv_schema.specs.declared.table.Column.{Column}
 use Rattle.lv_schema.specs.declared.table.TableDef.{TableDef}
 use Rattle.lv_schema.specs.declared.view.ViewDef.{ViewDef}
 use Rattle.lv_schema.specs.Bound.{IsBoundTable, is_table_kind}
-use Rattle.lv_schema.specs.Names.{is_name}
+use Rattle.lv_values.specs.Names.{is_name}
 use Rattle.lv_schema.specs.Catalog.{rel_named}
 use Rattle.lv_bind.specs.Binding.{bound_among, bound_column, bound_kind, bound_table, key_place}
 use Rattle.lv_bind.specs.Faults.{bound_of}

@@ -1,10 +1,11 @@
 -- A view that is made is bound against its schema.
 use Rattle.std.proofs.Common.{◌≡◌, ◌<◌, ◌≤◌, ℕ, suc, Bool, true, false, not, ◌&&◌, ◌==◌, List, [], ◌∷◌, ◌++◌, map, length, Option, Some, None, refl, sym, ap, ap₂, subst, ◌∙◌, arith}
 use Rattle.std.specs.Prelude.{nat_lt, is_none, is_some, Ok}
-use Rattle.std.specs.List.{AllByRecursion, cons_option, filter_map, flat_map, list_all, list_any, count_by}
+use Rattle.std.specs.List.{AllByRecursion, cons_option, filter_map, flat_map, list_all, list_any}
 use Rattle.std.proofs.lemmas.Bool.{and_from, and_parts, eqb-true, lt-ltb, not-true, or_parts}
 use Rattle.std.proofs.lemmas.Bool.Decides.{same_from_decides, Decides-eqb, Decides-like}
 use Rattle.std.proofs.lemmas.List.{length-map}
+use Rattle.lv_values.specs.Names.{is_name}
 use Rattle.lv_parser.specs.declared.tree.ColName.{ColName}
 use Rattle.lv_parser.specs.declared.tree.CondTree.{CondTree}
 use Rattle.lv_parser.specs.declared.tree.ItemTree.{ItemTree}
@@ -15,7 +16,6 @@ use Rattle.lv_parser.specs.declared.tree.Stmt.{Stmt}
 use Rattle.lv_parser.specs.declared.tree.Stmt.TheVariants.{CreateTable, CreateView, Insert, Update, Delete, Select, Begin, Commit, Rollback, ShowTasks}
 use Rattle.lv_schema.specs.declared.bound.Bound.TheVariants as bound
 use Rattle.lv_schema.specs.declared.cond.Col.{Col}
-use Rattle.lv_schema.specs.declared.cond.Cond.{Cond}
 use Rattle.lv_schema.specs.declared.fault.ProfileRule.TheVariants as rule
 use Rattle.lv_schema.specs.declared.query.Rel.{Rel}
 use Rattle.lv_schema.specs.declared.query.Rel.TheVariants.{Table, View}
@@ -25,18 +25,17 @@ use Rattle.lv_schema.specs.declared.table.Kind.TheVariants.{Int, Text, Big}
 use Rattle.lv_schema.specs.declared.table.TableDef.{TableDef}
 use Rattle.lv_schema.specs.declared.view.Item.{Item}
 use Rattle.lv_schema.specs.declared.view.ViewDef.{ViewDef}
-use Rattle.lv_schema.specs.Bound.{IsBoundCond, IsBoundView, IsKeptCond, IsGroupList, IsProfile, alias_columns, is_count, is_in_range, is_int_column, is_table_kind, is_text, item_name, same_col}
+use Rattle.lv_schema.specs.Bound.{IsBoundCond, IsBoundView, IsKeptCond, alias_columns, are_among, broken_rules, is_in_range, is_int_column, is_table_kind, is_text, item_name, keeps_group, same_col}
 use Rattle.lv_schema.specs.Catalog.{rel_named}
 use Rattle.lv_schema.specs.Differences.{summed_columns, summed_column}
 use Rattle.lv_schema.specs.JoinViews.{plain_column, plain_columns}
-use Rattle.lv_schema.specs.Names.{is_name}
 use Rattle.lv_schema.specs.Once.{are_apart}
-use Rattle.lv_schema.specs.Profile.{are_among, broken, broken_rules, keeps_count, keeps_group, keeps_key}
 use Rattle.lv_schema.specs.Sound.{IsSchema}
+use Rattle.lv_schema.proofs.Profiles.{kept_rules}
 use Rattle.lv_bind.specs.declared.sources.Place.{Place}
 use Rattle.lv_bind.specs.Binding.{bound_among, bound_col, bound_cond, bound_item, bound_view, table_number, table_numbers}
 use Rattle.lv_bind.specs.Faults.{bound_of}
-use Rattle.lv_bind.specs.InUse.{output_of, regrouped, regrouped_after, repeated_aliases, repeated_outputs, same_place, taken}
+use Rattle.lv_bind.specs.InUse.{output_of, regrouped, regrouped_after, repeated_aliases, repeated_outputs, same_column, taken}
 use Rattle.lv_bind.specs.Kinds.{column_byte, compared_kinds, item_kinds, kind_of}
 use Rattle.lv_bind.specs.Limits.{alias_names, compared_texts, lengths, output_names}
 use Rattle.lv_bind.specs.Pieces.{columns_in, compared_columns, item_columns, sides_of}
@@ -115,17 +114,17 @@ groups_range sources (g ∷ groups) h = and_from (is_in_range (all_columns sourc
 
 -- ---- groups
 
-regrouped_fresh : (sources : List Alias) (before : List Place) (cols : List ColName) → regrouped_after sources before cols ≡ [] → AreFresh same_place before (map (place_of sources) cols)
+regrouped_fresh : (sources : List Alias) (before : List Place) (cols : List ColName) → regrouped_after sources before cols ≡ [] → AreFresh same_column before (map (place_of sources) cols)
 regrouped_fresh sources before [] e = tt
 regrouped_fresh sources before (col ∷ cols) e =
-    let parts : (shown_unless (not (list_any (same_place (place_of sources col)) before)) col.name.name ≡ []) × (regrouped_after sources (before ++ place_of sources col ∷ []) cols ≡ []) =
+    let parts : (shown_unless (not (list_any (same_column (place_of sources col)) before)) col.name.name ≡ []) × (regrouped_after sources (before ++ place_of sources col ∷ []) cols ≡ []) =
     append_parts _ (regrouped_after sources (before ++ place_of sources col ∷ []) cols) e in
-    (not-true _ (shown_well (not (list_any (same_place (place_of sources col)) before)) col.name.name parts.0), regrouped_fresh sources (before ++ place_of sources col ∷ []) cols parts.1)
+    (not-true _ (shown_well (not (list_any (same_column (place_of sources col)) before)) col.name.name parts.0), regrouped_fresh sources (before ++ place_of sources col ∷ []) cols parts.1)
 
 pub nat_comm : (a b : ℕ) → (a == b) ≡ (b == a)
 nat_comm a b = same_from_decides (a == b) (b == a) (Decides-eqb a b) (Decides-like (b == a) sym sym (Decides-eqb b a))
 
-place_comm : (a b : Place) → same_place a b ≡ same_place b a
+place_comm : (a b : Place) → same_column a b ≡ same_column b a
 place_comm a b = ap₂ (λ x y. x && y) (nat_comm a.alias b.alias) (nat_comm a.column b.column)
 
 col_comm : (a b : Col) → same_col a b ≡ same_col b a
@@ -145,8 +144,8 @@ all_units (x ∷ xs) = (tt, all_units xs)
 
 groups_apart : (sources : List Alias) (groups : List ColName) → regrouped sources groups ≡ [] → are_apart same_col (map (bound_col sources) groups) ≡ true
 groups_apart sources groups e =
-    apart_mapped (place_of sources) (bound_col sources) same_place same_col (λ x. Unit {0}) (λ x y p q same. same) groups (all_units groups)
-    (fresh_apart same_place place_comm [] (map (place_of sources) groups) (regrouped_fresh sources [] groups e)).0
+    apart_mapped (place_of sources) (bound_col sources) same_column same_col (λ x. Unit {0}) (λ x y p q same. same) groups (all_units groups)
+    (fresh_apart same_column place_comm [] (map (place_of sources) groups) (regrouped_fresh sources [] groups e)).0
 
 plain_few : (items : List Item) → length (plain_columns items) ≤ length items
 plain_few [] = omega arith
@@ -207,41 +206,15 @@ cond_kept sources c spoken whole few = record {
   shallow = rw (depth_bound sources c) (omega (arith, few, spoken.compared));
 }
 
--- ---- the rules on a view's list
+-- ---- the columns that a view is grouped by
 
-module _ (tables : List TableDef) (sources : List Alias) (items : List Item) (numbers : List ℕ) (few : length items ≤ 16) where
-  abbrev view_of : ℕ → List ℕ → Cond → List ColName → ViewDef
-  view_of at name tree groups = record {
-    no = at;
-    name = name;
-    created = 0;
-    tables = numbers;
-    cond = tree;
-    items = items;
-    grouped = nat_lt 0 (length groups);
-    groups = map (bound_col sources) groups;
-  }
-
-  abbrev Keeps : List ColName → Type 0
-  Keeps groups = (keeps_group items (map (bound_col sources) groups) ≡ true) × (keeps_count items (map (bound_col sources) groups) ≡ true) × (keeps_key tables numbers items (map (bound_col sources) groups) ≡ true)
-
-  fits_profile : (at : ℕ) (name : List ℕ) (cond : Cond) (groups : List ColName) → regrouped sources groups ≡ [] → Keeps groups
-      → IsProfile tables (view_of at name cond groups) (nat_lt 0 (length groups))
-  fits_profile at name cond [] apart keeps = record { no_groups = refl; plain = keeps.0; keys_listed = keeps.2 }
-  fits_profile at name cond (g ∷ groups) apart keeps =
-      subst (IsProfile tables (view_of at name cond (g ∷ groups))) (sym (lt-ltb 0 (length (g ∷ groups)) (omega arith)))
-      (by (groups_apart sources (g ∷ groups) apart) (and_parts _ (are_among (map (bound_col sources) (g ∷ groups)) (plain_columns items)) keeps.0))
-    where
-      by : are_apart same_col (map (bound_col sources) (g ∷ groups)) ≡ true
-          → (are_among (plain_columns items) (map (bound_col sources) (g ∷ groups)) ≡ true) × (are_among (map (bound_col sources) (g ∷ groups)) (plain_columns items) ≡ true)
-          → IsGroupList (view_of at name cond (g ∷ groups))
-      by once among = record {
-        some_groups = omega arith;
-        few_groups = omega (arith, no_longer same_col col_tells col_comm (map (bound_col sources) (g ∷ groups)) (plain_columns items) once among.1, plain_few items, few);
-        groups_listed = among.1;
-        listed_grouped = among.0;
-        one_count = eqb-true (count_by is_count items) 1 keeps.1;
-      }
+module _ (sources : List Alias) (items : List Item) (few : length items ≤ 16) where
+  few_grouped : (groups : List ColName) → regrouped sources groups ≡ [] → keeps_group items (map (bound_col sources) groups) ≡ true → length (map (bound_col sources) groups) ≤ 16
+  few_grouped [] apart keeps = omega arith
+  few_grouped (g ∷ groups) apart keeps =
+      let once = groups_apart sources (g ∷ groups) apart in
+      let among = and_parts (are_among (plain_columns items) (map (bound_col sources) (g ∷ groups))) (are_among (map (bound_col sources) (g ∷ groups)) (plain_columns items)) keeps in
+      omega (arith, no_longer same_col col_tells col_comm (map (bound_col sources) (g ∷ groups)) (plain_columns items) once among.1, plain_few items, few)
 
 -- ---- the whole
 
@@ -308,14 +281,6 @@ module _ (tables : List TableDef) (views : List ViewDef) (sound : IsSchema table
   few_bound : length (map (bound_item sources) items) ≤ 16
   few_bound = rw (length-map items (bound_item sources)) few_items
 
-  keeps : Keeps tables sources (map (bound_item sources) items) (table_numbers tables views refs) few_bound groups
-  keeps =
-      let group : (broken (keeps_group def.items def.groups) rule.Group ≡ []) × (broken (keeps_count def.items def.groups) rule.Count ++ broken (keeps_key tables def.tables def.items def.groups) rule.Key ≡ []) =
-      append_parts (broken (keeps_group def.items def.groups) rule.Group) (broken (keeps_count def.items def.groups) rule.Count ++ broken (keeps_key tables def.tables def.items def.groups) rule.Key) rules_kept.1 in
-      let count : (broken (keeps_count def.items def.groups) rule.Count ≡ []) × (broken (keeps_key tables def.tables def.items def.groups) rule.Key ≡ []) =
-      append_parts (broken (keeps_count def.items def.groups) rule.Count) (broken (keeps_key tables def.tables def.items def.groups) rule.Key) group.1 in
-      (shown_well (keeps_group def.items def.groups) rule.Group group.0, shown_well (keeps_count def.items def.groups) rule.Count count.0, shown_well (keeps_key tables def.tables def.items def.groups) rule.Key count.1)
-
   pub view_fits : IsBoundView tables views def
   view_fits = record {
     next = refl;
@@ -334,7 +299,8 @@ module _ (tables : List TableDef) (views : List ViewDef) (sound : IsSchema table
     plain_in_range = subst (λ columns. list_all (is_in_range columns) (plain_columns def.items) ≡ true) same_columns (plain_range sources items known.0);
     sums_are_ints = subst (λ columns. list_all (is_int_column columns) (summed_columns def) ≡ true) same_columns (sums_range sources items (tables_kinds tables views sound refs of_tables) known.0 kinds.0);
     groups_in_range = subst (λ columns. list_all (is_in_range columns) def.groups ≡ true) same_columns (groups_range sources groups known_after.1);
-    profile = fits_profile tables sources (map (bound_item sources) items) (table_numbers tables views refs) few_bound (length views) name.name (bound_cond sources c) groups grouped_once keeps;
+    few_groups = few_grouped sources (map (bound_item sources) items) few_bound groups grouped_once (kept_rules tables def rules_kept.1).0;
+    profile = record { grouped = rw (length-map groups (bound_col sources)) refl; keeps = rules_kept.1 };
   }
 
 pub fits_view : (tables : List TableDef) (views : List ViewDef) (s : Stmt) (view : ViewDef) → IsSchema tables views → IsSpoken s → IsWholeView s → IsFaultless tables views s

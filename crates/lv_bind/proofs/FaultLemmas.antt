@@ -16,12 +16,13 @@ use Rattle.lv_schema.specs.declared.fault.LimitKind.TheVariants as limit
 use Rattle.lv_schema.specs.declared.table.TableDef.{TableDef}
 use Rattle.lv_schema.specs.declared.view.ViewDef.{ViewDef}
 use Rattle.lv_schema.specs.Catalog.{rel_named}
+use Rattle.lv_schema.specs.Effects.{ok_unless}
 use Rattle.lv_bind.specs.declared.limits.Measure.{Measure}
 use Rattle.lv_bind.specs.declared.statement.BindFault.{BindFault}
 use Rattle.lv_bind.specs.declared.statement.BindFault.TheVariants as refusal
 use Rattle.lv_bind.specs.declared.sources.Source.{Source}
 use Rattle.lv_bind.specs.Binding.{IsNarrow, IsSmallTable, IsSmallView, bound_among, table_number}
-use Rattle.lv_bind.specs.Faults.{lowest, reading_faults, profile_fault, later_faults, ok_unless, bound_of}
+use Rattle.lv_bind.specs.Faults.{lowest, reading_faults, profile_fault, later_faults, bound_of}
 use Rattle.lv_bind.specs.Limits.{measured, measures, passed_limits}
 use Rattle.lv_bind.specs.Pieces.{comparisons_in}
 use Rattle.lv_bind.specs.Seen.{alias_seen}

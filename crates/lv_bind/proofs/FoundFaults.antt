@@ -4,6 +4,7 @@ use Rattle.std.specs.Prelude.{Ok, nat_lt}
 use Rattle.std.specs.List.{AllByRecursion, flat_map, list_all, list_any}
 use Rattle.std.specs.Option.{option_map}
 use Rattle.std.proofs.lemmas.Bool.{and_from, not-true, or_parts, ltb-false}
+use Rattle.lv_schema.specs.Effects.{ok_unless}
 use Rattle.lv_schema.specs.declared.fault.Fault.{Fault}
 use Rattle.lv_schema.specs.declared.fault.Fault.TheVariants as fault
 use Rattle.lv_schema.specs.declared.table.TableDef.{TableDef}
@@ -13,13 +14,14 @@ use Rattle.lv_parser.specs.declared.tree.Stmt.{Stmt}
 use Rattle.lv_bind.specs.declared.limits.Measure.{Measure}
 use Rattle.lv_bind.specs.Assigned.{assigned}
 use Rattle.lv_bind.specs.Binding.{bound_among}
-use Rattle.lv_bind.specs.Faults.{lowest, faults, ok_unless, bound_of}
+use Rattle.lv_bind.specs.Faults.{lowest, faults, bound_of}
 use Rattle.lv_bind.specs.InUse.{in_use}
 use Rattle.lv_bind.specs.Kinds.{kinds}
 use Rattle.lv_bind.specs.Limits.{measures, passed_limits, limits}
 use Rattle.lv_bind.specs.Pieces.{comparisons_in}
 use Rattle.lv_bind.specs.Profile.{profile}
 use Rattle.lv_bind.specs.Ranges.{ranges}
+use Rattle.lv_bind.specs.Rights.{outside_setup, in_transaction, no_transaction}
 use Rattle.lv_bind.specs.Sources.{first, shown_unless, sources_of}
 use Rattle.lv_bind.specs.Unknown.{unknown}
 
@@ -95,24 +97,46 @@ pub record IsFaultless (tables : List TableDef) (views : List ViewDef) (s : Stmt
   pub keys_kept : assigned tables views s ≡ []
   pub in_range : ranges s ≡ []
 
+-- no fault is found in a statement that is bound
+found_none : (tables : List TableDef) (views : List ViewDef) (setup live : Bool) (s : Stmt) (b : Bound) → bound_of tables views setup live s ≡ Ok b
+    → AllByRecursion (λ f. f ≡ None) (faults tables views setup live s) × (bound_among tables views (sources_of tables views s) s ≡ b)
+unfolding bound_of
+found_none tables views setup live s b e =
+    let parts = ok_parts (lowest (faults tables views setup live s)) (bound_among tables views (sources_of tables views s) s) b e in
+    (lowest_none (faults tables views setup live s) parts.0, parts.1)
+
 pub faultless : (tables : List TableDef) (views : List ViewDef) (setup live : Bool) (s : Stmt) (b : Bound) → bound_of tables views setup live s ≡ Ok b
     → IsFaultless tables views s × (bound_among tables views (sources_of tables views s) s ≡ b)
-unfolding bound_of
-faultless tables views setup live s b e = (
-  record {
-    known = shown_none fault.Unknown (unknown tables views s) none.0;
-    free = shown_none fault.InUse (in_use tables views s) none.1.1.0;
-    kinds_agree = shown_none fault.Kinds (kinds tables views s) none.1.1.1.0;
-    small = none_passed (measures_of tables views s) (first_none (limits tables views s) none.1.1.1.1.0);
-    inside = shown_none fault.Profile (profile tables views s) none.1.1.1.1.1.0;
-    keys_kept = shown_none fault.KeyAssigned (assigned tables views s) none.1.1.1.1.1.1.1.1.1.0;
-    in_range = shown_none fault.Range (ranges s) none.1.1.1.1.1.1.1.1.1.1.0;
-  },
-  parts.1,
-)
-  where
-    parts : (lowest (faults tables views setup live s) ≡ None) × (bound_among tables views (sources_of tables views s) s ≡ b)
-    parts = ok_parts (lowest (faults tables views setup live s)) (bound_among tables views (sources_of tables views s) s) b e
+faultless tables views setup live s b e =
+    let found = found_none tables views setup live s b e in
+    let none = found.0 in (
+      record {
+        known = shown_none fault.Unknown (unknown tables views s) none.0;
+        free = shown_none fault.InUse (in_use tables views s) none.1.1.0;
+        kinds_agree = shown_none fault.Kinds (kinds tables views s) none.1.1.1.0;
+        small = none_passed (measures_of tables views s) (first_none (limits tables views s) none.1.1.1.1.0);
+        inside = shown_none fault.Profile (profile tables views s) none.1.1.1.1.1.0;
+        keys_kept = shown_none fault.KeyAssigned (assigned tables views s) none.1.1.1.1.1.1.1.1.1.0;
+        in_range = shown_none fault.Range (ranges s) none.1.1.1.1.1.1.1.1.1.1.0;
+      },
+      found.1,
+    )
 
-    none : AllByRecursion (λ f. f ≡ None) (faults tables views setup live s)
-    none = lowest_none (faults tables views setup live s) parts.0
+-- its session may have the statement
+pub record HasRights (setup live : Bool) (s : Stmt) : Type 0 where
+  pub in_setup : outside_setup setup s ≡ []
+  pub outside : in_transaction setup live s ≡ []
+  pub inside : no_transaction live s ≡ []
+
+pub rightful : (tables : List TableDef) (views : List ViewDef) (setup live : Bool) (s : Stmt) (b : Bound) → bound_of tables views setup live s ≡ Ok b
+    → HasRights setup live s × (bound_among tables views (sources_of tables views s) s ≡ b)
+rightful tables views setup live s b e =
+    let found = found_none tables views setup live s b e in
+    let none = found.0 in (
+      record {
+        in_setup = first_none (outside_setup setup s) none.1.1.1.1.1.1.0;
+        outside = first_none (in_transaction setup live s) none.1.1.1.1.1.1.1.0;
+        inside = first_none (no_transaction live s) none.1.1.1.1.1.1.1.1.0;
+      },
+      found.1,
+    )

@@ -18,3 +18,4 @@ pub mod SpokenStmts
 pub mod LineFaults
 pub mod FoundFaults
 pub mod ReadLines
+pub mod AllowedLines

@@ -5,6 +5,7 @@ use Rattle.std.specs.Option.{option_map}
 use Rattle.std.specs.List.{AllByRecursion}
 use Rattle.lv_parser.specs.declared.tree.Stmt.{Stmt}
 use Rattle.lv_parser.specs.declared.tree.Stmt.TheVariants as stmt
+use Rattle.lv_schema.specs.Effects.{ok_unless}
 use Rattle.lv_schema.specs.declared.bound.Bound.{Bound}
 use Rattle.lv_schema.specs.declared.fault.Fault.{Fault}
 use Rattle.lv_schema.specs.declared.fault.Fault.TheVariants as fault
@@ -14,7 +15,7 @@ use Rattle.lv_bind.specs.declared.limits.Measure.{Measure}
 use Rattle.lv_bind.specs.Ambiguous.{ambiguous}
 use Rattle.lv_bind.specs.Assigned.{assigned}
 use Rattle.lv_bind.specs.Binding.{bound_among}
-use Rattle.lv_bind.specs.Faults.{bound_of, faults, lowest, ok_unless}
+use Rattle.lv_bind.specs.Faults.{bound_of, faults, lowest}
 use Rattle.lv_bind.specs.InUse.{in_use}
 use Rattle.lv_bind.specs.Kinds.{kinds}
 use Rattle.lv_bind.specs.Limits.{measures, passed_limits}

@@ -1,5 +1,5 @@
 -- Lists in which nothing stands twice, names that fit, and the places of names.
-use Rattle.std.proofs.Common.{◌≡◌, ◌<◌, ◌≤◌, ℕ, Bool, true, false, not, cond, ◌&&◌, List, [], ◌∷◌, ◌++◌, map, length, Option, Some, None, refl, sym, ap, ◌∙◌, arith}
+use Rattle.std.proofs.Common.{◌≡◌, ◌<◌, ◌≤◌, ℕ, Bool, true, false, not, cond, List, [], ◌∷◌, ◌++◌, map, length, Option, Some, None, refl, sym, ap, ◌∙◌, arith}
 use Rattle.std.specs.Prelude.{nat_le, position, is_none}
 use Rattle.std.specs.List.{AllByRecursion, list_all, list_any, position_or_len}
 use Rattle.std.specs.Option.{option_map, option_or}
@@ -14,7 +14,8 @@ use Rattle.lv_schema.specs.declared.query.Rel.TheVariants.{Table, View}
 use Rattle.lv_schema.specs.declared.table.TableDef.{TableDef}
 use Rattle.lv_schema.specs.declared.view.ViewDef.{ViewDef}
 use Rattle.lv_schema.specs.Catalog.{table_named, view_named, rel_named}
-use Rattle.lv_schema.specs.Names.{begins_name, continues_name, has_name, is_free, is_name, keywords}
+use Rattle.lv_values.specs.Names.{is_word, is_name, has_name, keywords}
+use Rattle.lv_schema.specs.Names.{is_free}
 use Rattle.lv_schema.specs.Once.{are_apart}
 use Rattle.lv_bind.specs.Binding.{table_number}
 use Rattle.lv_bind.specs.InUse.{repeated_after, repeated}
@@ -92,13 +93,10 @@ module _ {X K B : Type 0} (g : X → K) (f : X → B) (sameK : K → K → Bool)
 -- ---- names
 
 pub name_fits : (name : List ℕ) → is_spoken_name name ≡ true → length name ≤ 32 → is_name name ≡ true
-name_fits [] e le = e
-name_fits (b ∷ bytes) e le =
-    let parts : ((begins_name b && list_all continues_name bytes) ≡ true) × (not (has_name (b ∷ bytes) keywords) ≡ true) =
-    and_parts (begins_name b && list_all continues_name bytes) (not (has_name (b ∷ bytes) keywords)) e in
-    let short : nat_le (length bytes) 31 ≡ true = le-leb (length bytes) 31 (omega arith) in
-    let in_parts : (begins_name b ≡ true) × (list_all continues_name bytes ≡ true) = and_parts (begins_name b) (list_all continues_name bytes) parts.0 in
-    rw (in_parts.0, in_parts.1, short, parts.1) refl
+name_fits name e le =
+    let parts : (is_word name ≡ true) × (not (has_name name keywords) ≡ true) = and_parts (is_word name) (not (has_name name keywords)) e in
+    let short : nat_le (length name) 32 ≡ true = le-leb (length name) 32 le in
+    rw (parts.0, short, parts.1) refl
 
 pub names_fit : (names : List (List ℕ)) → list_all is_spoken_name names ≡ true → AllByRecursion (λ n. n ≤ 32) (map length names) → list_all is_name names ≡ true
 names_fit [] e le = refl

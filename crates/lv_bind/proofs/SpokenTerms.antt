@@ -1,36 +1,32 @@
 -- The terminals of a line: what is known of a name, of a number and of a text.
 use Rattle.std.proofs.Common.{◌≡◌, ℕ, zero, suc, ◌+◌, ◌-◌, ◌^◌, ◌≤◌, ◌<◌, Bool, true, false, not, cond, ◌&&◌, ◌||◌, ◌==◌, List, [], ◌∷◌, map, length, take, drop, slice_range, Option, Some, None, ◌⊎◌, inl, inr, refl, sym, ap, ◌∙◌, arith}
-use Rattle.std.specs.Char.{to_ascii_lowercase}
-use Rattle.std.specs.List.{All, list_all, list_any}
+use Rattle.std.specs.Char.{to_ascii_lowercase, is_ascii_digit}
+use Rattle.std.specs.List.{All, list_all, list_any, prefix_len}
 use Rattle.std.specs.Str.{bytes_eq, str_to_ascii_lowercase}
 use Rattle.std.proofs.lemmas.Bool.{false_from_ne_true, false≢true}
 use Rattle.std.proofs.lemmas.Bool.Decides.{nat_tests}
 use Rattle.std.proofs.lemmas.List.Elements.{All-head, All-tail}
 use Rattle.std.proofs.lemmas.Slice.Eq.{bytes_eq-Decides}
 use Rattle.std.proofs.lemmas.Str.Ascii.{lowercase_is}
+use Rattle.lv_values.specs.Names.{is_letter, is_word_byte, begins_name, continues_name, has_name, keywords}
 use Rattle.lv_lexer.specs.declared.terminals.Class.{Class}
 use Rattle.lv_lexer.specs.declared.terminals.Class.TheVariants as k
 use Rattle.lv_lexer.specs.declared.terminals.Terminal.{Terminal}
 use Rattle.lv_lexer.specs.declared.token.Token.{Token}
 use Rattle.lv_lexer.specs.declared.token.TokenKind.{TokenKind}
 use Rattle.lv_lexer.specs.declared.token.TokenKind.TheVariants.{Word, Number, Text, Sign}
-use Rattle.lv_lexer.specs.Bytes.{is_letter, is_digit, is_word_byte, run}
-use Rattle.lv_lexer.specs.Keywords as lexer
-use Rattle.lv_lexer.specs.Keywords.{spelled_by, keyword_of}
+use Rattle.lv_lexer.specs.Keywords.{spellings, spelled_by, keyword_of}
 use Rattle.lv_lexer.specs.Meaning.{said, terminal_of, word_at, undoubled}
 use Rattle.lv_lexer.specs.Piece.{piece}
 use Rattle.lv_lexer.specs.Scan.{Spells, IsTokenOf, text_in}
 use Rattle.lv_lexer.proofs.Sorts.{IsPiece, piece_is}
 use Rattle.lv_parser.specs.Lines as lines
 use Rattle.lv_parser.proofs.PrintHonest.{IsHonest, IsNameText, honest_name, honest_number}
-use Rattle.lv_schema.specs.Names as schema
-use Rattle.lv_schema.specs.Names.{begins_name, continues_name, has_name}
 use Rattle.lv_bind.specs.Spoken.{is_spoken_name, is_in_line}
 
 -- ---- keywords
 
--- the words of the two tables are the same
-same_words : map (λ entry. entry.0) lexer.keywords ≡ schema.keywords
+same_words : map (λ entry. entry.0) spellings ≡ keywords
 same_words = refl
 
 other_way : (a b : List ℕ) → bytes_eq a b ≡ false → bytes_eq b a ≡ false
@@ -45,9 +41,9 @@ spelled_none (entry ∷ more) word e = by (bytes_eq entry.0 word) refl e (spelle
     by true q e rest = absurd cc
     by false q e rest = rw (other_way entry.0 word q) (rest e)
 
-no_keyword : (word : List ℕ) → keyword_of word ≡ None → has_name word schema.keywords ≡ false
+no_keyword : (word : List ℕ) → keyword_of word ≡ None → has_name word keywords ≡ false
 unfolding keyword_of
-no_keyword word e = ap (has_name word) (sym same_words) ∙ spelled_none lexer.keywords word e
+no_keyword word e = ap (has_name word) (sym same_words) ∙ spelled_none spellings word e
 
 -- ---- bytes of a name
 
@@ -66,13 +62,13 @@ begins b l e = elim (letter_is b l) [
   | inr other ↦ elim other [ inl small ↦ small_begins b small.0 small.1 | inr line ↦ ap begins_name line ]
 ]
 
-digit_continues : (b : ℕ) → is_digit b ≡ true → continues_name b ≡ true
+digit_continues : (b : ℕ) → is_ascii_digit b ≡ true → continues_name b ≡ true
 digit_continues b e = grind (arith, nat_tests)
 
 continues : (b : ℕ) → is_word_byte b ≡ true → to_ascii_lowercase b ≡ b → continues_name b ≡ true
-continues b w e = by (is_letter b) (is_digit b) refl refl w
+continues b w e = by (is_letter b) (is_ascii_digit b) refl refl w
   where
-    by : (l d : Bool) → is_letter b ≡ l → is_digit b ≡ d → (l || d) ≡ true → continues_name b ≡ true
+    by : (l d : Bool) → is_letter b ≡ l → is_ascii_digit b ≡ d → (l || d) ≡ true → continues_name b ≡ true
     by true d l q w = rw (begins b l e) refl
     by false true l q w = digit_continues b q
     by false false l q w = absurd cc
@@ -83,12 +79,12 @@ same_head b c bs cs e = cc
 same_tail : (b c : ℕ) (bs cs : List ℕ) → b ∷ bs ≡ c ∷ cs → bs ≡ cs
 same_tail b c bs cs e = cc
 
-all_continue : (bytes : List ℕ) → run is_word_byte bytes ≡ length bytes → str_to_ascii_lowercase bytes ≡ bytes → list_all continues_name bytes ≡ true
+all_continue : (bytes : List ℕ) → prefix_len is_word_byte bytes ≡ length bytes → str_to_ascii_lowercase bytes ≡ bytes → list_all continues_name bytes ≡ true
 all_continue [] r e = refl
 all_continue (b ∷ bytes) r e =
     by (is_word_byte b) refl r (λ q. all_continue bytes q (same_tail (to_ascii_lowercase b) b (str_to_ascii_lowercase bytes) bytes e))
   where
-    by : (t : Bool) → is_word_byte b ≡ t → cond t (1 + run is_word_byte bytes) 0 ≡ suc (length bytes) → (run is_word_byte bytes ≡ length bytes → list_all continues_name bytes ≡ true)
+    by : (t : Bool) → is_word_byte b ≡ t → cond t (1 + prefix_len is_word_byte bytes) 0 ≡ suc (length bytes) → (prefix_len is_word_byte bytes ≡ length bytes → list_all continues_name bytes ≡ true)
         → (continues_name b && list_all continues_name bytes) ≡ true
     by true q r rest = rw (continues b q (same_head (to_ascii_lowercase b) b (str_to_ascii_lowercase bytes) bytes e)) (rest (omega arith))
     by false q r rest = absurd (omega arith)

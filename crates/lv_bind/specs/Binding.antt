@@ -50,7 +50,7 @@ use Rattle.lv_schema.specs.declared.view.Item.TheVariants.{Plain, Sum, Count}
 use Rattle.lv_schema.specs.declared.view.ViewDef.{ViewDef}
 use Rattle.lv_schema.specs.Catalog.{rel_named}
 use Rattle.lv_bind.specs.declared.sources.Place.{Place}
-use Rattle.lv_bind.specs.Pieces.{alone}
+use Rattle.lv_bind.specs.Pieces.{unqualified}
 use Rattle.lv_bind.specs.Sources.{Alias, AreNarrow, place_of}
 
 -- aliases and columns that are few enough to be numbered in a byte
@@ -109,11 +109,11 @@ bound_rows tuples = map (λ t. map (λ l. l.value) t.values) tuples
 -- a column of the one alias of an UPDATE
 abbrev pub bound_value : List Alias → AssignValue → SetValue
 bound_value sources (value.Literal l) = set.Literal l.value
-bound_value sources (value.Column col) = set.Column (place_of sources (alone col)).column
-bound_value sources (value.Plus col amount) = set.Plus (place_of sources (alone col)).column amount
+bound_value sources (value.Column col) = set.Column (place_of sources (unqualified col)).column
+bound_value sources (value.Plus col amount) = set.Plus (place_of sources (unqualified col)).column amount
 
 abbrev pub bound_set : List Alias → Assign → Set
-bound_set sources a = record { column = (place_of sources (alone a.column)).column; value = bound_value sources a.value }
+bound_set sources a = record { column = (place_of sources (unqualified a.column)).column; value = bound_value sources a.value }
 
 -- all columns of all aliases, where they are numbered from n
 abbrev pub columns_from : ℕ → List Alias → List Col

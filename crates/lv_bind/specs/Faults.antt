@@ -1,6 +1,6 @@
 -- What a statement is bound to, or why it is refused: of the faults 2 to 12 the lowest number, and of that the first
 -- place.
-use Rattle.std.specs.Prelude.{Bool, List, [], ◌∷◌, ◌++◌, Option, Some, None, Result, Ok, Err}
+use Rattle.std.specs.Prelude.{Bool, List, [], ◌∷◌, ◌++◌, Option, None, Result}
 use Rattle.std.specs.Option.{option_map, option_or}
 use Rattle.lv_parser.specs.declared.tree.Stmt.{Stmt}
 use Rattle.lv_schema.specs.declared.bound.Bound.{Bound}
@@ -8,6 +8,7 @@ use Rattle.lv_schema.specs.declared.fault.Fault.{Fault}
 use Rattle.lv_schema.specs.declared.fault.Fault.TheVariants as fault
 use Rattle.lv_schema.specs.declared.table.TableDef.{TableDef}
 use Rattle.lv_schema.specs.declared.view.ViewDef.{ViewDef}
+use Rattle.lv_schema.specs.Effects.{ok_unless}
 use Rattle.lv_bind.specs.Ambiguous.{ambiguous}
 use Rattle.lv_bind.specs.Assigned.{assigned}
 use Rattle.lv_bind.specs.Binding.{bound_among}
@@ -50,10 +51,6 @@ later_faults tables views setup live s =
 -- of all of them, by their numbers
 abbrev pub faults : List TableDef → List ViewDef → Bool → Bool → Stmt → List (Option Fault)
 faults tables views setup live s = reading_faults tables views s ++ profile_fault tables views s ∷ later_faults tables views setup live s
-
-abbrev pub ok_unless : {A : Type 0} → Option Fault → A → Result A Fault
-ok_unless None a = Ok a
-ok_unless (Some f) a = Err f
 
 -- on a schema of these tables and views, in the setup or not, with a live transaction or without
 unfoldable pub bound_of : List TableDef → List ViewDef → Bool → Bool → Stmt → Result Bound Fault

@@ -12,7 +12,7 @@ use Rattle.lv_parser.specs.declared.tree.ItemTree.TheVariants.{Plain, Sum, Count
 use Rattle.lv_parser.specs.declared.tree.Named.{Named}
 use Rattle.lv_parser.specs.declared.tree.RefTree.{RefTree}
 use Rattle.lv_parser.specs.declared.tree.Stmt.{Stmt}
-use Rattle.lv_parser.specs.declared.tree.Stmt.TheVariants.{CreateTable, CreateView, Insert, Update, Delete, Select, Begin, Commit, Rollback, ShowTasks}
+use Rattle.lv_parser.specs.declared.tree.Stmt.TheVariants.{CreateTable, CreateView, Update, Select}
 use Rattle.lv_schema.specs.declared.table.TableDef.{TableDef}
 use Rattle.lv_schema.specs.declared.view.ViewDef.{ViewDef}
 use Rattle.lv_schema.specs.Catalog.{rel_named}
@@ -36,14 +36,14 @@ output_of (Plain col output) = unwrap_or output col.name
 output_of (Sum col output) = output
 output_of (Count output) = output
 
-abbrev pub same_place : Place → Place → Bool
-same_place a b = (a.alias == b.alias) && (a.column == b.column)
+abbrev pub same_column : Place → Place → Bool
+same_column a b = (a.alias == b.alias) && (a.column == b.column)
 
 -- the GROUP BY columns whose place is among these or is that of an earlier one
 abbrev pub regrouped_after : List Alias → List Place → List ColName → List (List ℕ)
 regrouped_after sources before [] = []
 regrouped_after sources before (col ∷ cols) =
-    shown_unless (not (list_any (same_place (place_of sources col)) before)) col.name.name ++ regrouped_after sources (before ++ place_of sources col ∷ []) cols
+    shown_unless (not (list_any (same_column (place_of sources col)) before)) col.name.name ++ regrouped_after sources (before ++ place_of sources col ∷ []) cols
 
 abbrev pub regrouped : List Alias → List ColName → List (List ℕ)
 regrouped sources cols = regrouped_after sources [] cols

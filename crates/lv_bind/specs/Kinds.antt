@@ -15,7 +15,7 @@ use Rattle.lv_parser.specs.declared.tree.Literal.{Literal}
 use Rattle.lv_parser.specs.declared.tree.OperandTree.{OperandTree}
 use Rattle.lv_parser.specs.declared.tree.OperandTree.TheVariants as side
 use Rattle.lv_parser.specs.declared.tree.Stmt.{Stmt}
-use Rattle.lv_parser.specs.declared.tree.Stmt.TheVariants.{CreateTable, CreateView, Insert, Update, Delete, Select, Begin, Commit, Rollback, ShowTasks}
+use Rattle.lv_parser.specs.declared.tree.Stmt.TheVariants.{CreateView, Insert, Update, Delete, Select}
 use Rattle.lv_parser.specs.declared.tree.Tuple.{Tuple}
 use Rattle.lv_schema.specs.declared.query.Rel.{Rel}
 use Rattle.lv_schema.specs.declared.query.Rel.TheVariants.{Table, View}
@@ -26,7 +26,7 @@ use Rattle.lv_schema.specs.declared.view.ViewDef.{ViewDef}
 use Rattle.lv_schema.specs.Bound.{is_text}
 use Rattle.lv_schema.specs.Catalog.{rel_named}
 use Rattle.lv_schema.specs.World.{table_at}
-use Rattle.lv_bind.specs.Pieces.{Sides, comparisons_in, alone}
+use Rattle.lv_bind.specs.Pieces.{Sides, comparisons_in, unqualified}
 use Rattle.lv_bind.specs.Sources.{Alias, place_of, kind_at, sources_of, shown_unless}
 
 abbrev pub both_or_none : Bool → Bool → Bool
@@ -80,8 +80,8 @@ tuple_kinds columns t = shown_unless (length t.values == length columns) t.byte 
 -- what may be assigned to a column of this kind: a value or a column of the same, and a sum of numbers to a number
 abbrev pub assign_fits : List Alias → Kind → AssignValue → Bool
 assign_fits sources kind (value.Literal l) = literal_fits kind l
-assign_fits sources kind (value.Column col) = both_or_none (is_text kind) (is_text (kind_of sources (alone col)))
-assign_fits sources kind (value.Plus col amount) = not (is_text kind) && not (is_text (kind_of sources (alone col)))
+assign_fits sources kind (value.Column col) = both_or_none (is_text kind) (is_text (kind_of sources (unqualified col)))
+assign_fits sources kind (value.Plus col amount) = not (is_text kind) && not (is_text (kind_of sources (unqualified col)))
 
 abbrev pub assign_byte : AssignValue → ℕ
 assign_byte (value.Literal l) = l.byte
@@ -89,7 +89,7 @@ assign_byte (value.Column col) = col.byte
 assign_byte (value.Plus col amount) = col.byte
 
 abbrev pub assign_kinds : List Alias → Assign → List ℕ
-assign_kinds sources a = shown_unless (assign_fits sources (kind_of sources (alone a.column)) a.value) (assign_byte a.value)
+assign_kinds sources a = shown_unless (assign_fits sources (kind_of sources (unqualified a.column)) a.value) (assign_byte a.value)
 
 -- the columns of the table of an INSERT
 abbrev pub insert_columns : List TableDef → Option Rel → List Column

@@ -15,3 +15,4 @@ pub mod Unknown
 pub mod Spoken
 pub mod Reads
 pub mod Whole
+pub mod Allowed

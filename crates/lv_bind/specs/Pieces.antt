@@ -14,7 +14,7 @@ use Rattle.lv_parser.specs.declared.tree.Named.{Named}
 use Rattle.lv_parser.specs.declared.tree.OperandTree.{OperandTree}
 use Rattle.lv_parser.specs.declared.tree.OperandTree.TheVariants as side
 use Rattle.lv_parser.specs.declared.tree.Stmt.{Stmt}
-use Rattle.lv_parser.specs.declared.tree.Stmt.TheVariants.{CreateTable, CreateView, Insert, Update, Delete, Select, Begin, Commit, Rollback, ShowTasks}
+use Rattle.lv_parser.specs.declared.tree.Stmt.TheVariants.{CreateView, Update, Delete, Select}
 
 -- lists, one after another
 abbrev pub joined : {A : Type 0} → List (List A) → List A
@@ -53,8 +53,8 @@ abbrev pub compared_columns : List Sides → List ColName
 compared_columns = flat_map (λ sides. side_columns sides.0 ++ side_columns sides.1)
 
 -- a name that stands alone as a column
-abbrev pub alone : Named → ColName
-alone name = record { qualifier = None; name = name }
+abbrev pub unqualified : Named → ColName
+unqualified name = record { qualifier = None; name = name }
 
 -- the columns that an item lists
 abbrev pub item_columns : ItemTree → List ColName
@@ -65,11 +65,11 @@ item_columns (item.Count output) = []
 -- the column that is set, and the one that it is set from
 abbrev pub source_columns : AssignValue → List ColName
 source_columns (value.Literal l) = []
-source_columns (value.Column col) = alone col ∷ []
-source_columns (value.Plus col amount) = alone col ∷ []
+source_columns (value.Column col) = unqualified col ∷ []
+source_columns (value.Plus col amount) = unqualified col ∷ []
 
 abbrev pub assign_columns : Assign → List ColName
-assign_columns a = alone a.column ∷ source_columns a.value
+assign_columns a = unqualified a.column ∷ source_columns a.value
 
 -- `*` names no column
 abbrev pub listed_columns : Option (List ColName) → List ColName

@@ -7,7 +7,7 @@ use Rattle.lv_values.specs.declared.value.Value.TheVariants as v
 use Rattle.lv_parser.specs.declared.tree.AssignValue.{AssignValue}
 use Rattle.lv_parser.specs.declared.tree.AssignValue.TheVariants as value
 use Rattle.lv_parser.specs.declared.tree.Stmt.{Stmt}
-use Rattle.lv_parser.specs.declared.tree.Stmt.TheVariants.{CreateTable, CreateView, Insert, Update, Delete, Select, Begin, Commit, Rollback, ShowTasks}
+use Rattle.lv_parser.specs.declared.tree.Stmt.TheVariants.{Insert, Update}
 use Rattle.lv_parser.specs.declared.tree.Tuple.{Tuple}
 use Rattle.lv_schema.specs.Databases.{is_int}
 use Rattle.lv_bind.specs.Sources.{shown_unless}

@@ -2,7 +2,7 @@
 -- transaction where none is live, and COMMIT and ROLLBACK end one that is.
 use Rattle.std.specs.Prelude.{Bool, not, ◌&&◌, List, []}
 use Rattle.lv_parser.specs.declared.tree.Stmt.{Stmt}
-use Rattle.lv_parser.specs.declared.tree.Stmt.TheVariants.{CreateTable, CreateView, Insert, Update, Delete, Select, Begin, Commit, Rollback, ShowTasks}
+use Rattle.lv_parser.specs.declared.tree.Stmt.TheVariants.{CreateTable, CreateView, Begin, Commit, Rollback}
 use Rattle.lv_schema.specs.declared.fault.Fault.{Fault}
 use Rattle.lv_schema.specs.declared.fault.Fault.TheVariants.{NotSetup, InTransaction, NoTransaction}
 use Rattle.lv_bind.specs.Sources.{shown_unless}

@@ -7,7 +7,7 @@ use Rattle.lv_parser.specs.declared.tree.ColName.{ColName}
 use Rattle.lv_parser.specs.declared.tree.Named.{Named}
 use Rattle.lv_parser.specs.declared.tree.RefTree.{RefTree}
 use Rattle.lv_parser.specs.declared.tree.Stmt.{Stmt}
-use Rattle.lv_parser.specs.declared.tree.Stmt.TheVariants.{CreateTable, CreateView, Insert, Update, Delete, Select, Begin, Commit, Rollback, ShowTasks}
+use Rattle.lv_parser.specs.declared.tree.Stmt.TheVariants.{CreateView, Update, Delete, Select}
 use Rattle.lv_schema.specs.declared.query.Rel.{Rel}
 use Rattle.lv_schema.specs.declared.table.Column.{Column}
 use Rattle.lv_schema.specs.declared.table.Kind.{Kind}
@@ -19,7 +19,7 @@ use Rattle.lv_bind.specs.declared.sources.Fit.TheVariants.{Nothing, One, Several
 use Rattle.lv_bind.specs.declared.sources.Place.{Place}
 use Rattle.lv_schema.specs.Bound.{rel_columns}
 use Rattle.lv_schema.specs.Catalog.{rel_named}
-pub use Rattle.lv_schema.specs.Profile.{first}
+pub use Rattle.lv_schema.specs.Bound.{first}
 
 -- the name, unless all is well
 abbrev pub shown_unless : {A : Type 0} → Bool → A → List A

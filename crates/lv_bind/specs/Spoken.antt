@@ -1,7 +1,8 @@
 -- What the statement of every line keeps, whatever its names mean: names are names but for their length, lists are not
 -- empty, chains have two parts or more, conditions nest only so deep, and no text holds a line feed.
-use Rattle.std.specs.Prelude.{◌≡◌, ◌<◌, ◌≤◌, ◌+◌, ◌^◌, ℕ, nat_abs, nat_le, Bool, true, false, not, ◌&&◌, ◌==◌, nat_lt, List, [], ◌∷◌, map, length, Option, Some, None, unwrap_or}
+use Rattle.std.specs.Prelude.{◌≡◌, ◌<◌, ◌≤◌, ◌+◌, ◌^◌, ℕ, nat_abs, nat_le, Bool, true, not, ◌&&◌, ◌==◌, nat_lt, List, map, length, Option, Some, None, unwrap_or}
 use Rattle.std.specs.List.{list_all, list_any}
+use Rattle.lv_values.specs.Names.{is_word, has_name, keywords}
 use Rattle.lv_values.specs.declared.value.Value.{Value}
 use Rattle.lv_values.specs.declared.value.Value.TheVariants as v
 use Rattle.lv_parser.specs.declared.tree.AssignValue.{AssignValue}
@@ -19,16 +20,11 @@ use Rattle.lv_parser.specs.declared.tree.Stmt.TheVariants as stmt
 use Rattle.lv_parser.specs.declared.tree.Tuple.{Tuple}
 use Rattle.lv_schema.specs.Bound.{deepest}
 use Rattle.lv_bind.specs.Whole.{IsWhole}
-use Rattle.lv_schema.specs.Names.{begins_name, continues_name, has_name, keywords}
 use Rattle.lv_bind.specs.Pieces.{sides_of}
 
 -- a name of any length
 abbrev pub is_spoken_name : List ℕ → Bool
-is_spoken_name name = begins name && not (has_name name keywords)
-  where
-    begins : List ℕ → Bool
-    begins [] = false
-    begins (b ∷ bytes) = begins_name b && list_all continues_name bytes
+is_spoken_name name = is_word name && not (has_name name keywords)
 
 abbrev pub is_in_line : List ℕ → Bool
 is_in_line t = not (list_any (λ b. b == 10) t)

@@ -43,7 +43,7 @@ fn assigned_key<'a>(
     ensures { option_copied result ≡ first (assigned_keys (map (alias_seen schema.now.tables schema.now.views) sources.now) key.now sets.now) }
 {
     for assign in sets {
-        let column = Mention::alone(&assign.column);
+        let column = Mention::unqualified(&assign.column);
         if is_key(key, place_of(schema, sources, column).column) {
             return Some(&assign.column.name);
         }

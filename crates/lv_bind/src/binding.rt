@@ -155,10 +155,10 @@ fn bound_value(
     match value {
         AssignValue::Literal(literal) => Ok(SetValue::Literal(literal.value.copy(alloc)?)),
         AssignValue::Column(column) => {
-            Ok(SetValue::Column(bound_col(schema, sources, Mention::alone(column)).column))
+            Ok(SetValue::Column(bound_col(schema, sources, Mention::unqualified(column)).column))
         }
         AssignValue::Plus { column, amount } => Ok(SetValue::Plus {
-            column: bound_col(schema, sources, Mention::alone(column)).column,
+            column: bound_col(schema, sources, Mention::unqualified(column)).column,
             amount: *amount,
         }),
     }
@@ -177,7 +177,7 @@ pub(crate) fn bound_sets(
     let mut out = Sets::new(alloc);
     for assign in sets {
         out.push(Set {
-            column: bound_col(schema, sources, Mention::alone(&assign.column)).column,
+            column: bound_col(schema, sources, Mention::unqualified(&assign.column)).column,
             value: bound_value(alloc, schema, sources, &assign.value)?,
         })?;
     }

@@ -3,7 +3,7 @@ ghost use Rattle.std.specs.Prelude.{◌≡◌, ◌++◌, map, IfOk};
 ghost use Rattle.std.specs.List.{list_any};
 ghost use Rattle.std.specs.Option.{option_copied};
 ghost use Rattle.std.specs.Str.{bytes_eq};
-ghost use Rattle.lv_bind.specs.InUse.{repeated, same_place, regrouped, taken, repeated_columns, repeated_names, repeated_outputs, repeated_aliases, in_use};
+ghost use Rattle.lv_bind.specs.InUse.{repeated, same_column, regrouped, taken, repeated_columns, repeated_names, repeated_outputs, repeated_aliases, in_use};
 ghost use Rattle.lv_bind.specs.Seen.{alias_seen};
 ghost use Rattle.lv_bind.specs.Sources.{first, sources_of};
 
@@ -39,7 +39,7 @@ fn repeated<T: Entry>(entries: &[T]) -> Option<&Text>
 }
 
 fn is_before(places: &[Place], place: Place) -> bool
-    ensures { result ≡ list_any (same_place place) places.now }
+    ensures { result ≡ list_any (same_column place) places.now }
 {
     for other in places {
         if place.alias == other.alias && place.column == other.column {

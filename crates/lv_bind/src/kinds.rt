@@ -150,9 +150,9 @@ fn assign_fits(schema: &Schema, sources: &[Source<'_>], kind: Kind, value: &Assi
     match value {
         AssignValue::Literal(literal) => literal_fits(kind, literal),
         AssignValue::Column(column) => is_text(kind)
-            == is_text(kind_of(schema, sources, Mention::alone(column))),
+            == is_text(kind_of(schema, sources, Mention::unqualified(column))),
         AssignValue::Plus { column, .. } => !is_text(kind)
-            && !is_text(kind_of(schema, sources, Mention::alone(column))),
+            && !is_text(kind_of(schema, sources, Mention::unqualified(column))),
     }
 }
 
@@ -170,7 +170,7 @@ fn assigned_kinds(schema: &Schema, sources: &[Source<'_>], sets: &[Assign]) -> O
     ensures { result ≡ first (flat_map (assign_kinds (map (alias_seen schema.now.tables schema.now.views) sources.now)) sets.now) }
 {
     for assign in sets {
-        let kind = kind_of(schema, sources, Mention::alone(&assign.column));
+        let kind = kind_of(schema, sources, Mention::unqualified(&assign.column));
         if !assign_fits(schema, sources, kind, &assign.value) {
             return Some(assign_byte(&assign.value));
         }

@@ -17,7 +17,7 @@ pub(crate) struct Mention<'a> {
 
 impl<'a> Mention<'a> {
     ghost use Rattle.lv_bind.specs.Seen.{column_seen};
-    ghost use Rattle.lv_bind.specs.Pieces.{alone};
+    ghost use Rattle.lv_bind.specs.Pieces.{unqualified};
 
     /// The column that stands there.
     pub fn of(column: &'a ColName) -> Mention<'a>
@@ -30,8 +30,8 @@ impl<'a> Mention<'a> {
     }
 
     /// A name that stands alone as a column.
-    pub fn alone(name: &'a Named) -> Mention<'a>
-        ensures { column_seen result ≡ alone name.now }
+    pub fn unqualified(name: &'a Named) -> Mention<'a>
+        ensures { column_seen result ≡ unqualified name.now }
     {
         Mention {
             qualifier: None,
@@ -135,12 +135,12 @@ fn push_items<'a>(items: &'a [ItemTree], out: &mut Items<Mention<'a>>) -> Result
 fn push_assign<'a>(assign: &'a Assign, out: &mut Items<Mention<'a>>) -> Result<(), NoMemory>
     ensures { OnOk result (map column_seen out.new ≡ map column_seen out.old ++ assign_columns assign.now) }
 {
-    out.push(Mention::alone(&assign.column))?;
+    out.push(Mention::unqualified(&assign.column))?;
     match &assign.value {
         AssignValue::Literal(_) => Ok(()),
-        AssignValue::Column(column) | AssignValue::Plus { column, .. } => out.push(Mention::alone(
-            column,
-        )),
+        AssignValue::Column(column) | AssignValue::Plus { column, .. } => out.push(
+            Mention::unqualified(column),
+        ),
     }
 }
 

@@ -1,10 +1,9 @@
 //! Groups from tuples.
 ghost use Rattle.std.specs.Prelude.{◌≡◌, true, map, length, ◌<◌, slice_index_or, ◌+ℤ◌, IfOk};
 ghost use Rattle.std.specs.Int.{int_wrap, w128};
-ghost use Rattle.std.specs.List.{filter_map, prefix_len};
+ghost use Rattle.std.specs.List.{prefix_len};
 ghost use Rattle.std.specs.List.Sorted.{IsSorted};
 ghost use Rattle.std.specs.Ordering.{is_eq};
-ghost use Rattle.lv_schema.specs.Differences.{summed_column};
 ghost use Rattle.lv_schema.specs.Groups.{total, number_at};
 ghost use Rattle.lv_group.specs.Entries.{group_of, entry_cmp, numbers_of, gathered};
 ghost use Rattle.lv_group.specs.Gathered.{groups_among, IsOfView};
@@ -12,26 +11,10 @@ ghost use Rattle.lv_group.specs.Gathered.{groups_among, IsOfView};
 use crate::entry::Entry;
 use crate::grouped::Groups;
 use crate::places::number_at;
-use lv_schema::{Col, Cols, Item, Joined, SignedRow, Sums, ViewDef, listed};
+use lv_bags::summed_columns;
+use lv_schema::{Col, Joined, SignedRow, Sums, ViewDef, listed};
 use lv_values::{Copying, NoMemory, Rows};
-use std::alloc::{AllocError, Global};
-
-/// The column that an item sums, if it is a sum.
-fn summed_column(item: &Item) -> Option<Col>
-    ensures { result ≡ summed_column item.now }
-{
-    match item {
-        Item::Sum { col, name: _ } => Some(*col),
-        Item::Plain { .. } | Item::Count { .. } => None,
-    }
-}
-
-/// The columns that a list sums, in its order.
-fn summed_columns(alloc: Global, items: &[Item]) -> Result<Vec<Col>, AllocError>
-    ensures { IfOk result (λ cols. cols.items ≡ filter_map summed_column items.now) }
-{
-    items.iter().filter_map(summed_column).collect(alloc)
-}
+use std::alloc::Global;
 
 /// The tuples, each with the columns that tell its group.
 fn entries_of<'a>(
@@ -128,7 +111,7 @@ pub fn fold(alloc: Global, view: &ViewDef, tuples: &Joined) -> Result<Groups, No
     ensures of_view { IfOk result (IsOfView view.now) }
     ensures groups { IfOk result (λ g. g.groups ≡ groups_among view.now tuples.now) }
 {
-    let sums = summed_columns(alloc, view.items.as_slice())?;
+    let sums = summed_columns(alloc, view)?;
     let mut entries = entries_of(alloc, view.groups.as_slice(), tuples.as_slice())?;
     entries.sort_unstable();
     let _tuples = tuples.len();

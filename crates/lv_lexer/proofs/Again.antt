@@ -1,14 +1,16 @@
 -- A written line is cut into the tokens that were written.
 use Rattle.std.proofs.Common.{◌≡◌, ℕ, suc, ◌+◌, ◌-◌, Bool, true, false, not, cond, ◌&&◌, ◌||◌, nat_eq, nat_le, List, [], ◌∷◌, ◌++◌, length, take, drop, get_or, slice_range, Option, Some, None, refl, sym, ap, ◌∙◌, subst, append_assoc, arith, eqb-true, length-append}
+use Rattle.std.specs.Char.{is_ascii_digit}
+use Rattle.std.specs.List.{prefix_len}
 use Rattle.std.proofs.lemmas.Bool.Decides.{nat_tests}
 use Rattle.std.proofs.lemmas.Bool.{false≢true, false_from_ne_true}
 use Rattle.std.proofs.Math.Bool.{and-false}
 use Rattle.std.proofs.lemmas.List.{append-nil}
+use Rattle.lv_values.specs.Names.{is_letter, is_word_byte, is_blank}
 use Rattle.lv_lexer.specs.declared.terminals.Class.{Class}
 use Rattle.lv_lexer.specs.declared.token.Token.{Token}
 use Rattle.lv_lexer.specs.declared.token.TokenKind.{TokenKind}
 use Rattle.lv_lexer.specs.declared.token.TokenKind.TheVariants.{Word, Number, Text, Sign}
-use Rattle.lv_lexer.specs.Bytes.{is_letter, is_digit, is_word_byte, is_blank, run}
 use Rattle.lv_lexer.specs.Piece.{piece, closing}
 use Rattle.lv_lexer.specs.Signs.{sign_at, long_signs, short_signs}
 use Rattle.lv_lexer.specs.Scan.{Scans, is_over, after_blanks, Spells}
@@ -20,16 +22,16 @@ use Rattle.lv_lexer.proofs.Sorts.{IsPiece, piece_is, piece_by}
 
 -- ---- a run, a text and a sign go no further
 
-run_stops : (p : ℕ → Bool) (rest : List ℕ) → p (get_or rest 0 0) ≡ false → run p rest ≡ 0
+run_stops : (p : ℕ → Bool) (rest : List ℕ) → p (get_or rest 0 0) ≡ false → prefix_len p rest ≡ 0
 run_stops p [] e = refl
 run_stops p (r ∷ rest) e = rw e refl
 
-run_same : (p : ℕ → Bool) (bytes rest : List ℕ) → run p bytes ≡ length bytes → p (get_or rest 0 0) ≡ false → run p (bytes ++ rest) ≡ length bytes
+run_same : (p : ℕ → Bool) (bytes rest : List ℕ) → prefix_len p bytes ≡ length bytes → p (get_or rest 0 0) ≡ false → prefix_len p (bytes ++ rest) ≡ length bytes
 run_same p [] rest e f = run_stops p rest f
 run_same p (b ∷ bytes) rest e f = by (p b) refl e (λ h. run_same p bytes rest h f)
   where
-    by : (t : Bool) → p b ≡ t → cond t (1 + run p bytes) 0 ≡ suc (length bytes) → (run p bytes ≡ length bytes → run p (bytes ++ rest) ≡ length bytes)
-        → cond t (1 + run p (bytes ++ rest)) 0 ≡ suc (length bytes)
+    by : (t : Bool) → p b ≡ t → cond t (1 + prefix_len p bytes) 0 ≡ suc (length bytes) → (prefix_len p bytes ≡ length bytes → prefix_len p (bytes ++ rest) ≡ length bytes)
+        → cond t (1 + prefix_len p (bytes ++ rest)) 0 ≡ suc (length bytes)
     by true q e more = omega (arith, more (omega arith))
     by false q e more = absurd (omega arith)
 
@@ -78,7 +80,7 @@ all_false true y z e = absurd cc
 -- what may begin right behind a token of this kind, whose first byte is b, so that the token ends there
 abbrev pub Ends : TokenKind → ℕ → ℕ → Type 0
 Ends Word b next = is_word_byte next ≡ false
-Ends Number b next = is_digit next ≡ false
+Ends Number b next = is_ascii_digit next ≡ false
 Ends Text b next = nat_eq next 39 ≡ false
 Ends Sign b next = signs_part b next ≡ true
 
@@ -93,8 +95,8 @@ sign_same b (c ∷ d ∷ bytes) rest class s e =
 known_goes_on : (b : ℕ) (bytes rest : List ℕ) (kind : TokenKind) → IsPiece b bytes kind (suc (length bytes)) → Ends kind b (get_or rest 0 0) → IsPiece b (bytes ++ rest) kind (suc (length bytes))
 known_goes_on b bytes rest Word (l, e) ends = (l, omega (arith, run_same is_word_byte bytes rest (omega arith) ends))
 known_goes_on b bytes rest Number (l, d, e, s) ends =
-    let same = run_same is_digit bytes rest (omega arith) ends in
-    let small : nat_le (1 + run is_digit (bytes ++ rest)) 38 ≡ true = ap (λ (n : ℕ). nat_le (1 + n) 38) (same ∙ omega arith) ∙ s in
+    let same = run_same is_ascii_digit bytes rest (omega arith) ends in
+    let small : nat_le (1 + prefix_len is_ascii_digit (bytes ++ rest)) 38 ≡ true = ap (λ (n : ℕ). nat_le (1 + n) 38) (same ∙ omega arith) ∙ s in
     (l, d, omega (arith, same), small)
 known_goes_on b bytes rest Text (l, d, q, (m, t, e)) ends =
     let whole : m ≡ length bytes = omega arith in
@@ -107,18 +109,18 @@ goes_on b bytes rest kind e ends =
 
 -- ---- first bytes
 
-pub letter_is : (b : ℕ) → is_letter b ≡ true → (is_digit b ≡ false) × (is_blank b ≡ false) × (nat_eq b 39 ≡ false) × (nat_eq b 45 ≡ false) × (nat_eq b 61 ≡ false) × (nat_eq b 62 ≡ false)
+pub letter_is : (b : ℕ) → is_letter b ≡ true → (is_ascii_digit b ≡ false) × (is_blank b ≡ false) × (nat_eq b 39 ≡ false) × (nat_eq b 45 ≡ false) × (nat_eq b 61 ≡ false) × (nat_eq b 62 ≡ false)
 letter_is b e = grind (arith, nat_tests)
 
-pub digit_is : (b : ℕ) → is_digit b ≡ true → (is_blank b ≡ false) × (nat_eq b 39 ≡ false) × (nat_eq b 45 ≡ false) × (nat_eq b 61 ≡ false) × (nat_eq b 62 ≡ false)
+pub digit_is : (b : ℕ) → is_ascii_digit b ≡ true → (is_blank b ≡ false) × (nat_eq b 39 ≡ false) × (nat_eq b 45 ≡ false) × (nat_eq b 61 ≡ false) × (nat_eq b 62 ≡ false)
 digit_is b e = grind (arith, nat_tests)
 
 -- the first byte of a token of this kind
 abbrev pub Begins : TokenKind → ℕ → Type 0
 Begins Word b = is_letter b ≡ true
-Begins Number b = is_digit b ≡ true
+Begins Number b = is_ascii_digit b ≡ true
 Begins Text b = nat_eq b 39 ≡ true
-Begins Sign b = (is_letter b ≡ false) × (is_digit b ≡ false) × (nat_eq b 39 ≡ false)
+Begins Sign b = (is_letter b ≡ false) × (is_ascii_digit b ≡ false) × (nat_eq b 39 ≡ false)
 
 quote_is : (P : ℕ → Type 0) (b : ℕ) → nat_eq b 39 ≡ true → P 39 → P b
 quote_is P b e p = subst P (sym (eqb-true b 39 e)) p
@@ -159,7 +161,7 @@ ends_before Word Text b c bytes more rest f e = quote_is (λ x. is_word_byte x �
 ends_before Word Sign b c bytes more rest (l, d, q) e = rw (l, d) refl
 ends_before Number Word b c bytes more rest f e = (letter_is c f).0
 ends_before Number Number b c bytes more rest f e = absurd (false≢true e)
-ends_before Number Text b c bytes more rest f e = quote_is (λ x. is_digit x ≡ false) c f refl
+ends_before Number Text b c bytes more rest f e = quote_is (λ x. is_ascii_digit x ≡ false) c f refl
 ends_before Number Sign b c bytes more rest (l, d, q) e = d
 ends_before Text Word b c bytes more rest f e = (letter_is c f).2
 ends_before Text Number b c bytes more rest f e = (digit_is c f).1
@@ -225,11 +227,11 @@ placed at after_word (x ∷ xs) =
     record { kind = x.kind; start = at + length (gap after_word x.kind); end = at + length (gap after_word x.kind) + length x.text }
     ∷ placed (at + length (gap after_word x.kind) + length x.text) (is_word x.kind) xs
 
-blanks_of : (space : Bool) (bytes : List ℕ) → run is_blank bytes ≡ 0 → run is_blank (space_if space ++ bytes) ≡ length (space_if space)
+blanks_of : (space : Bool) (bytes : List ℕ) → prefix_len is_blank bytes ≡ 0 → prefix_len is_blank (space_if space ++ bytes) ≡ length (space_if space)
 blanks_of true bytes e = rw e refl
 blanks_of false bytes e = e
 
-gap_blanks : (space : Bool) (kind : TokenKind) (bytes : List ℕ) → run is_blank bytes ≡ 0 → run is_blank (gap space kind ++ bytes) ≡ length (gap space kind)
+gap_blanks : (space : Bool) (kind : TokenKind) (bytes : List ℕ) → prefix_len is_blank bytes ≡ 0 → prefix_len is_blank (gap space kind ++ bytes) ≡ length (gap space kind)
 gap_blanks space Word bytes e = blanks_of space bytes e
 gap_blanks space Number bytes e = blanks_of space bytes e
 gap_blanks space Text bytes e = e
@@ -246,8 +248,8 @@ token_scans at space kind b bytes rest more stopped e ends h =
     let text = b ∷ (bytes ++ rest) in
     let start = at + length (gap space kind) in
     let known = piece_is b bytes kind (suc (length bytes)) e in
-    let first : run is_blank text ≡ 0 = rw (first_of b bytes kind known).1 refl in
-    let blanks : run is_blank (gap space kind ++ text) ≡ length (gap space kind) = gap_blanks space kind text first in
+    let first : prefix_len is_blank text ≡ 0 = rw (first_of b bytes kind known).1 refl in
+    let blanks : prefix_len is_blank (gap space kind ++ text) ≡ length (gap space kind) = gap_blanks space kind text first in
     let after : after_blanks (gap space kind ++ text) ≡ text = ap (λ (n : ℕ). drop n (gap space kind ++ text)) blanks ∙ drop_front (gap space kind) text in
     let len : start + suc (length bytes) - start ≡ suc (length bytes) = omega arith in
     let P : List ℕ → Type 0 = λ left. Scans (start + suc (length bytes)) left more stopped in

@@ -1,6 +1,7 @@
 -- A piece is told by its own bytes: what follows them can be cut off.
 use Rattle.std.proofs.Common.{◌≡◌, ℕ, suc, ◌+◌, ◌-◌, ◌≤◌, ◌<◌, Bool, true, false, List, [], ◌∷◌, ◌++◌, length, get_or, take, Option, Some, None, option_map, nat_eq, nat_lt, ◌&&◌, cond, refl, sym, ap, ◌∙◌, subst, arith, one-add, eqb-true}
-use Rattle.std.specs.List.{starts_with, list_all}
+use Rattle.std.specs.Char.{is_ascii_digit}
+use Rattle.std.specs.List.{starts_with, list_all, prefix_len}
 use borrow.Author.Tests.{ltb-true}
 use Rattle.std.proofs.lemmas.List.Sums.{prefix_len-le-length}
 use Rattle.std.proofs.lemmas.Grind.{common_steps}
@@ -8,22 +9,22 @@ use Rattle.std.proofs.lemmas.List.{length-take}
 use Rattle.std.proofs.lemmas.Bool.{false_from_ne_true, false≢true}
 use Rattle.std.specs.Str.{bytes_eq}
 use Rattle.std.proofs.lemmas.Slice.Eq.{bytes_eq-Decides}
+use Rattle.lv_values.specs.Names.{is_word_byte}
 use Rattle.lv_lexer.specs.declared.terminals.Class.{Class}
 use Rattle.lv_lexer.specs.declared.token.TokenKind.{TokenKind}
 use Rattle.lv_lexer.specs.declared.token.TokenKind.TheVariants.{Word, Number, Text, Sign}
-use Rattle.lv_lexer.specs.Bytes.{is_digit, is_word_byte, run}
 use Rattle.lv_lexer.specs.Piece.{piece, closing}
 use Rattle.lv_lexer.specs.Signs.{sign_at, first_fit, long_signs, short_signs}
 use Rattle.lv_lexer.proofs.Quotes.{further, other_first, two_first}
 use Rattle.lv_lexer.proofs.Sorts.{IsPiece, piece_is, piece_by}
 
 -- a run is a run of its own bytes
-pub run_front : (p : ℕ → Bool) (bytes : List ℕ) → run p (take (run p bytes) bytes) ≡ run p bytes
+pub run_front : (p : ℕ → Bool) (bytes : List ℕ) → prefix_len p (take (prefix_len p bytes) bytes) ≡ prefix_len p bytes
 run_front p [] = refl
 run_front p (b ∷ bytes) = by (p b) refl (run_front p bytes)
   where
-    by : (t : Bool) → p b ≡ t → run p (take (run p bytes) bytes) ≡ run p bytes → run p (take (cond t (1 + run p bytes) 0) (b ∷ bytes)) ≡ cond t (1 + run p bytes) 0
-    by true e more = rw (one-add (run p bytes), e) (ap (λ n. 1 + n) more ∙ one-add (run p bytes))
+    by : (t : Bool) → p b ≡ t → prefix_len p (take (prefix_len p bytes) bytes) ≡ prefix_len p bytes → prefix_len p (take (cond t (1 + prefix_len p bytes) 0) (b ∷ bytes)) ≡ cond t (1 + prefix_len p bytes) 0
+    by true e more = rw (one-add (prefix_len p bytes), e) (ap (λ n. 1 + n) more ∙ one-add (prefix_len p bytes))
     by false e more = refl
 
 -- the closing quote is in the text, and what follows it can be cut off
@@ -161,13 +162,13 @@ at_length b bytes kind n r e within front =
 
 of_kind : (b : ℕ) (bytes : List ℕ) (kind : TokenKind) (n : ℕ) → IsPiece b bytes kind n → IsFront (b ∷ bytes) kind n
 of_kind b bytes Word n (l, e) =
-    let r = run is_word_byte bytes in
+    let r = prefix_len is_word_byte bytes in
     at_length b bytes Word n r (omega arith) (prefix_len-le-length is_word_byte bytes)
     (piece_by b (take r bytes) Word (suc r) (l, omega (arith, run_front is_word_byte bytes)))
 of_kind b bytes Number n (l, d, e, s) =
-    let r = run is_digit bytes in
-    at_length b bytes Number n r (omega arith) (prefix_len-le-length is_digit bytes)
-    (piece_by b (take r bytes) Number (suc r) (l, d, omega (arith, run_front is_digit bytes), rw run_front s))
+    let r = prefix_len is_ascii_digit bytes in
+    at_length b bytes Number n r (omega arith) (prefix_len-le-length is_ascii_digit bytes)
+    (piece_by b (take r bytes) Number (suc r) (l, d, omega (arith, run_front is_ascii_digit bytes), rw run_front s))
 of_kind b bytes Text n (l, d, q, (m, t, e)) =
     let known = closes bytes m t in
     at_length b bytes Text n m (omega arith) known.within (piece_by b (take m bytes) Text (suc m) (l, d, q, (m, known.front, omega arith)))

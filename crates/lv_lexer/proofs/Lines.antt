@@ -1,9 +1,10 @@
 -- A line from a place on, where the tokens before it are known.
 use Rattle.std.proofs.Common.{◌≡◌, ℕ, ◌+◌, ◌-◌, true, false, List, [], ◌∷◌, ◌++◌, length, take, drop, Option, Some, None, refl, sym, ap, ◌∙◌, subst, arith}
+use Rattle.std.specs.List.{prefix_len}
 use Rattle.std.proofs.lemmas.Grind.{common_steps}
 use Rattle.std.proofs.lemmas.List.{append-nil}
+use Rattle.lv_values.specs.Names.{is_blank}
 use Rattle.lv_lexer.specs.declared.token.Token.{Token}
-use Rattle.lv_lexer.specs.Bytes.{run, is_blank}
 use Rattle.lv_lexer.specs.Piece.{piece}
 use Rattle.lv_lexer.specs.Scan.{Scans, is_over, after_blanks}
 
@@ -19,12 +20,12 @@ drop_twice a b s = grind (arith, common_steps)
 
 module _ (line : List ℕ) (list : List Token) (at n : ℕ)
     (behind : (more : List Token) (stopped : Option ℕ) → Scans at (drop at line) more stopped → Scans 0 line (list ++ more) stopped)
-    (blanks : n ≡ run is_blank (take (length line - at) (drop at line))) where
+    (blanks : n ≡ prefix_len is_blank (take (length line - at) (drop at line))) where
   rest : List ℕ
   rest = take (length line - (at + n)) (drop (at + n) line)
 
-  blanks_are : n ≡ run is_blank (drop at line)
-  blanks_are = blanks ∙ ap (run is_blank) (take_rest line at)
+  blanks_are : n ≡ prefix_len is_blank (drop at line)
+  blanks_are = blanks ∙ ap (prefix_len is_blank) (take_rest line at)
 
   rest_is : rest ≡ after_blanks (drop at line)
   unfolding rest

@@ -1,47 +1,48 @@
 -- What is known of the bytes of a token of each kind.
 use Rattle.std.proofs.Common.{◌≡◌, ℕ, zero, suc, ◌+◌, ◌-◌, ◌*◌, ◌^◌, ◌≤◌, ◌<◌, Bool, true, false, cond, List, [], ◌∷◌, length, get_or, take, drop, slice_range, refl, sym, ap, ◌∙◌, subst, arith, inl, inr, eqb-true, length-drop}
+use Rattle.std.specs.List.{prefix_len}
 use Rattle.std.proofs.lemmas.Bool.{cases_lt, leb-true}
 use Rattle.std.proofs.lemmas.Bool.Decides.{nat_tests}
 use Rattle.std.proofs.lemmas.List.{get_or_past, take_all, length-take-le}
 use Rattle.std.proofs.lemmas.Grind.{common_steps}
-use Rattle.std.specs.Char.{digit_value, to_ascii_lowercase}
+use Rattle.std.specs.Char.{digit_value, to_ascii_lowercase, is_ascii_digit}
 use Rattle.std.specs.Str.{IsCharBoundary, IsUtf8, IsAscii, str_to_ascii_lowercase}
 use Rattle.std.specs.Str.Parse.{digits_value, AllDigits}
 use Rattle.std.proofs.lemmas.Str.{IsUtf8-between, IsCharBoundary-after_ascii, IsCharBoundary-before_ascii, IsUtf8-from_ascii}
 use Rattle.std.proofs.lemmas.Str.Ascii.{IsAscii-map, lowercase_ascii}
 use Rattle.std.proofs.lemmas.Int.Digits.{digits_value_more}
 use Rattle.std.proofs.lemmas.Str.Parse.{digits_value-take-le, digits_value_short, numerals_by_value, tells_digits}
+use Rattle.lv_values.specs.Names.{is_letter, is_word_byte}
 use Rattle.lv_lexer.specs.declared.token.Token.{Token}
 use Rattle.lv_lexer.specs.declared.token.TokenKind.{TokenKind}
 use Rattle.lv_lexer.specs.declared.token.TokenKind.TheVariants.{Word, Number, Text}
-use Rattle.lv_lexer.specs.Bytes.{is_letter, is_digit, is_word_byte, run}
 use Rattle.lv_lexer.specs.Piece.{piece}
 use Rattle.lv_lexer.specs.Scan.{Spells, IsTokenOf, text_in}
 use Rattle.lv_lexer.proofs.Sorts.{IsPiece, piece_is}
 use Rattle.lv_lexer.proofs.Fronts.{closes}
 
 -- where a run is all of the bytes, each of them passes
-run_all : (p : ℕ → Bool) (bytes : List ℕ) → run p bytes ≡ length bytes → (i : ℕ) → i < length bytes → p (get_or bytes i 0) ≡ true
+run_all : (p : ℕ → Bool) (bytes : List ℕ) → prefix_len p bytes ≡ length bytes → (i : ℕ) → i < length bytes → p (get_or bytes i 0) ≡ true
 run_all p [] e i h = absurd (omega arith)
 run_all p (b ∷ bytes) e i h = by (p b) i refl e h (run_all p bytes)
   where
-    by : (t : Bool) (i : ℕ) → p b ≡ t → cond t (1 + run p bytes) 0 ≡ suc (length bytes) → i < suc (length bytes)
-        → (run p bytes ≡ length bytes → (i : ℕ) → i < length bytes → p (get_or bytes i 0) ≡ true) → p (get_or (b ∷ bytes) i 0) ≡ true
+    by : (t : Bool) (i : ℕ) → p b ≡ t → cond t (1 + prefix_len p bytes) 0 ≡ suc (length bytes) → i < suc (length bytes)
+        → (prefix_len p bytes ≡ length bytes → (i : ℕ) → i < length bytes → p (get_or bytes i 0) ≡ true) → p (get_or (b ∷ bytes) i 0) ≡ true
     by true zero q e h more = q
     by true (suc i) q e h more = more (omega arith) i (omega arith)
     by false i q e h more = absurd (omega arith)
 
 -- the first byte passes, and so do the others
-each_from : (p : ℕ → Bool) (b : ℕ) (bytes : List ℕ) → p b ≡ true → run p bytes ≡ length bytes → (i : ℕ) → i < suc (length bytes) → p (get_or (b ∷ bytes) i 0) ≡ true
+each_from : (p : ℕ → Bool) (b : ℕ) (bytes : List ℕ) → p b ≡ true → prefix_len p bytes ≡ length bytes → (i : ℕ) → i < suc (length bytes) → p (get_or (b ∷ bytes) i 0) ≡ true
 each_from p b bytes q e zero h = q
 each_from p b bytes q e (suc i) h = run_all p bytes e i (omega arith)
 
 -- ---- numbers
 
-pub digit_known : (c : ℕ) → is_digit c ≡ true → (48 ≤ c) × (c ≤ 57) × (digit_value c ≡ c - 48)
+pub digit_known : (c : ℕ) → is_ascii_digit c ≡ true → (48 ≤ c) × (c ≤ 57) × (digit_value c ≡ c - 48)
 digit_known c e = grind (arith, nat_tests)
 
-all_digits : (bytes : List ℕ) → ((i : ℕ) → i < length bytes → is_digit (get_or bytes i 0) ≡ true) → AllDigits 10 bytes
+all_digits : (bytes : List ℕ) → ((i : ℕ) → i < length bytes → is_ascii_digit (get_or bytes i 0) ≡ true) → AllDigits 10 bytes
 all_digits [] each = tt
 all_digits (b ∷ bytes) each =
     let here = digit_known b (each 0 (omega arith)) in
@@ -49,7 +50,7 @@ all_digits (b ∷ bytes) each =
 
 -- the digits of a number
 pub record IsNumber (digits : List ℕ) : Type 0 where
-  pub each : (i : ℕ) → i < length digits → is_digit (get_or digits i 0) ≡ true
+  pub each : (i : ℕ) → i < length digits → is_ascii_digit (get_or digits i 0) ≡ true
   pub few : length digits ≤ 38
 
 pub is_number : (digits : List ℕ) → Spells digits Number → IsNumber digits
@@ -57,7 +58,7 @@ unfolding piece
 is_number [] e = absurd cc
 is_number (b ∷ bytes) e =
     let known : IsPiece b bytes Number (suc (length bytes)) = piece_is b bytes Number (suc (length bytes)) e in
-    record { each = each_from is_digit b bytes known.1 (omega (arith, known.2)); few = omega (arith, known.2, leb-true (1 + run is_digit bytes) 38 known.3) }
+    record { each = each_from is_ascii_digit b bytes known.1 (omega (arith, known.2)); few = omega (arith, known.2, leb-true (1 + prefix_len is_ascii_digit bytes) 38 known.3) }
 
 -- the number fits, and each step on the way to it
 pub number_small : (digits : List ℕ) → IsNumber digits → digits_value 10 digits < 10 ^ 38

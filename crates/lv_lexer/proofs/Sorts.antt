@@ -1,9 +1,11 @@
 -- What a piece of each kind is.
 use Rattle.std.proofs.Common.{◌≡◌, ℕ, ◌+◌, Bool, true, false, List, ◌∷◌, Option, Some, None, option_map, nat_eq, nat_le, cond, refl, ap, subst}
+use Rattle.std.specs.Char.{is_ascii_digit}
+use Rattle.std.specs.List.{prefix_len}
+use Rattle.lv_values.specs.Names.{is_letter, is_word_byte}
 use Rattle.lv_lexer.specs.declared.terminals.Class.{Class}
 use Rattle.lv_lexer.specs.declared.token.TokenKind.{TokenKind}
 use Rattle.lv_lexer.specs.declared.token.TokenKind.TheVariants.{Word, Number, Text, Sign}
-use Rattle.lv_lexer.specs.Bytes.{is_letter, is_digit, is_word_byte, run}
 use Rattle.lv_lexer.specs.Piece.{piece, closing, number_of}
 use Rattle.lv_lexer.specs.Signs.{sign_at}
 
@@ -46,12 +48,12 @@ parts false false false word number text (Some found) k n e = there false false 
 
 -- what is known of the token that begins these bytes
 abbrev pub IsPiece : ℕ → List ℕ → TokenKind → ℕ → Type 0
-IsPiece b bytes k n = IsPart (is_letter b) (is_digit b) (nat_eq b 39) (1 + run is_word_byte bytes) (1 + run is_digit bytes) (closing bytes) (sign_at (b ∷ bytes)) k n
+IsPiece b bytes k n = IsPart (is_letter b) (is_ascii_digit b) (nat_eq b 39) (1 + prefix_len is_word_byte bytes) (1 + prefix_len is_ascii_digit bytes) (closing bytes) (sign_at (b ∷ bytes)) k n
 
 pub piece_is : (b : ℕ) (bytes : List ℕ) (k : TokenKind) (n : ℕ) → piece (b ∷ bytes) ≡ Some (k, n) → IsPiece b bytes k n
 unfolding piece
 piece_is b bytes k n e =
-    parts (is_letter b) (is_digit b) (nat_eq b 39) (1 + run is_word_byte bytes) (1 + run is_digit bytes) (closing bytes) (sign_at (b ∷ bytes)) k n e
+    parts (is_letter b) (is_ascii_digit b) (nat_eq b 39) (1 + prefix_len is_word_byte bytes) (1 + prefix_len is_ascii_digit bytes) (closing bytes) (sign_at (b ∷ bytes)) k n e
 
 back : (letter digit quote : Bool) (word number : ℕ) (text : Option ℕ) (sign : Option (Class × ℕ)) (k : TokenKind) (n : ℕ) → IsPart letter digit quote word number text sign k n → shape letter digit quote word number text sign ≡ Some (k, n)
 back letter digit quote word number text sign Word n (l, e) = rw (l, e) refl
@@ -62,4 +64,4 @@ back letter digit quote word number text sign Sign n (l, d, q, (class, s)) = rw 
 pub piece_by : (b : ℕ) (bytes : List ℕ) (k : TokenKind) (n : ℕ) → IsPiece b bytes k n → piece (b ∷ bytes) ≡ Some (k, n)
 unfolding piece
 piece_by b bytes k n known =
-    back (is_letter b) (is_digit b) (nat_eq b 39) (1 + run is_word_byte bytes) (1 + run is_digit bytes) (closing bytes) (sign_at (b ∷ bytes)) k n known
+    back (is_letter b) (is_ascii_digit b) (nat_eq b 39) (1 + prefix_len is_word_byte bytes) (1 + prefix_len is_ascii_digit bytes) (closing bytes) (sign_at (b ∷ bytes)) k n known

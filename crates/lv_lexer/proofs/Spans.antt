@@ -1,12 +1,12 @@
 -- What is known of the tokens of a line: where they stand, and that a line has one list of them.
 use Rattle.std.proofs.Common.{◌≡◌, ℕ, ◌+◌, ◌-◌, ◌≤◌, ◌<◌, false, List, [], ◌∷◌, length, take, drop, Option, Some, None, refl, sym, ap, ◌∙◌, subst, arith, length-drop}
 use Rattle.std.proofs.lemmas.List.{length-take-le}
-use Rattle.std.specs.List.{All}
+use Rattle.std.specs.List.{All, prefix_len}
 use Rattle.std.proofs.lemmas.Bool.{false≢true}
 use Rattle.std.proofs.lemmas.List.Elements.{All-nil, All-cons}
+use Rattle.lv_values.specs.Names.{is_blank}
 use Rattle.lv_lexer.specs.declared.token.TokenKind.{TokenKind}
 use Rattle.lv_lexer.specs.declared.token.Token.{Token}
-use Rattle.lv_lexer.specs.Bytes.{run, is_blank}
 use Rattle.lv_lexer.specs.Piece.{piece}
 use Rattle.lv_lexer.specs.Scan.{Scans, is_over, after_blanks, text_in, IsTokenOf, AreInOrder}
 use Rattle.lv_lexer.proofs.Fronts.{IsFront, is_front}
@@ -18,15 +18,15 @@ not_ended [] e = absurd (false≢true (sym e))
 not_ended (b ∷ bytes) e = omega arith
 
 module _ (line : List ℕ) (at : ℕ) (bytes : List ℕ) (rest : bytes ≡ drop at line) where
-  behind_blanks : after_blanks bytes ≡ drop (at + run is_blank bytes) line
-  behind_blanks = ap (drop (run is_blank bytes)) rest ∙ sym (drop_twice at (run is_blank bytes) line)
+  behind_blanks : after_blanks bytes ≡ drop (at + prefix_len is_blank bytes) line
+  behind_blanks = ap (drop (prefix_len is_blank bytes)) rest ∙ sym (drop_twice at (prefix_len is_blank bytes) line)
 
-  stop_within : (stop : ℕ) → is_over (after_blanks bytes) ≡ false → stop ≡ at + run is_blank bytes → (at ≤ stop) × (stop < length line)
+  stop_within : (stop : ℕ) → is_over (after_blanks bytes) ≡ false → stop ≡ at + prefix_len is_blank bytes → (at ≤ stop) × (stop < length line)
   stop_within stop o e =
       let some = not_ended (after_blanks bytes) o in
-      (omega arith, omega (arith, ap length behind_blanks, length-drop (at + run is_blank bytes) line))
+      (omega arith, omega (arith, ap length behind_blanks, length-drop (at + prefix_len is_blank bytes) line))
 
-  module _ (t : Token) (found : piece (after_blanks bytes) ≡ Some (t.kind, t.end - t.start)) (start : t.start ≡ at + run is_blank bytes) (order : t.start ≤ t.end) where
+  module _ (t : Token) (found : piece (after_blanks bytes) ≡ Some (t.kind, t.end - t.start)) (start : t.start ≡ at + prefix_len is_blank bytes) (order : t.start ≤ t.end) where
     known : IsFront (after_blanks bytes) t.kind (t.end - t.start)
     known = is_front (after_blanks bytes) t.kind (t.end - t.start) found
 

@@ -1,7 +1,8 @@
 -- Words in lower case, numbers in decimal and texts between quotes spell what they are.
 use Rattle.std.proofs.Common.{◌≡◌, ℕ, suc, ◌+◌, ◌-◌, ◌≤◌, ◌<◌, ◌^◌, Bool, true, false, cond, nat_eq, List, [], ◌∷◌, ◌++◌, length, take, Some, refl, sym, ap, ◌∙◌, arith, length-append, decimal, le-leb, eqb-true, ◌⊎◌, inl, inr}
+use Rattle.std.specs.List.{prefix_len}
 use Rattle.std.proofs.lemmas.Bool.{cases_lt}
-use Rattle.std.specs.Char.{to_ascii_lowercase}
+use Rattle.std.specs.Char.{to_ascii_lowercase, is_ascii_digit}
 use Rattle.std.specs.Int.{IsInRange}
 use Rattle.std.specs.Str.{str_to_ascii_lowercase}
 use Rattle.std.specs.Str.Parse.{digits_value, AllDigits}
@@ -10,8 +11,8 @@ use Rattle.std.proofs.lemmas.Str.Parse.{digit_from_value}
 use Rattle.std.proofs.lemmas.Str.Ascii.{lowercase_is, lowercase-lowercase}
 use Rattle.std.proofs.lemmas.Bool.Decides.{nat_tests}
 use Rattle.lv_values.specs.Print.{doubled, quoted}
+use Rattle.lv_values.specs.Names.{is_letter, is_word_byte}
 use Rattle.lv_lexer.specs.declared.token.TokenKind.TheVariants.{Word, Number, Text}
-use Rattle.lv_lexer.specs.Bytes.{is_letter, is_digit, is_word_byte, run}
 use Rattle.lv_lexer.specs.Piece.{piece, closing}
 use Rattle.lv_lexer.specs.Scan.{Spells}
 use Rattle.lv_lexer.specs.Meaning.{undoubled, unquoted}
@@ -50,10 +51,10 @@ text_says t =
 
 -- ---- numbers
 
-in_range_digit : (c : ℕ) → IsInRange 48 57 c → is_digit c ≡ true
+in_range_digit : (c : ℕ) → IsInRange 48 57 c → is_ascii_digit c ≡ true
 in_range_digit c h = grind (arith, nat_tests)
 
-all_run : (ds : List ℕ) → AllDigits 10 ds → run is_digit ds ≡ length ds
+all_run : (ds : List ℕ) → AllDigits 10 ds → prefix_len is_ascii_digit ds ≡ length ds
 all_run [] h = refl
 all_run (d ∷ ds) h = rw (in_range_digit d (digit_from_value d h.0)) (omega (arith, all_run ds h.1))
 
@@ -62,10 +63,10 @@ digits_spell [] some all few = absurd (omega arith)
 digits_spell (d ∷ ds) some all few =
     let here = in_range_digit d (digit_from_value d all.0) in
     let rest = all_run ds all.1 in
-    let small : 1 + run is_digit ds ≤ 38 = omega arith in
-    piece_by d ds Number (suc (length ds)) (digit_no_letter d here, here, omega arith, le-leb (1 + run is_digit ds) 38 small)
+    let small : 1 + prefix_len is_ascii_digit ds ≤ 38 = omega arith in
+    piece_by d ds Number (suc (length ds)) (digit_no_letter d here, here, omega arith, le-leb (1 + prefix_len is_ascii_digit ds) 38 small)
   where
-    digit_no_letter : (c : ℕ) → is_digit c ≡ true → is_letter c ≡ false
+    digit_no_letter : (c : ℕ) → is_ascii_digit c ≡ true → is_letter c ≡ false
     digit_no_letter c e = grind (arith, nat_tests)
 
 wide_enough : (n : ℕ) → n < 10 ^ 38 → n < 10 ^ 64
@@ -103,13 +104,13 @@ lower_word_byte : (c : ℕ) → is_word_byte c ≡ true → is_word_byte (to_asc
 lower_word_byte c e =
     elim (lower_is c) [ inl same ↦ ap is_word_byte same ∙ e | inr small ↦ letter_word (to_ascii_lowercase c) (small_letter (to_ascii_lowercase c) small.0 small.1) ]
 
-lower_run : (bytes : List ℕ) → run is_word_byte bytes ≡ length bytes → run is_word_byte (str_to_ascii_lowercase bytes) ≡ length (str_to_ascii_lowercase bytes)
+lower_run : (bytes : List ℕ) → prefix_len is_word_byte bytes ≡ length bytes → prefix_len is_word_byte (str_to_ascii_lowercase bytes) ≡ length (str_to_ascii_lowercase bytes)
 lower_run [] e = refl
 lower_run (b ∷ bytes) e = by (is_word_byte b) refl e (lower_run bytes)
   where
-    by : (t : Bool) → is_word_byte b ≡ t → cond t (1 + run is_word_byte bytes) 0 ≡ suc (length bytes)
-        → (run is_word_byte bytes ≡ length bytes → run is_word_byte (str_to_ascii_lowercase bytes) ≡ length (str_to_ascii_lowercase bytes))
-        → run is_word_byte (to_ascii_lowercase b ∷ str_to_ascii_lowercase bytes) ≡ suc (length (str_to_ascii_lowercase bytes))
+    by : (t : Bool) → is_word_byte b ≡ t → cond t (1 + prefix_len is_word_byte bytes) 0 ≡ suc (length bytes)
+        → (prefix_len is_word_byte bytes ≡ length bytes → prefix_len is_word_byte (str_to_ascii_lowercase bytes) ≡ length (str_to_ascii_lowercase bytes))
+        → prefix_len is_word_byte (to_ascii_lowercase b ∷ str_to_ascii_lowercase bytes) ≡ suc (length (str_to_ascii_lowercase bytes))
     by true q e more = rw (lower_word_byte b q) (omega (arith, more (omega arith)))
     by false q e more = absurd (omega arith)
 

@@ -1,23 +1,22 @@
--- The keywords, and which of them a word is.
-use Rattle.std.specs.Prelude.{ℕ, map, List, [], ◌∷◌, Option, Some, None, if◌then◌else◌, codes}
+-- The classes of the keywords, and which of them a word is.
+use Rattle.std.specs.Prelude.{ℕ, map, List, [], ◌∷◌, Option, Some, None, if◌then◌else◌}
+use Rattle.std.specs.List.{zip}
 use Rattle.std.specs.Str.{bytes_eq, str_to_ascii_lowercase}
 use Rattle.std.specs.Borrow.{Bor}
+use Rattle.lv_values.specs.Names.{keywords}
 use Rattle.lv_lexer.specs.declared.terminals.Class.{Class}
 use Rattle.lv_lexer.specs.declared.terminals.Class.TheVariants as k
 
--- each keyword with its spelling in lower case
-abbrev pub keywords : List (List ℕ × Class)
-keywords =
-    (codes "and", k.And) ∷ (codes "as", k.As) ∷ (codes "asc", k.Asc) ∷ (codes "begin", k.Begin)
-    ∷ (codes "by", k.By) ∷ (codes "commit", k.Commit) ∷ (codes "count", k.Count) ∷ (codes "create", k.Create)
-    ∷ (codes "delete", k.Delete) ∷ (codes "desc", k.Desc) ∷ (codes "drop", k.Drop) ∷ (codes "from", k.From)
-    ∷ (codes "group", k.Group) ∷ (codes "inner", k.Inner) ∷ (codes "insert", k.Insert) ∷ (codes "int", k.Int)
-    ∷ (codes "into", k.Into) ∷ (codes "is", k.Is) ∷ (codes "join", k.Join) ∷ (codes "key", k.Key)
-    ∷ (codes "max", k.Max) ∷ (codes "min", k.Min) ∷ (codes "not", k.Not) ∷ (codes "null", k.Null)
-    ∷ (codes "on", k.On) ∷ (codes "or", k.Or) ∷ (codes "order", k.Order) ∷ (codes "primary", k.Primary)
-    ∷ (codes "rollback", k.Rollback) ∷ (codes "select", k.Select) ∷ (codes "set", k.Set) ∷ (codes "show", k.Show)
-    ∷ (codes "sum", k.Sum) ∷ (codes "table", k.Table) ∷ (codes "tasks", k.Tasks) ∷ (codes "text", k.Text)
-    ∷ (codes "update", k.Update) ∷ (codes "values", k.Values) ∷ (codes "view", k.View) ∷ (codes "where", k.Where) ∷ []
+-- the classes of the keywords, in the same order
+abbrev pub classes : List Class
+classes =
+    k.And ∷ k.As ∷ k.Asc ∷ k.Begin ∷ k.By ∷ k.Commit ∷ k.Count ∷ k.Create ∷ k.Delete ∷ k.Desc ∷ k.Drop ∷ k.From ∷ k.Group ∷ k.Inner
+    ∷ k.Insert ∷ k.Int ∷ k.Into ∷ k.Is ∷ k.Join ∷ k.Key ∷ k.Max ∷ k.Min ∷ k.Not ∷ k.Null ∷ k.On ∷ k.Or ∷ k.Order ∷ k.Primary
+    ∷ k.Rollback ∷ k.Select ∷ k.Set ∷ k.Show ∷ k.Sum ∷ k.Table ∷ k.Tasks ∷ k.Text ∷ k.Update ∷ k.Values ∷ k.View ∷ k.Where ∷ []
+
+-- each keyword with its class
+abbrev pub spellings : List (List ℕ × Class)
+spellings = zip keywords classes
 
 -- the keyword among these that a word in lower case spells
 abbrev pub spelled_by : List (List ℕ × Class) → List ℕ → Option Class
@@ -30,4 +29,4 @@ in_lower_case table = map (λ entry. (str_to_ascii_lowercase entry.0.now, entry.
 
 -- the keyword that a word in lower case is
 unfoldable pub keyword_of : List ℕ → Option Class
-keyword_of word = spelled_by keywords word
+keyword_of word = spelled_by spellings word

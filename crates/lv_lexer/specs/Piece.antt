@@ -1,8 +1,10 @@
 -- The token that begins some bytes. Its kind is told by the first byte, and it is the longest of that kind.
 use Rattle.std.specs.Prelude.{ℕ, ◌+◌, if◌then◌else◌, ◌==◌, nat_le, List, [], ◌∷◌, Option, Some, None, option_map}
+use Rattle.std.specs.Char.{is_ascii_digit}
+use Rattle.std.specs.List.{prefix_len}
+use Rattle.lv_values.specs.Names.{is_letter, is_word_byte}
 use Rattle.lv_lexer.specs.declared.token.TokenKind.{TokenKind}
 use Rattle.lv_lexer.specs.declared.token.TokenKind.TheVariants.{Word, Number, Text, Sign}
-use Rattle.lv_lexer.specs.Bytes.{is_letter, is_digit, is_word_byte, run}
 use Rattle.lv_lexer.specs.Signs.{sign_at}
 
 -- How many bytes a text has from behind its first quote up to its last, with that. Two quotes inside stand for one,
@@ -21,7 +23,7 @@ number_of digits = if nat_le digits 38 then Some (Number, digits) else None
 unfoldable pub piece : List ℕ → Option (TokenKind × ℕ)
 piece [] = None
 piece (b ∷ bytes) =
-    if is_letter b then Some (Word, 1 + run is_word_byte bytes)
-    else if is_digit b then number_of (1 + run is_digit bytes)
+    if is_letter b then Some (Word, 1 + prefix_len is_word_byte bytes)
+    else if is_ascii_digit b then number_of (1 + prefix_len is_ascii_digit bytes)
     else if b == 39 then option_map (λ n. (Text, 1 + n)) (closing bytes)
     else option_map (λ found. (Sign, found.1)) (sign_at (b ∷ bytes))

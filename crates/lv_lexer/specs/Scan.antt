@@ -1,9 +1,9 @@
 -- The tokens of a line.
 use Rattle.std.specs.Prelude.{◌≡◌, ℕ, ◌+◌, ◌-◌, ◌≤◌, ◌<◌, Bool, true, false, nat_eq, List, [], ◌∷◌, length, slice_range, drop, Option, Some, None, codes}
-use Rattle.std.specs.List.{starts_with}
+use Rattle.std.specs.List.{starts_with, prefix_len}
+use Rattle.lv_values.specs.Names.{is_blank}
 use Rattle.lv_lexer.specs.declared.token.Token.{Token}
 use Rattle.lv_lexer.specs.declared.token.TokenKind.{TokenKind}
-use Rattle.lv_lexer.specs.Bytes.{is_blank, run}
 use Rattle.lv_lexer.specs.Piece.{piece}
 
 -- whether no token comes any more: the line ends, or `--` begins a comment, which ends with the line
@@ -13,17 +13,17 @@ is_over (b ∷ bytes) = starts_with nat_eq (b ∷ bytes) (codes "--")
 
 -- without the blanks in front
 abbrev pub after_blanks : List ℕ → List ℕ
-after_blanks bytes = drop (run is_blank bytes) bytes
+after_blanks bytes = drop (prefix_len is_blank bytes) bytes
 
 -- The bytes, which stand in the line from this offset on, have these tokens between blanks. Then the line is over,
 -- or a piece stands at this offset that is no token.
 abbrev pub Scans : ℕ → List ℕ → List Token → Option ℕ → Type 0
 Scans at bytes [] None = is_over (after_blanks bytes) ≡ true
 Scans at bytes [] (Some stop) =
-    (is_over (after_blanks bytes) ≡ false) × (piece (after_blanks bytes) ≡ None) × (stop ≡ at + run is_blank bytes)
+    (is_over (after_blanks bytes) ≡ false) × (piece (after_blanks bytes) ≡ None) × (stop ≡ at + prefix_len is_blank bytes)
 Scans at bytes (t ∷ more) stopped =
     (is_over (after_blanks bytes) ≡ false) × (piece (after_blanks bytes) ≡ Some (t.kind, t.end - t.start))
-    × (t.start ≡ at + run is_blank bytes) × (t.start ≤ t.end)
+    × (t.start ≡ at + prefix_len is_blank bytes) × (t.start ≤ t.end)
     × Scans t.end (drop (t.end - t.start) (after_blanks bytes)) more stopped
 
 -- the bytes of a token

@@ -1,7 +1,9 @@
 //! The token that begins some bytes.
 
 ghost use Rattle.std.specs.Prelude.{◌≡◌, ◌+◌, ◌<◌, ◌≤◌, ◌^◌, length, IfSome};
-ghost use Rattle.lv_lexer.specs.Bytes as spec;
+ghost use Rattle.std.specs.Char.{is_ascii_digit};
+ghost use Rattle.std.specs.List.{prefix_len};
+ghost use Rattle.lv_values.specs.Names as names;
 ghost use Rattle.lv_lexer.specs.Piece.{closing, number_of, piece};
 
 use crate::signs::sign_at;
@@ -12,33 +14,27 @@ const MOST_DIGITS: usize = 38;
 
 const QUOTE: u8 = b'\'';
 
-fn is_digit(byte: u8) -> bool
-    ensures { result ≡ spec.is_digit byte }
-{
-    byte.is_ascii_digit()
-}
-
 fn is_letter(byte: u8) -> bool
-    ensures { result ≡ spec.is_letter byte }
+    ensures { result ≡ names.is_letter byte }
 {
-    (b'A' <= byte && byte <= b'Z') || (b'a' <= byte && byte <= b'z') || byte == b'_'
+    byte.is_ascii_alphabetic() || byte == b'_'
 }
 
 fn is_word_byte(byte: u8) -> bool
-    ensures { result ≡ spec.is_word_byte byte }
+    ensures { result ≡ names.is_word_byte byte }
 {
-    is_letter(byte) || is_digit(byte)
+    is_letter(byte) || byte.is_ascii_digit()
 }
 
 fn is_blank(byte: u8) -> bool
-    ensures { result ≡ spec.is_blank byte }
+    ensures { result ≡ names.is_blank byte }
 {
     byte == b' ' || byte == b'\t'
 }
 
 /// How many word bytes stand in front.
 fn word_len(bytes: &[u8]) -> usize
-    ensures value { result ≡ spec.run spec.is_word_byte bytes.now }
+    ensures value { result ≡ prefix_len names.is_word_byte bytes.now }
     ensures within { result ≤ length bytes.now }
 {
     bytes.iter().take_while(|b| is_word_byte(**b)).count()
@@ -46,15 +42,15 @@ fn word_len(bytes: &[u8]) -> usize
 
 /// How many digits stand in front.
 fn digits_len(bytes: &[u8]) -> usize
-    ensures value { result ≡ spec.run spec.is_digit bytes.now }
+    ensures value { result ≡ prefix_len is_ascii_digit bytes.now }
     ensures within { result ≤ length bytes.now }
 {
-    bytes.iter().take_while(|b| is_digit(**b)).count()
+    bytes.iter().take_while(|b| b.is_ascii_digit()).count()
 }
 
 /// How many blanks stand in front.
 pub(crate) fn blanks_len(bytes: &[u8]) -> usize
-    ensures value { result ≡ spec.run spec.is_blank bytes.now }
+    ensures value { result ≡ prefix_len names.is_blank bytes.now }
     ensures within { result ≤ length bytes.now }
 {
     bytes.iter().take_while(|b| is_blank(**b)).count()
@@ -81,7 +77,7 @@ fn closing_len(bytes: &[u8]) -> Option<usize>
 /// The number in front, whose first digit stands before these bytes.
 fn number(rest: &[u8]) -> Option<(TokenKind, usize)>
     requires { length rest.now < 2 ^ 32 }
-    ensures value { result ≡ number_of (1 + spec.run spec.is_digit rest.now) }
+    ensures value { result ≡ number_of (1 + prefix_len is_ascii_digit rest.now) }
     ensures within { IfSome result (λ found. (0 < found.1) × (found.1 ≤ 1 + length rest.now)) }
 {
     let len = 1 + digits_len(rest);
@@ -104,7 +100,7 @@ pub(crate) fn piece(bytes: &[u8]) -> Option<(TokenKind, usize)>
     };
     if is_letter(*first) {
         Some((TokenKind::Word, 1 + word_len(rest)))
-    } else if is_digit(*first) {
+    } else if first.is_ascii_digit() {
         number(rest)
     } else if *first == QUOTE {
         match closing_len(rest) {

@@ -1,7 +1,8 @@
 //! What a step is computed from.
-ghost use Rattle.std.specs.Prelude.{◌≡◌};
+ghost use Rattle.std.specs.Prelude.{◌≡◌, ◌↔◌, IsTrue};
 ghost use Rattle.lv_maint.specs.Inputs.{AreOfTables, Fit};
 
+use crate::same::{SameValue, are_same};
 use lv_schema::{Part, Parts, ViewDef};
 use std::marker::Model;
 
@@ -66,5 +67,16 @@ impl JobInput {
         ensures fit { Fit self.now.def self.now.parts }
     {
         self.parts.as_slice()
+    }
+
+    /// Whether it is the same input: the same view, commits and parts. They are compared where they lie, the numbers
+    /// first, up to the first difference. Cost: linear in what is the same.
+    pub fn equals(&self, other: &JobInput) -> bool
+        ensures { IsTrue result ↔ (self.now ≡ other.now) }
+    {
+        self.lo == other.lo
+            && self.hi == other.hi
+            && self.def.is_same(&other.def)
+            && are_same(self.parts.as_slice(), other.parts.as_slice())
     }
 }

@@ -1,10 +1,10 @@
 //! Maintenance steps: the difference of a view, from one signed term for each alias.
 #![tactic(auto)]
 
-mod columns;
 mod entries;
 mod input;
 mod outcome;
+mod same;
 mod sides;
 mod summing;
 

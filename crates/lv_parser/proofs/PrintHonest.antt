@@ -7,7 +7,7 @@ use Rattle.lv_lexer.specs.declared.terminals.Class.TheVariants as k
 use Rattle.lv_lexer.specs.declared.terminals.Terminal.{Terminal}
 use Rattle.lv_lexer.specs.declared.token.TokenKind.{TokenKind}
 use Rattle.lv_lexer.specs.declared.token.TokenKind.TheVariants.{Word, Number, Text, Sign}
-use Rattle.lv_lexer.specs.Keywords.{keywords, spelled_by, keyword_of}
+use Rattle.lv_lexer.specs.Keywords.{spellings, spelled_by, keyword_of}
 use Rattle.lv_lexer.specs.Meaning.{said, word_at, sign_of}
 use Rattle.lv_lexer.specs.Scan.{Spells}
 use Rattle.lv_lexer.specs.Signs.{first_fit, long_signs, short_signs, sign_at}
@@ -48,7 +48,7 @@ spelled_fixed (entry ∷ more) word c a e = by (bytes_eq entry.0 word) (is_fixed
 
 keyword_fixed : (word : List ℕ) (c : Class) → keyword_of word ≡ Some c → is_fixed c ≡ true
 unfolding keyword_of is_fixed
-keyword_fixed word c e = spelled_fixed keywords word c refl e
+keyword_fixed word c e = spelled_fixed spellings word c refl e
 
 fit_fixed : (table : List (List ℕ × Class)) (bytes : List ℕ) (c : Class) (n : ℕ) → list_all (λ e. is_fixed e.1) table ≡ true → first_fit table bytes ≡ Some (c, n) → is_fixed c ≡ true
 fit_fixed [] bytes c n a e = absurd cc

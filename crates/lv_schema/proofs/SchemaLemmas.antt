@@ -9,11 +9,15 @@ use Rattle.std.proofs.lemmas.List.{map-append, length-append, get_or_append_left
 use Rattle.std.proofs.lemmas.List.Folds.{list_any-append}
 use Rattle.std.proofs.lemmas.Slice.Eq.{bytes_eq-Decides}
 use Rattle.indexmap.specs.IndexMap.{insert_entry}
+use Rattle.lv_values.specs.Names.{has_name}
+use Rattle.lv_schema.specs.declared.cond.Col.{Col}
 use Rattle.lv_schema.specs.declared.table.TableDef.{TableDef}
+use Rattle.lv_schema.specs.declared.view.Item.{Item}
 use Rattle.lv_schema.specs.declared.view.ViewDef.{ViewDef}
-use Rattle.lv_schema.specs.Bound.{IsBoundTable, IsBoundView, IsProfile, alias_columns, key_cols, all_key_cols}
+use Rattle.lv_schema.specs.Bound.{IsBoundTable, IsBoundView, IsProfile, alias_columns, are_among, keeps_key, key_cols, all_key_cols}
 use Rattle.lv_schema.specs.Catalog.{Catalog}
-use Rattle.lv_schema.specs.Names.{has_name, is_free}
+use Rattle.lv_schema.specs.JoinViews.{plain_columns}
+use Rattle.lv_schema.specs.Names.{is_free}
 use Rattle.lv_schema.specs.Sound.{IsSchema}
 use Rattle.lv_schema.specs.World.{table_at, view_at, no_table, no_view}
 
@@ -101,11 +105,12 @@ module _ (tables : List TableDef) (def : TableDef) where
       let rest = same_keys (alias + 1) ns parts.1 in
       rw (here, rest) refl
 
-  profile_still : (view : ViewDef) (grouped : Bool) → list_all (λ t. nat_lt t (length tables)) view.tables ≡ true → IsProfile tables view grouped → IsProfile (tables ++ def ∷ []) view grouped
-  profile_still view true used h = h
-  profile_still view false used h =
-      let keys : all_key_cols (tables ++ def ∷ []) view.tables ≡ all_key_cols tables view.tables = same_keys 0 view.tables used in
-      record { no_groups = h.no_groups; plain = h.plain; keys_listed = rw keys h.keys_listed }
+  keys_still : (numbers : List ℕ) (items : List Item) (groups : List Col) → list_all (λ t. nat_lt t (length tables)) numbers ≡ true → keeps_key (tables ++ def ∷ []) numbers items groups ≡ keeps_key tables numbers items groups
+  keys_still numbers items [] used = ap (λ keys. are_among keys (plain_columns items)) (same_keys 0 numbers used)
+  keys_still numbers items (g ∷ groups) used = refl
+
+  profile_still : (view : ViewDef) → list_all (λ t. nat_lt t (length tables)) view.tables ≡ true → IsProfile tables view → IsProfile (tables ++ def ∷ []) view
+  profile_still view used h = record { grouped = h.grouped; keeps = rw (keys_still view.tables view.items view.groups used) h.keeps }
 
   -- a name that is free of the tables and is not the new table's
   free_still : (views : List ViewDef) (name : List ℕ) → is_free tables views name ≡ true → bytes_eq name def.name ≡ false → is_free (tables ++ def ∷ []) views name ≡ true
@@ -134,7 +139,8 @@ module _ (tables : List TableDef) (def : TableDef) where
         plain_in_range = rw columns was.plain_in_range;
         sums_are_ints = rw columns was.sums_are_ints;
         groups_in_range = rw columns was.groups_in_range;
-        profile = profile_still view view.grouped was.in_use was.profile;
+        few_groups = was.few_groups;
+        profile = profile_still view was.in_use was.profile;
       }
 
 module _ (tables : List TableDef) (views : List ViewDef) (sound : IsSchema tables views) where

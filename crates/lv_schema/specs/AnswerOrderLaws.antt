@@ -7,7 +7,7 @@ use Rattle.std.specs.Ordering.{ordering_then}
 use Rattle.std.specs.declared.cmp.Ordering.{Ordering}
 use Rattle.std.specs.declared.cmp.Ordering.TheVariants.{Less, Equal, Greater}
 use Rattle.std.proofs.lemmas.Cmp.{then_total, on_total, back_total, nat_cmp_total, lists_total}
-use Rattle.lv_values.specs.OrderLaws.{value_total, value_exact, row_total, row_exact}
+use Rattle.lv_values.specs.OrderLaws.{both_tie, value_total, value_exact, row_total, row_exact}
 use Rattle.lv_schema.specs.declared.directed.Directed.{Directed}
 use Rattle.lv_schema.specs.declared.directed.Directed.TheVariants.{Up, Down}
 use Rattle.lv_schema.specs.AnswerOrder.{way_of, rising, falling, directed_cmp, directed_eq, sorted_cmp, sorted_eq}
@@ -29,11 +29,6 @@ sorted_equiv = eq_by_cmp_equiv sorted_total
 
 pub sorted_per : IsPartialEquivalence sorted_eq
 sorted_per = partial_equiv_from_equiv sorted_equiv
-
-both_tie : (a b : Ordering) → ordering_then a b ≡ Equal → (a ≡ Equal) × (b ≡ Equal)
-both_tie Less b h = cc
-both_tie Equal b h = (refl, h)
-both_tie Greater b h = cc
 
 same_parts : (a b : Directed) → way_of a ≡ way_of b → rising a ≡ rising b → falling a ≡ falling b → a ≡ b
 same_parts (Up x) (Up y) w r f = ap Up r

@@ -1,8 +1,9 @@
 -- What it means that a statement is bound against a schema: what it names is in use, its columns are in range, kinds
 -- agree, and it is inside the limits.
-use Rattle.std.specs.Prelude.{◌≡◌, ℕ, ◌+◌, ◌^◌, ◌<◌, ◌≤◌, max, nat_abs, Bool, true, false, not, ◌&&◌, ◌==◌, nat_eq, nat_lt, nat_le, if◌then◌else◌, List, [], ◌∷◌, map, length, sum, slice_get, slice_index_or, Option, Some, None, is_some, option_map}
+use Rattle.std.specs.Prelude.{◌≡◌, ℕ, ◌+◌, ◌^◌, ◌<◌, ◌≤◌, max, nat_abs, Bool, true, false, not, cond, ◌&&◌, ◌==◌, nat_eq, nat_lt, nat_le, if◌then◌else◌, List, [], ◌∷◌, ◌++◌, map, length, sum, slice_get, slice_index_or, Option, Some, None, is_some, option_map}
 use Rattle.std.specs.List.{list_all, list_any, flat_map, count_by, enumerate_from}
 use Rattle.std.specs.Str.{bytes_eq}
+use Rattle.lv_values.specs.Names.{is_name}
 use Rattle.lv_schema.specs.declared.bound.Bound.{Bound}
 use Rattle.lv_schema.specs.declared.bound.Bound.TheVariants as bound
 use Rattle.lv_schema.specs.declared.change.Change.{Change}
@@ -16,6 +17,8 @@ use Rattle.lv_schema.specs.declared.cond.Cond.TheOpen.{Cond-F, True, Cmp, And, O
 use Rattle.lv_schema.specs.declared.cond.Cond.TheFolds.{fold-Cond}
 use Rattle.lv_schema.specs.declared.cond.Operand.{Operand}
 use Rattle.lv_schema.specs.declared.cond.Operand.TheVariants.{Column as InColumn, Number, Text as Literally}
+use Rattle.lv_schema.specs.declared.fault.ProfileRule.{ProfileRule}
+use Rattle.lv_schema.specs.declared.fault.ProfileRule.TheVariants as rule
 use Rattle.lv_schema.specs.declared.query.Query.{Query}
 use Rattle.lv_schema.specs.declared.query.Rel.{Rel}
 use Rattle.lv_schema.specs.declared.query.Rel.TheVariants as rel
@@ -29,7 +32,7 @@ use Rattle.lv_schema.specs.declared.view.ViewDef.{ViewDef}
 use Rattle.lv_schema.specs.Databases.{row_fits, value_fits, is_line}
 use Rattle.lv_schema.specs.Differences.{summed_columns}
 use Rattle.lv_schema.specs.JoinViews.{plain_columns}
-use Rattle.lv_schema.specs.Names.{is_name, is_free}
+use Rattle.lv_schema.specs.Names.{is_free}
 use Rattle.lv_schema.specs.Once.{are_apart}
 use Rattle.lv_schema.specs.World.{table_at, view_at}
 
@@ -197,23 +200,44 @@ key_cols tables at = map (λ k. record { alias = at.0; column = k }) (table_at t
 abbrev pub all_key_cols : List TableDef → List ℕ → List Col
 all_key_cols tables numbers = flat_map (key_cols tables) (enumerate_from 0 numbers)
 
--- a grouped view groups by its plain columns and no others, and counts once; any other view lists columns alone, each
--- key column of each alias among them
-pub record IsGroupList (view : ViewDef) : Type 0 where
-  pub some_groups : 0 < length view.groups
-  pub few_groups : length view.groups ≤ 16
-  pub groups_listed : list_all (λ col. has_col col (plain_columns view.items)) view.groups ≡ true
-  pub listed_grouped : list_all (λ col. has_col col view.groups) (plain_columns view.items) ≡ true
-  pub one_count : count_by is_count view.items ≡ 1
+-- whether each of these columns is among those
+abbrev pub are_among : List Col → List Col → Bool
+are_among cols others = list_all (λ col. has_col col others) cols
 
-pub record IsPlainList (tables : List TableDef) (view : ViewDef) : Type 0 where
-  pub no_groups : view.groups ≡ []
-  pub plain : list_all is_plain view.items ≡ true
-  pub keys_listed : list_all (λ col. has_col col (plain_columns view.items)) (all_key_cols tables view.tables) ≡ true
+-- The rules on what a view may be, each over its list and its GROUP BY columns, and in the order in which a broken one
+-- is shown. Without GROUP BY there are columns alone; with it each listed column is grouped and each grouped column listed.
+abbrev pub keeps_group : List Item → List Col → Bool
+keeps_group items [] = list_all is_plain items
+keeps_group items (g ∷ groups) = are_among (plain_columns items) (g ∷ groups) && are_among (g ∷ groups) (plain_columns items)
 
-abbrev pub IsProfile : List TableDef → ViewDef → Bool → Type 0
-IsProfile tables view true = IsGroupList view
-IsProfile tables view false = IsPlainList tables view
+-- with GROUP BY there is exactly one COUNT(*)
+abbrev pub keeps_count : List Item → List Col → Bool
+keeps_count items [] = true
+keeps_count items (g ∷ groups) = count_by is_count items == 1
+
+-- without GROUP BY each key column of each alias is listed
+abbrev pub keeps_key : List TableDef → List ℕ → List Item → List Col → Bool
+keeps_key tables numbers items [] = are_among (all_key_cols tables numbers) (plain_columns items)
+keeps_key tables numbers items (g ∷ groups) = true
+
+-- the first of a list
+abbrev pub first : {A : Type 0} → List A → Option A
+first [] = None
+first (x ∷ xs) = Some x
+
+-- the rule, where it is broken
+abbrev pub broken : Bool → ProfileRule → List ProfileRule
+broken keeps which = cond keeps [] (which ∷ [])
+
+abbrev pub broken_rules : List TableDef → ViewDef → List ProfileRule
+broken_rules tables view =
+    broken (keeps_group view.items view.groups) rule.Group
+    ++ (broken (keeps_count view.items view.groups) rule.Count ++ broken (keeps_key tables view.tables view.items view.groups) rule.Key)
+
+-- a view breaks none of them, and is grouped where it has GROUP BY columns
+pub record IsProfile (tables : List TableDef) (view : ViewDef) : Type 0 where
+  pub grouped : view.grouped ≡ nat_lt 0 (length view.groups)
+  pub keeps : broken_rules tables view ≡ []
 
 pub record IsBoundView (tables : List TableDef) (views : List ViewDef) (view : ViewDef) : Type 0 where
   pub next : view.no ≡ length views
@@ -232,7 +256,8 @@ pub record IsBoundView (tables : List TableDef) (views : List ViewDef) (view : V
   pub plain_in_range : list_all (is_in_range (alias_columns tables view.tables)) (plain_columns view.items) ≡ true
   pub sums_are_ints : list_all (is_int_column (alias_columns tables view.tables)) (summed_columns view) ≡ true
   pub groups_in_range : list_all (is_in_range (alias_columns tables view.tables)) view.groups ≡ true
-  pub profile : IsProfile tables view view.grouped
+  pub few_groups : length view.groups ≤ 16
+  pub profile : IsProfile tables view
 
 -- INSERT, UPDATE and DELETE
 abbrev pub same_kind : Kind → Kind → Bool

@@ -1,9 +1,8 @@
 //! The rules on what a view may be.
 ghost use Rattle.std.specs.Prelude.{◌≡◌, ◌≤◌, map, length, count_by};
 ghost use Rattle.std.specs.List.{list_all};
-ghost use Rattle.lv_schema.specs.Bound.{has_col, is_plain, is_count, all_key_cols};
+ghost use Rattle.lv_schema.specs.Bound.{first, has_col, is_plain, is_count, all_key_cols, are_among, keeps_group, keeps_count, keeps_key};
 ghost use Rattle.lv_schema.specs.JoinViews.{plain_columns};
-ghost use Rattle.lv_schema.specs.Profile.{first, are_among, keeps_group, keeps_count, keeps_key};
 
 use crate::cond::Col;
 use crate::fault::ProfileRule;
@@ -144,7 +143,7 @@ fn keeps_key(schema: &Schema, view: &ViewDef) -> bool
 }
 
 impl ViewDef {
-    ghost use Rattle.lv_schema.specs.Profile.{broken_rules};
+    ghost use Rattle.lv_schema.specs.Bound.{broken_rules};
 
     /// The first rule on views that a view of at most four tables of the schema breaks. Cost: a search of its list
     /// for each listed, grouped and key column.

@@ -1,6 +1,7 @@
 pub mod formers
 pub mod Ascending
 pub mod Hashing
+pub mod Names
 pub mod Order
 pub mod OrderLaws
 pub mod Print

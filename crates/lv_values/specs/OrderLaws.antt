@@ -15,7 +15,8 @@ use Rattle.lv_values.specs.Order.{rank_of, number_of, text_of, value_cmp, row_cm
 pub value_total : IsTotalOrder value_cmp
 value_total = then_total (on_total rank_of nat_cmp_total) (then_total (on_total number_of int_cmp_total) (on_total text_of nat_list_cmp_total))
 
-both_tie : (a b : Ordering) → ordering_then a b ≡ Equal → (a ≡ Equal) × (b ≡ Equal)
+-- two orders in turn that find two values equal both do
+pub both_tie : (a b : Ordering) → ordering_then a b ≡ Equal → (a ≡ Equal) × (b ≡ Equal)
 both_tie Less b h = cc
 both_tie Equal b h = (refl, h)
 both_tie Greater b h = cc

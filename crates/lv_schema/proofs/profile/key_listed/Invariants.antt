@@ -1,6 +1,6 @@
 use Rattle.std.proofs.Common.{◌≡◌, drop, map}
 use Rattle.lv_schema.specs.JoinViews.{plain_columns}
-use Rattle.lv_schema.specs.Profile.{are_among}
+use Rattle.lv_schema.specs.Bound.{are_among}
 use Rattle.lv_schema.proofs.profile.key_listed.Given as goal
 
 abbrev pub invariant-loop-column : goal.invariant-loop-column
