@@ -1,8 +1,9 @@
 -- The row at a key, among rows that ascend by it.
-use Rattle.std.proofs.Common.{◌≡◌, ℕ, Bool, true, false, cond, List, [], ◌∷◌, Some, option_to_list, refl, sym, ap, ◌∙◌, subst}
-use Rattle.std.specs.Prelude.{slice_get, Result, Ok, Err, IfOk}
+use Rattle.std.proofs.Common.{◌≡◌, ℕ, Bool, true, false, cond, List, [], ◌∷◌, Option, Some, None, option_to_list, refl, sym, ap, ◌∙◌, subst}
+use Rattle.std.specs.Prelude.{◌||◌, is_some, slice_get, MatchOption, Result, Ok, Err, IfOk}
+use denote.Ref.{Bor}
 use Rattle.std.specs.List.{AllByRecursion}
-use Rattle.std.specs.Ordering.{is_eq, is_gt, ordering_reverse}
+use Rattle.std.specs.Ordering.{is_eq, ordering_reverse}
 use Rattle.std.specs.declared.cmp.Ordering.{Ordering}
 use Rattle.std.specs.declared.cmp.Ordering.TheVariants.{Less, Equal, Greater}
 use Rattle.std.proofs.lemmas.Cmp.{tied_itself}
@@ -11,15 +12,13 @@ use Rattle.lv_values.specs.Order.{row_cmp, row_eq}
 use Rattle.lv_values.specs.OrderLaws.{row_total}
 use Rattle.lv_values.specs.Rows.{key_cmp, values_at}
 use Rattle.lv_schema.specs.declared.cond.Cond.{Cond}
-use Rattle.lv_schema.specs.Effects.{matching}
+use Rattle.lv_schema.specs.Effects.{has_key, matching}
 use Rattle.lv_schema.specs.Keys.{row_at}
 use Rattle.lv_schema.specs.Once.{Ascends}
 use Rattle.lv_schema.specs.Truth.{holds}
-use Rattle.lv_schema.proofs.Apart.{all_weaker}
 use Rattle.lv_schema.proofs.NetsLead.{same_row}
 use Rattle.lv_versions.specs.Versions.{row_with, rows_with}
 use Rattle.lv_effect.specs.FixedKeys.{FixesKey}
-use Rattle.lv_effect.specs.KeyOrder.{AreInKeyOrder}
 
 turned_eq : (o : Ordering) → is_eq (ordering_reverse o) ≡ is_eq o
 turned_eq Less = refl
@@ -42,13 +41,18 @@ read_row key k (row ∷ rows) = by (row_eq (values_at key row) k) refl (read_row
     by true e ih = sym (ap (λ b. cond b (Some row) (row_at key k rows)) (eq_back k (values_at key row) ∙ e))
     by false e ih = ih ∙ sym (ap (λ b. cond b (Some row) (row_at key k rows)) (eq_back k (values_at key row) ∙ e))
 
--- rows that ascend strictly stand in the order of their keys
-not_gt : (o : Ordering) → o ≡ Less → is_gt o ≡ false
-not_gt o e = ap is_gt e
+-- a row's key is taken where a row is at that key
+pub taken_at : (key : List ℕ) (row : List Value) (rows : List (List Value)) → has_key key row rows ≡ is_some (row_at key (values_at key row) rows)
+taken_at key row [] = refl
+taken_at key row (r ∷ rows) = by (row_eq (values_at key row) (values_at key r)) (taken_at key row rows)
+  where
+    by : (b : Bool) → has_key key row rows ≡ is_some (row_at key (values_at key row) rows) → (b || has_key key row rows) ≡ is_some (cond b (Some r) (row_at key (values_at key row) rows))
+    by true ih = refl
+    by false ih = ih
 
-pub ascends_ordered : (key : List ℕ) (rows : List (List Value)) → Ascends (key_cmp key) rows → AreInKeyOrder key rows
-ascends_ordered key [] a = tt
-ascends_ordered key (row ∷ rows) a = (all_weaker (λ y. key_cmp key row y ≡ Less) (λ y. is_gt (key_cmp key row y) ≡ false) (λ y e. not_gt (key_cmp key row y) e) rows a.0, ascends_ordered key rows a.1)
+pub found_some : {X : Type 0} (o : Option (Bor X)) (x : Option X) → MatchOption o (x ≡ None) (λ r. x ≡ Some r.now) → is_some o ≡ is_some x
+found_some None x h = ap is_some (sym h)
+found_some (Some r) x h = ap is_some (sym h)
 
 -- what holds of all rows holds of the one at a key
 pub all_there : (P : List Value → Type 0) (key : List ℕ) (k : List Value) (rows : List (List Value)) → AllByRecursion P rows → AllByRecursion P (option_to_list (row_at key k rows))

@@ -1,8 +1,7 @@
+pub mod BoundSums
 pub mod FixedKeys
 pub mod KeyedRows
-pub mod KeyOrderRows
-pub mod KeySearch
+pub mod MostRows
 pub mod Matching
-pub mod Orders
 pub mod TakenKeys
 pub mod TriedRows

@@ -1,15 +1,19 @@
 -- The first new row whose key is taken, by a row of the table or by an earlier new row.
-use Rattle.std.proofs.Common.{◌≡◌, ℕ, ◌+◌, ◌<◌, Bool, true, false, cond, List, [], ◌∷◌, ◌++◌, length, take, drop, get_or, refl, sym, ◌∙◌, ap}
-use Rattle.std.specs.Prelude.{◌||◌, reverse, Option, Some}
+use Rattle.std.proofs.Common.{◌≡◌, ℕ, ◌+◌, ◌<◌, Bool, true, false, cond, ◌&&◌, List, [], ◌∷◌, ◌++◌, length, take, drop, get_or, Option, Some, None, refl, sym, ◌∙◌, ap, ap₂}
+use Rattle.std.specs.Prelude.{◌||◌, is_some, reverse}
 use Rattle.std.specs.List.{list_any}
-use Rattle.std.specs.Ordering.{is_gt}
-use Rattle.std.specs.declared.cmp.Ordering.{Ordering}
 use Rattle.std.proofs.lemmas.List.{take_more, drop_more, reverse-append}
 use Rattle.std.proofs.lemmas.List.Folds.{list_any-append}
 use Rattle.lv_values.specs.declared.value.Value.{Value}
-use Rattle.lv_values.specs.Ascending.{placed}
-use Rattle.lv_values.specs.Rows.{key_cmp, values_at}
+use Rattle.lv_values.specs.Order.{row_eq}
+use Rattle.lv_values.specs.Rows.{values_at}
+use Rattle.lv_schema.specs.Commits.{same_place}
 use Rattle.lv_schema.specs.Effects.{same_key, has_key, first_taken}
+use Rattle.lv_schema.specs.Keys.{row_at}
+use Rattle.lv_overlay.specs.declared.put.Put.{Put}
+use Rattle.lv_overlay.specs.Puts.{PutIs, put_at}
+use Rattle.lv_overlay.proofs.Places.{number_itself}
+use Rattle.lv_effect.proofs.KeyedRows.{taken_at}
 
 or_comm : (a b : Bool) → (a || b) ≡ (b || a)
 or_comm true true = refl
@@ -51,6 +55,16 @@ here key i new rows x h e =
     ap (first_taken key (before i new rows)) (drop_more new i x h ∙ ap (λ y. y ∷ drop (i + 1) new) (sym e))
     ∙ ap (λ b. cond b (Some (values_at key x)) (first_taken key (x ∷ before i new rows) (drop (i + 1) new))) (has_before key x i new rows)
 
+-- whether a key is among those kept of the new rows so far, or a row is there
+pub searched : (key : List ℕ) (t : ℕ) (row k : List Value) (i : ℕ) (new rows : List (List Value)) (earlier : List Put) (found b : Bool) → k ≡ values_at key row
+    → is_some (put_at earlier (t, values_at key row)) ≡ has_key key row (take i new) → found ≡ (is_some (put_at earlier (t, k)) || is_some (row_at key k rows)) → found ≡ b
+    → (has_key key row (take i new) || has_key key row rows) ≡ b
+searched key t row k i new rows earlier found b is seen tested e =
+    ap₂ (λ s u. s || u) (sym seen) (taken_at key row rows)
+    ∙ ap (λ v. is_some (put_at earlier (t, v)) || is_some (row_at key v rows)) (sym is)
+    ∙ sym tested
+    ∙ e
+
 pub taken_here : (key : List ℕ) (i : ℕ) (new rows : List (List Value)) (x : List Value) (o : Option (List Value))
     → i < length new → x ≡ get_or new i x → (has_key key x (take i new) || has_key key x rows) ≡ true
     → o ≡ first_taken key (before i new rows) (drop i new) → o ≡ Some (values_at key x)
@@ -65,28 +79,20 @@ taken_later key i new rows x o h e t inv =
     ∙ ap (λ b. cond b (Some (values_at key x)) (first_taken key (x ∷ before i new rows) (drop (i + 1) new))) t
     ∙ ap (λ l. first_taken key l (drop (i + 1) new)) (ap (λ y. y ∷ before i new rows) e ∙ sym (before_more i new rows x h))
 
--- ---- the rows so far, in the order of their keys
-swap_first : (a b c : Bool) → (a || (b || c)) ≡ (b || (a || c))
-swap_first true true c = refl
-swap_first true false c = refl
-swap_first false true c = refl
-swap_first false false c = refl
+-- ---- the keys of the rows so far
+put_there : (b : Bool) (o : Option (Option (List Value))) → is_some (cond b (Some None) o) ≡ (b || is_some o)
+put_there true o = refl
+put_there false o = refl
 
-any_placed : {A : Type 0} (R : A → A → Ordering) (p : A → Bool) (x : A) (xs : List A) → list_any p (placed R x xs) ≡ (p x || list_any p xs)
-any_placed R p x [] = refl
-any_placed R p x (y ∷ ys) = by (is_gt (R x y)) (any_placed R p x ys)
-  where
-    by : (b : Bool) → list_any p (placed R x ys) ≡ (p x || list_any p ys) → list_any p (cond b (y ∷ placed R x ys) (x ∷ y ∷ ys)) ≡ (p x || list_any p (y ∷ ys))
-    by true e = ap (λ b. p y || b) e ∙ swap_first (p y) (p x) (list_any p ys)
-    by false e = refl
-
--- a loop that places one row more
-pub seen_more : (key : List ℕ) (other : List Value) (i : ℕ) (new earlier next : List (List Value)) (x copy : List Value) → i < length new → x ≡ get_or new i x → copy ≡ x
-    → next ≡ placed (key_cmp key) copy earlier → has_key key other earlier ≡ has_key key other (take i new) → has_key key other next ≡ has_key key other (take (i + 1) new)
-seen_more key other i new earlier next x copy lt is same put so_far =
-    ap (has_key key other) (put ∙ ap (λ r. placed (key_cmp key) r earlier) (same ∙ is))
-    ∙ any_placed (key_cmp key) (same_key key other) (get_or new i x) earlier
-    ∙ ap (λ b. same_key key other (get_or new i x) || b) so_far
+-- a loop that keeps the key of one row more
+pub seen_more : (key : List ℕ) (t : ℕ) (other : List Value) (i : ℕ) (new : List (List Value)) (x k : List Value) (earlier next : List Put) → i < length new → x ≡ get_or new i x → k ≡ values_at key x
+    → PutIs (record { table = t; key = k; row = None }) earlier next → is_some (put_at earlier (t, values_at key other)) ≡ has_key key other (take i new)
+    → is_some (put_at next (t, values_at key other)) ≡ has_key key other (take (i + 1) new)
+seen_more key t other i new x k earlier next lt is key_is put so_far =
+    ap is_some (put (t, values_at key other))
+    ∙ put_there (same_place (t, values_at key other) (t, k)) (put_at earlier (t, values_at key other))
+    ∙ ap₂ (λ b c. (b && row_eq (values_at key other) k) || c) (number_itself t) so_far
+    ∙ ap (λ v. row_eq (values_at key other) v || has_key key other (take i new)) (key_is ∙ ap (values_at key) is)
     ∙ or_comm (same_key key other (get_or new i x)) (has_key key other (take i new))
     ∙ ap (λ b. has_key key other (take i new) || b) (sym (or_false (same_key key other (get_or new i x))))
     ∙ sym (list_any-append (same_key key other) (take i new) (get_or new i x ∷ []))

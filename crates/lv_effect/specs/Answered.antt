@@ -1,5 +1,5 @@
 -- What a call says of the effect of a change.
-use Rattle.std.specs.Prelude.{◌≡◌, ℕ, ◌+◌, cond, nat_lt, List, length, Option, Result, Ok, Err}
+use Rattle.std.specs.Prelude.{◌≡◌, ℕ, ◌+◌, Bool, cond, nat_lt, List, length, Option, Result, Ok, Err}
 use Rattle.lv_values.specs.declared.value.Value.{Value}
 use Rattle.lv_schema.specs.declared.action.Action.{Action}
 use Rattle.lv_schema.specs.declared.change.Change.{Change}
@@ -23,8 +23,14 @@ abbrev pub insert_fault : ℕ → TableDef → List (List Value) → List (List 
 insert_fault table def new rows =
     first_fault (option_fault (Duplicate table) (first_taken def.key rows new)) (fault_where (nat_lt 65535 (length rows + length new)) (TableFull table))
 
--- how many base rows a change reads at most, where so many are there: one where its condition fixes the key
-abbrev pub most_steps : List ℕ → Change → ℕ → ℕ
-most_steps key (Insert table new) rows = rows
-most_steps key (Update table sets c) rows = cond (says_key c key) 1 rows
-most_steps key (Delete table c) rows = cond (says_key c key) 1 rows
+-- whether so many more rows could be too many for a table, where each of so many things that are kept of it was a row
+abbrev pub could_fill : ℕ → ℕ → Bool
+could_fill kept more = nat_lt 65535 (kept + more)
+
+-- how many base rows a change reads at most, of a table of which so much is kept and which has so many rows: an INSERT
+-- one for each new row, and all only where the table could be full; an UPDATE or DELETE one where its condition fixes
+-- the key
+abbrev pub most_steps : List ℕ → Change → ℕ → ℕ → ℕ
+most_steps key (Insert table new) kept rows = length new + cond (could_fill kept (length new)) rows 0
+most_steps key (Update table sets c) kept rows = cond (says_key c key) 1 rows
+most_steps key (Delete table c) kept rows = cond (says_key c key) 1 rows

@@ -1,5 +1,5 @@
 pub mod Answered
 pub mod FixedKeys
-pub mod KeyOrder
+pub mod Seen
 pub mod Sums
 pub mod TableActions

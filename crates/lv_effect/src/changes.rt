@@ -1,14 +1,16 @@
 //! What a change does to a table.
 ghost use Rattle.std.specs.Prelude.{◌≡◌, ◌≤◌, ◌+◌, length};
 ghost use Rattle.lv_schema.specs.Effects.{effect_on};
-ghost use Rattle.lv_overlay.specs.Puts.{StandUnder, rows_over};
+ghost use Rattle.lv_overlay.specs.Puts.{StandUnder, put_keys};
 ghost use Rattle.lv_versions.specs.Versions.{state_at};
 ghost use Rattle.lv_effect.specs.Answered.{GivesEffect, most_steps};
+ghost use Rattle.lv_effect.specs.Seen.{rows_seen};
 ghost use Rattle.lv_effect.specs.Sums.{ChangeSumsFit};
 
-use crate::effects::{delete_effect, insert_effect, update_effect};
+use crate::effects::{delete_effect, update_effect};
 use crate::fault::EffectFault;
-use crate::reading::{merged_rows, rows_to_try};
+use crate::inserting::insert_effect;
+use crate::reading::rows_to_try;
 use lv_overlay::{Overlay, writes_give_own_rows};
 use lv_schema::{Actions, Change, TableDef};
 use lv_values::Steps;
@@ -18,9 +20,12 @@ use std::sync::ledger::Ledger;
 
 /// What a change does to a table's rows after commit n with a transaction's own writes over them: the number of rows
 /// that it inserts, updates or deletes, and its actions, not numbered yet. Refused with a number out of range, a
-/// duplicate key or a full table, in this order. Cost: an UPDATE or DELETE whose condition fixes every key column finds
-/// its row by two binary searches; any other change reads the rows in one pass. An INSERT then searches them, and its
-/// rows before, for each of its rows.
+/// duplicate key or a full table, in this order.
+///
+/// Cost: an INSERT makes three binary searches at most for each of its rows, in the own writes, the versions and its
+/// rows before, and two to count the own writes on the table; only where these, the versions and its rows are together
+/// more than a table may have does it count the rows in one pass. An UPDATE or DELETE whose condition fixes every key
+/// column finds its row by two binary searches, and any other one reads the rows in one pass.
 pub fn effect<L: Ledger>(
     alloc: Global,
     table: &TableDef,
@@ -33,19 +38,16 @@ pub fn effect<L: Ledger>(
     requires table { base.now.def ≡ table.now }
     requires floor { base.now.floor ≤ n }
     requires own { StandUnder table.now.key table.now.no own.now.list }
-    requires sums { ChangeSumsFit change.now (rows_over table.now.key own.now.list table.now.no (state_at n base.now.versions)) }
-    ensures given { GivesEffect result (effect_on table.now change.now (rows_over table.now.key own.now.list table.now.no (state_at n base.now.versions))) }
-    ensures cost { steps.new ≤ steps.old + most_steps table.now.key change.now (length (state_at n base.now.versions)) }
+    requires sums { ChangeSumsFit change.now (rows_seen table.now base.now.versions n own.now.list) }
+    ensures given { GivesEffect result (effect_on table.now change.now (rows_seen table.now base.now.versions n own.now.list)) }
+    ensures cost { steps.new ≤ steps.old + most_steps table.now.key change.now (length base.now.versions + length (put_keys own.now.list table.now.no)) (length (state_at n base.now.versions)) }
 {
     writes_give_own_rows();
     match change {
         Change::Insert {
             table: no,
             rows: new,
-        } => {
-            let rows = merged_rows(alloc, table, base, n, own, steps)?;
-            insert_effect(alloc, *no, table, new.as_slice(), rows.as_slice())
-        }
+        } => insert_effect(alloc, *no, table, base, n, own, new.as_slice(), steps),
         Change::Update {
             table: no,
             sets,

@@ -1,70 +1,21 @@
-//! What INSERT, UPDATE and DELETE do to a table's rows.
-ghost use Rattle.std.specs.Prelude.{◌≡◌, ◌||◌, IfOk, Some, None, Ok, Err, ◌∷◌, [], length, filter, map, slice_get, ◌++◌, OnOk};
-ghost use Rattle.lv_effect.specs.TableActions.{delete_actions, update_actions};
+//! What UPDATE and DELETE do to a table's rows.
+ghost use Rattle.std.specs.Prelude.{◌≡◌, IfOk, Some, None, Ok, Err, ◌∷◌, [], length, filter, map, slice_get, ◌++◌, OnOk};
 ghost use Rattle.std.specs.List.{filter_map, flat_map};
-ghost use Rattle.lv_schema.specs.Effects.{inserts as spec_inserts, deletes as spec_deletes};
 ghost use Rattle.lv_values.specs.Order.{number_of};
-ghost use Rattle.lv_values.specs.Rows.{value_in, values_at};
-ghost use Rattle.lv_schema.specs.Effects.{has_key, first_taken, matching, set_value, with_sets, updated, wide_number, first_wide, change_fault, effect_on};
+ghost use Rattle.lv_values.specs.Rows.{value_in};
+ghost use Rattle.lv_schema.specs.Effects.{deletes as spec_deletes, matching, set_value, with_sets, updated, wide_number, first_wide, effect_on};
 ghost use Rattle.lv_schema.specs.Truth.{holds};
-ghost use Rattle.lv_schema.specs.declared.change.Change.TheVariants.{Insert, Update, Delete};
+ghost use Rattle.lv_schema.specs.declared.change.Change.TheVariants.{Update, Delete};
 ghost use Rattle.lv_schema.specs.declared.table.TableDef.{TableDef as ATable};
-ghost use Rattle.lv_effect.specs.Sums.{SumFits, RowSumsFit, SumsFit, ChangeSumsFit};
-ghost use Rattle.lv_effect.specs.KeyOrder.{AreInKeyOrder};
-ghost use Rattle.lv_effect.specs.Answered.{GivesEffect, insert_fault};
-ghost use Rattle.std.specs.Prelude.{◌+◌, nat_lt};
+ghost use Rattle.lv_effect.specs.Sums.{SumFits, RowSumsFit, SumsFit};
+ghost use Rattle.lv_effect.specs.TableActions.{delete_actions, update_actions};
+ghost use Rattle.lv_effect.specs.Answered.{GivesEffect};
 
-use crate::fault::{EffectFault, MOST_ROWS};
-use crate::searching::{contains_key, put};
-use lv_schema::{Action, ActionKind, Actions, Cond, Fault, Set, SetValue, TableDef, holds};
-use lv_values::{Copying, NoMemory, Row, Rows, Value};
+use crate::fault::EffectFault;
+use lv_schema::{Action, ActionKind, Actions, Cond, Fault, Set, SetValue, holds};
+use lv_values::{Copying, NoMemory, Row, Value};
 use std::alloc::Global;
 use std::slice::from_ref;
-
-/// The values of a row at positions, the number 0 where the row has none.
-fn key_of(alloc: Global, key: &[u8], row: &Row) -> Result<Row, NoMemory>
-    ensures { IfOk result (λ r. r ≡ values_at key.now row.now) }
-{
-    let mut values = Row::new(alloc);
-    for at in key {
-        let value = match row.as_slice().get(*at as usize) {
-            Some(value) => value.copy(alloc)?,
-            None => Value::Num(0),
-        };
-        values.push(value)?;
-    }
-    Ok(values)
-}
-
-/// Whether the row's key is taken, by an earlier row or by one of the table. Cost: two binary searches.
-fn is_taken(key: &[u8], row: &Row, earlier: &[Row], rows: &[Row]) -> bool
-    requires earlier { AreInKeyOrder key.now earlier.now }
-    requires rows { AreInKeyOrder key.now rows.now }
-    ensures { result ≡ (has_key key.now row.now earlier.now || has_key key.now row.now rows.now) }
-{
-    contains_key(key, row, earlier) || contains_key(key, row, rows)
-}
-
-/// The key of the first new row whose key is taken. Cost: for each new row a binary search among the rows and one among
-/// the new rows before it, and a copy.
-fn first_taken(
-    alloc: Global,
-    key: &[u8],
-    rows: &[Row],
-    new: &[Row],
-) -> Result<Option<Row>, NoMemory>
-    requires { AreInKeyOrder key.now rows.now }
-    ensures { IfOk result (λ taken. taken ≡ first_taken key.now rows.now new.now) }
-{
-    let mut earlier = Rows::new(alloc);
-    for row in new {
-        if is_taken(key, row, earlier.as_slice(), rows) {
-            return Ok(Some(key_of(alloc, key, row)?));
-        }
-        put(key, row.copy(alloc)?, &mut earlier)?;
-    }
-    Ok(None)
-}
 
 /// Whether a condition keeps a row.
 fn keeps(cond: &Cond, row: &Row) -> bool
@@ -172,7 +123,7 @@ fn first_wide(sets: &[Set], cond: &Cond, rows: &[Row]) -> Option<i128>
 }
 
 /// An action that carries no number yet.
-fn action(table: u32, kind: ActionKind, row: Row) -> Action
+pub(crate) fn action(table: u32, kind: ActionKind, row: Row) -> Action
     ensures table { result.table ≡ table }
     ensures statement { result.statement ≡ 0 }
     ensures kind { result.kind ≡ kind }
@@ -184,18 +135,6 @@ fn action(table: u32, kind: ActionKind, row: Row) -> Action
         kind,
         row,
     }
-}
-
-/// The actions of an INSERT.
-fn inserts(alloc: Global, table: u32, new: &[Row]) -> Result<Actions, NoMemory>
-    ensures { IfOk result (λ a. a ≡ map (spec_inserts table) new.now) }
-{
-    let mut actions = Actions::new(alloc);
-    for row in new {
-        let row = row.copy(alloc)?;
-        actions.push(action(table, ActionKind::Insert, row))?;
-    }
-    Ok(actions)
 }
 
 /// Appends the action of a DELETE on a row, where the condition keeps the row.
@@ -264,50 +203,6 @@ fn updates(
         update_row(alloc, table, sets, cond, row, &mut actions)?;
     }
     Ok(actions)
-}
-
-/// Whether a table with so many rows has no room for so many more.
-fn is_overfull(rows: usize, more: usize) -> bool
-    ensures { result ≡ nat_lt 65535 (rows + more) }
-{
-    more > MOST_ROWS || rows > MOST_ROWS - more
-}
-
-/// Why an INSERT of these rows is refused, where it is: the first key that is taken, or more rows than a table may have.
-fn insert_fault(
-    alloc: Global,
-    table: u32,
-    def: &TableDef,
-    new: &[Row],
-    rows: &[Row],
-) -> Result<Option<Fault>, NoMemory>
-    requires { AreInKeyOrder def.now.key rows.now }
-    ensures { IfOk result (λ fault. fault ≡ insert_fault table def.now new.now rows.now) }
-{
-    if let Some(key) = first_taken(alloc, def.key.as_slice(), rows, new)? {
-        return Ok(Some(Fault::Duplicate { table, key }));
-    }
-    if is_overfull(rows.len(), new.len()) {
-        return Ok(Some(Fault::TableFull { table }));
-    }
-    Ok(None)
-}
-
-/// What an INSERT does. Cost: as `first_taken`, and a copy of each new row.
-pub(crate) fn insert_effect(
-    alloc: Global,
-    table: u32,
-    def: &TableDef,
-    new: &[Row],
-    rows: &[Row],
-) -> Result<(u64, Actions), EffectFault>
-    requires { AreInKeyOrder def.now.key rows.now }
-    ensures { GivesEffect result (effect_on def.now (Insert table new.now) rows.now) }
-{
-    if let Some(fault) = insert_fault(alloc, table, def, new, rows)? {
-        return Err(EffectFault::Stmt(fault));
-    }
-    Ok((new.len() as u64, inserts(alloc, table, new)?))
 }
 
 /// What an UPDATE does. Cost: three passes over the rows.

@@ -4,7 +4,7 @@ use lv_schema::Fault;
 use lv_values::NoMemory;
 
 /// How many rows a table may have.
-pub(crate) const MOST_ROWS: usize = 65535;
+pub(crate) const MOST_ROWS: u64 = 65535;
 
 /// Why a change has no effect.
 #[derive(Drop)]

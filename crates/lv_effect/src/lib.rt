@@ -5,8 +5,11 @@ mod changes;
 mod effects;
 mod fault;
 mod fixing;
+mod inserting;
+mod laws;
 mod reading;
-mod searching;
 
 pub use changes::effect;
 pub use fault::EffectFault;
+pub use laws::sums_of_a_bound_change_fit;
+pub use reading::{merged_rows, rows_to_try};

@@ -6,9 +6,10 @@ ghost use Rattle.lv_schema.specs.Effects.{matching};
 ghost use Rattle.lv_schema.specs.Keys.{row_at};
 ghost use Rattle.lv_schema.specs.Once.{Ascends};
 ghost use Rattle.lv_schema.specs.declared.change.Set.{Set as ASet};
-ghost use Rattle.lv_overlay.specs.Puts.{StandUnder, rows_over};
+ghost use Rattle.lv_overlay.specs.Puts.{StandUnder};
 ghost use Rattle.lv_versions.specs.Versions.{state_at};
 ghost use Rattle.lv_effect.specs.FixedKeys.{says_key};
+ghost use Rattle.lv_effect.specs.Seen.{rows_seen};
 ghost use Rattle.lv_effect.specs.Sums.{SumsFit};
 
 use crate::fixing::fixed_key;
@@ -19,8 +20,9 @@ use lv_versions::Versions;
 use std::alloc::Global;
 use std::sync::ledger::Ledger;
 
-/// The rows of a table after commit n with the writes over them. Cost: one pass.
-pub(crate) fn merged_rows<L: Ledger>(
+/// The rows of a table after commit n with a transaction's own writes over them. Want of memory is the only error.
+/// Cost: one pass over the versions, and where there are writes of the table one over these and the rows.
+pub fn merged_rows<L: Ledger>(
     alloc: Global,
     table: &TableDef,
     base: &Versions,
@@ -30,7 +32,7 @@ pub(crate) fn merged_rows<L: Ledger>(
 ) -> Result<Rows, NoMemory>
     requires table { base.now.def ≡ table.now }
     requires floor { base.now.floor ≤ n }
-    ensures rows { IfOk result (λ rows. rows ≡ rows_over table.now.key own.now.list table.now.no (state_at n base.now.versions)) }
+    ensures rows { IfOk result (λ rows. rows ≡ rows_seen table.now base.now.versions n own.now.list) }
     ensures cost { steps.new ≤ steps.old + length (state_at n base.now.versions) }
 {
     let rows = base.scan(alloc, n, steps)?;
@@ -38,7 +40,7 @@ pub(crate) fn merged_rows<L: Ledger>(
 }
 
 /// The row at a key after commit n with the writes over it. Cost: two binary searches.
-fn row_there<'a, L: Ledger>(
+pub(crate) fn row_there<'a, L: Ledger>(
     table: &TableDef,
     base: &'a Versions,
     n: u64,
@@ -49,7 +51,7 @@ fn row_there<'a, L: Ledger>(
     requires table { base.now.def ≡ table.now }
     requires floor { base.now.floor ≤ n }
     requires own { StandUnder table.now.key table.now.no own.now.list }
-    ensures found { MatchOption result (row_at table.now.key key.now (rows_over table.now.key own.now.list table.now.no (state_at n base.now.versions)) ≡ None) (λ row. row_at table.now.key key.now (rows_over table.now.key own.now.list table.now.no (state_at n base.now.versions)) ≡ Some row.now) }
+    ensures found { MatchOption result (row_at table.now.key key.now (rows_seen table.now base.now.versions n own.now.list) ≡ None) (λ row. row_at table.now.key key.now (rows_seen table.now base.now.versions n own.now.list) ≡ Some row.now) }
     ensures cost { steps.new ≤ steps.old + 1 }
 {
     writes_give_own_rows();
@@ -72,7 +74,7 @@ fn rows_there<L: Ledger>(
     requires table { base.now.def ≡ table.now }
     requires floor { base.now.floor ≤ n }
     requires own { StandUnder table.now.key table.now.no own.now.list }
-    ensures rows { IfOk result (λ rows. rows ≡ option_to_list (row_at table.now.key key.now (rows_over table.now.key own.now.list table.now.no (state_at n base.now.versions)))) }
+    ensures rows { IfOk result (λ rows. rows ≡ option_to_list (row_at table.now.key key.now (rows_seen table.now base.now.versions n own.now.list))) }
     ensures cost { steps.new ≤ steps.old + 1 }
 {
     let mut rows = Rows::new(alloc);
@@ -82,9 +84,10 @@ fn rows_there<L: Ledger>(
     Ok(rows)
 }
 
-/// The rows to try: the one with a key, where the condition fixes it, or else all. Cost: that of finding the key in the
-/// condition and two binary searches, or else one pass.
-pub(crate) fn rows_to_try<L: Ledger>(
+/// Rows of a table after commit n with a transaction's own writes over them, of which a condition keeps the same as of
+/// all: the one with a key, where the condition fixes every key column, or else all. Want of memory is the only error.
+/// Cost: that of finding the key in the condition and two binary searches, or else that of `merged_rows`.
+pub fn rows_to_try<L: Ledger>(
     alloc: Global,
     table: &TableDef,
     base: &Versions,
@@ -96,8 +99,8 @@ pub(crate) fn rows_to_try<L: Ledger>(
     requires table { base.now.def ≡ table.now }
     requires floor { base.now.floor ≤ n }
     requires own { StandUnder table.now.key table.now.no own.now.list }
-    ensures all { IfOk result (λ tried. matching cond.now tried ≡ matching cond.now (rows_over table.now.key own.now.list table.now.no (state_at n base.now.versions))) }
-    ensures sums { (sets : List ASet) → SumsFit sets (rows_over table.now.key own.now.list table.now.no (state_at n base.now.versions)) → IfOk result (λ tried. SumsFit sets tried) }
+    ensures all { IfOk result (λ tried. matching cond.now tried ≡ matching cond.now (rows_seen table.now base.now.versions n own.now.list)) }
+    ensures sums { (sets : List ASet) → SumsFit sets (rows_seen table.now base.now.versions n own.now.list) → IfOk result (λ tried. SumsFit sets tried) }
     ensures cost { says_key cond.now table.now.key ≡ false → steps.new ≤ steps.old + length (state_at n base.now.versions) }
     ensures few { says_key cond.now table.now.key ≡ true → steps.new ≤ steps.old + 1 }
 {

@@ -1,19 +1,20 @@
 -- Where a search among the writes ends, and what stands there.
-use Rattle.std.proofs.Common.{◌≡◌, ℕ, zero, suc, Bool, true, false, cond, List, [], ◌∷◌, Option, Some, None, refl, ap, ◌∙◌}
-use Rattle.std.specs.Prelude.{slice_get}
+use Rattle.std.proofs.Common.{◌≡◌, ℕ, zero, suc, ◌≤◌, Bool, true, false, cond, List, [], ◌∷◌, Option, Some, None, refl, ap, ◌∙◌, arith}
+use Rattle.std.specs.Prelude.{◌==◌, nat_lt, slice_get}
 use Rattle.std.specs.List.{AllByRecursion}
 use Rattle.std.specs.Ordering.{is_lt}
 use Rattle.std.specs.declared.cmp.Ordering.TheVariants.{Less}
+use Rattle.std.proofs.lemmas.Bool.Decides.{nat_tests}
 use Rattle.lv_values.specs.declared.value.Value.{Value}
 use Rattle.lv_schema.specs.Commits.{Place, place_cmp, same_place}
 use Rattle.lv_schema.specs.Once.{Ascends}
 use Rattle.lv_schema.proofs.Apart.{all_weaker}
 use Rattle.lv_shelf.specs.Cuts.{Falls, IsCut}
 use Rattle.lv_overlay.specs.declared.put.Put.{Put}
-use Rattle.lv_overlay.specs.Ordered.{put_place, put_cmp, is_before, is_there}
+use Rattle.lv_overlay.specs.Ordered.{put_place, put_cmp, is_before, is_below, is_there}
 use Rattle.lv_overlay.specs.PlaceOrder.{place_total}
 use Rattle.lv_overlay.specs.Puts.{put_at}
-use Rattle.lv_overlay.proofs.Places.{before_differs, after_differs, less_of, comes_after}
+use Rattle.lv_overlay.proofs.Places.{before_differs, after_differs, less_of, comes_after, table_order}
 
 -- a write before one that is before a place is before it
 before_through : (p : Place) (a b : Put) → put_cmp a b ≡ Less → is_before p b ≡ true → is_before p a ≡ true
@@ -23,6 +24,25 @@ pub falls : (p : Place) (puts : List Put) → Ascends put_cmp puts → Falls (is
 falls p [] up = tt
 falls p (q ∷ puts) up =
     (all_weaker (λ r. put_cmp q r ≡ Less) (λ r. is_before p r ≡ true → is_before p q ≡ true) (λ r less t. before_through p q r less t) puts up.0, falls p puts up.1)
+
+-- the same for the writes of the tables below a number
+below_through : (bound : ℕ) (a b : Put) → put_cmp a b ≡ Less → is_below bound b ≡ true → is_below bound a ≡ true
+below_through bound a b less t = by a.table b.table (table_order a b less) t
+  where
+    by : (m n : ℕ) → m ≤ n → nat_lt n bound ≡ true → nat_lt m bound ≡ true
+    by m n le h = grind (arith, nat_tests)
+
+pub below_falls : (bound : ℕ) (puts : List Put) → Ascends put_cmp puts → Falls (is_below bound) puts
+below_falls bound [] up = tt
+below_falls bound (q ∷ puts) up =
+    (all_weaker (λ r. put_cmp q r ≡ Less) (λ r. is_below bound r ≡ true → is_below bound q ≡ true) (λ r less t. below_through bound q r less t) puts up.0, below_falls bound puts up.1)
+
+-- they are of other tables than that one
+pub below_other : (t : ℕ) (q : Put) → is_below t q ≡ true → (t == q.table) ≡ false
+below_other t q h = by q.table h
+  where
+    by : (n : ℕ) → nat_lt n t ≡ true → (t == n) ≡ false
+    by n lt = grind (arith, nat_tests)
 
 -- ---- what is found at a place
 pub none_above : (p : Place) (puts : List Put) → AllByRecursion (λ q. place_cmp p (put_place q) ≡ Less) puts → put_at puts p ≡ None

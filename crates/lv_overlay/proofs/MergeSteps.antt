@@ -5,7 +5,6 @@ use Rattle.std.specs.List.{AllByRecursion, cons_option}
 use Rattle.std.specs.Ordering.{is_eq, is_gt, ordering_reverse}
 use Rattle.std.specs.declared.cmp.Ordering.{Ordering}
 use Rattle.std.specs.declared.cmp.Ordering.TheVariants.{Less, Equal, Greater}
-use Rattle.std.proofs.lemmas.Bool.Decides.{nat_tests}
 use Rattle.std.proofs.lemmas.List.{append-nil}
 use Rattle.lv_values.specs.declared.value.Value.{Value}
 use Rattle.lv_values.specs.Order.{row_cmp}
@@ -18,7 +17,8 @@ use Rattle.lv_overlay.specs.declared.put.Put.{Put}
 use Rattle.lv_overlay.specs.Ordered.{put_place, put_cmp, is_less, is_of, is_same, AreFrom}
 use Rattle.lv_overlay.specs.Puts.{rows_over}
 use Rattle.lv_overlay.proofs.Cutting.{above_through}
-use Rattle.lv_overlay.proofs.RowsOver.{in_table, row_first, put_first, put_over, all_later, rows_alone}
+use Rattle.lv_overlay.proofs.Places.{and_left, and_right, in_table, same_number}
+use Rattle.lv_overlay.proofs.RowsOver.{row_first, put_first, put_over, all_later, rows_alone}
 
 abbrev ARow : Type 0
 ARow = List Value
@@ -50,17 +50,6 @@ next_suc P (suc n) (q ∷ puts) a = next_suc P n puts a
 
 pub from_next : (t n : ℕ) (puts : List Put) → AreFrom t (drop n puts) → AreFrom t (drop (n + 1) puts)
 from_next t n puts a = let one : suc n ≡ n + 1 = omega arith in subst (λ m. AreFrom t (drop m puts)) one (next_suc (λ q. t ≤ q.table) n puts a)
-
-same_number : (x y : ℕ) → (x == y) ≡ true → y ≡ x
-same_number x y e = grind (arith, nat_tests)
-
-and_left : (a b : Bool) → (a && b) ≡ true → a ≡ true
-and_left true b e = refl
-and_left false b e = e
-
-and_right : (a b : Bool) → (a && b) ≡ true → b ≡ true
-and_right true b e = e
-and_right false b e = cc
 
 less_turned : (k q : ARow) → is_gt (row_cmp k q) ≡ true → row_cmp q k ≡ Less
 less_turned k q h = row_total.antisymm q k ∙ by (row_cmp k q) h
@@ -115,7 +104,7 @@ module _ (key : List ℕ) (t : ℕ) (puts : List Put) (at : ℕ) (up : Ascends p
           let first = less_turned (values_at key row) q.key (and_right (t == q.table) _ l) in
           let below : AllByRecursion (λ r. row_cmp q.key (values_at key r) ≡ Less) (row ∷ others) =
           (first, all_weaker (λ r. key_cmp key row r ≡ Less) (λ r. row_cmp q.key (values_at key r) ≡ Less) (λ r. row_total.trans q.key (values_at key row) (values_at key r) first) others rise.0) in
-          written q rows after (row ∷ others) e (made q e) (put_first key t q (drop (at + 1) puts) (row ∷ others) (same_number t q.table (and_left _ _ l)) (up_from q e) below)
+          written q rows after (row ∷ others) e (made q e) (put_first key t q (drop (at + 1) puts) (row ∷ others) (sym (same_number t q.table (and_left _ _ l))) (up_from q e) below)
 
   pub over_step : (row : ARow) (others rows after : List ARow) → is_same t (values_at key row) (slice_get puts at) ≡ true → ((q : Put) → slice_get puts at ≡ Some q → after ≡ rows ++ cons_option q.row [])
       → Ascends (key_cmp key) (row ∷ others) → after ++ rows_over key (drop (at + 1) puts) t others ≡ rows ++ rows_over key (drop at puts) t (row ∷ others)
@@ -126,7 +115,7 @@ module _ (key : List ℕ) (t : ℕ) (puts : List Put) (at : ℕ) (up : Ascends p
       by (Some q) e l =
           one_row q.row rows after (rows_over key (drop (at + 1) puts) t others) (made q e)
           ∙ ap (λ l. rows ++ l)
-          (sym (put_over key t q (drop (at + 1) puts) row others (same_number t q.table (and_left _ _ l)) (up_from q e) rise (equal_of (values_at key row) q.key (and_right (t == q.table) _ l)))
+          (sym (put_over key t q (drop (at + 1) puts) row others (sym (same_number t q.table (and_left _ _ l))) (up_from q e) rise (equal_of (values_at key row) q.key (and_right (t == q.table) _ l)))
           ∙ ap (λ ps. rows_over key ps t (row ∷ others)) (sym (drop_there puts at q e)))
 
   -- every write that is left comes after the row
@@ -142,7 +131,7 @@ module _ (key : List ℕ) (t : ℕ) (puts : List Put) (at : ℕ) (up : Ascends p
 
           at_table : (b : Bool) → (t == q.table) ≡ b → (b && is_gt (row_cmp k q.key)) ≡ false → (b && is_eq (row_cmp k q.key)) ≡ false → AllByRecursion (λ r. place_cmp (t, k) (put_place r) ≡ Less) (q ∷ drop (at + 1) puts)
           at_table true f g h =
-              let first : place_cmp (t, k) (put_place q) ≡ Less = subst (λ u. place_cmp (t, k) (u, q.key) ≡ Less) (sym (same_number t q.table f)) (in_table t k q.key ∙ less_of k q.key g h) in
+              let first : place_cmp (t, k) (put_place q) ≡ Less = subst (λ u. place_cmp (t, k) (u, q.key) ≡ Less) (same_number t q.table f) (in_table t k q.key ∙ less_of k q.key g h) in
               (first, above_through (t, k) q (drop (at + 1) puts) first up'.0)
           at_table false f g h = all_later key t k (q ∷ drop (at + 1) puts) (subst (AreFrom t) (drop_there puts at q e) from) up' f
 
@@ -159,7 +148,7 @@ module _ (key : List ℕ) (t : ℕ) (puts : List Put) (at : ℕ) (up : Ascends p
     where
       by : (o : Option Put) → slice_get puts at ≡ o → is_of t o ≡ true → after ++ rows_over key (drop (at + 1) puts) t [] ≡ rows ++ rows_over key (drop at puts) t []
       by None e l = cc
-      by (Some q) e l = written q rows after [] e (made q e) (put_first key t q (drop (at + 1) puts) [] (same_number t q.table l) (up_from q e) tt)
+      by (Some q) e l = written q rows after [] e (made q e) (put_first key t q (drop (at + 1) puts) [] (sym (same_number t q.table l)) (up_from q e) tt)
 
   none_left : is_of t (slice_get puts at) ≡ false → is_of t (slice_get (drop at puts) 0) ≡ false
   none_left own = by (slice_get puts at) refl own

@@ -16,19 +16,12 @@ use Rattle.lv_schema.proofs.NetsLead.{same_row}
 use Rattle.lv_schema.proofs.OnceLists.{once_up}
 use Rattle.lv_overlay.specs.declared.put.Put.{Put}
 use Rattle.lv_overlay.specs.Puts.{put_at, over, put_keys, row_stands, rows_over, stands_under, StandUnder, AreOwnRows}
+use Rattle.lv_overlay.proofs.Places.{and_left, and_right}
 
 abbrev ARow : Type 0
 ARow = List Value
 
 module _ (key : List ℕ) (t : ℕ) where
-  and_left : (a b : Bool) → (a && b) ≡ true → a ≡ true
-  and_left true b e = refl
-  and_left false b e = e
-
-  and_right : (a b : Bool) → (a && b) ≡ true → b ≡ true
-  and_right true b e = e
-  and_right false b e = cc
-
   -- a row that was put at a key of the table has that key
   put_key : (k r : ARow) (puts : List Put) → StandUnder key t puts → put_at puts (t, k) ≡ Some (Some r) → values_at key r ≡ k
   put_key k r [] stand e = cc

@@ -1,23 +1,59 @@
 -- Places that are the same, and places of which one comes before the other.
-use Rattle.std.proofs.Common.{◌≡◌, ℕ, Bool, true, false, ◌&&◌, refl, sym, ap, ◌∙◌, subst, arith}
-use Rattle.std.specs.Prelude.{◌==◌}
-use Rattle.std.specs.Ordering.{is_lt, ordering_reverse}
+use Rattle.std.proofs.Common.{◌≡◌, ℕ, ◌<◌, ◌≤◌, Bool, true, false, ◌&&◌, List, refl, sym, ap, ◌∙◌, subst, inl, inr, arith}
+use Rattle.std.specs.Prelude.{◌==◌, ◌⊎◌}
+use Rattle.std.specs.Ordering.{is_lt, ordering_reverse, ordering_then}
+use Rattle.std.specs.Cmp.{nat_cmp_is}
 use Rattle.std.specs.declared.cmp.Ordering.{Ordering}
 use Rattle.std.specs.declared.cmp.Ordering.TheVariants.{Less, Equal, Greater}
+use Rattle.std.proofs.lemmas.Bool.{cases_lt}
 use Rattle.std.proofs.lemmas.Cmp.{tied_itself}
 use Rattle.std.proofs.lemmas.Bool.Decides.{nat_tests}
-use Rattle.lv_values.specs.Order.{row_eq}
+use Rattle.lv_values.specs.declared.value.Value.{Value}
+use Rattle.lv_values.specs.Order.{row_cmp, row_eq}
 use Rattle.lv_schema.specs.Commits.{Place, place_cmp, same_place}
 use Rattle.lv_schema.proofs.FirstCommitter.{place_of}
 use Rattle.lv_schema.proofs.NetsLead.{row_itself}
+use Rattle.lv_overlay.specs.declared.put.Put.{Put}
+use Rattle.lv_overlay.specs.Ordered.{put_place, put_cmp}
 use Rattle.lv_overlay.specs.PlaceOrder.{place_total, place_exact}
 
-number_itself : (n : ℕ) → (n == n) ≡ true
-number_itself n = grind (arith, nat_tests)
+-- ---- tests
+pub and_left : (a b : Bool) → (a && b) ≡ true → a ≡ true
+and_left true b e = refl
+and_left false b e = e
 
-both_true : (a b : Bool) → a ≡ true → b ≡ true → (a && b) ≡ true
+pub and_right : (a b : Bool) → (a && b) ≡ true → b ≡ true
+and_right true b e = e
+and_right false b e = cc
+
+pub both_true : (a b : Bool) → a ≡ true → b ≡ true → (a && b) ≡ true
 both_true true b e f = f
 both_true false b e f = cc
+
+pub number_itself : (n : ℕ) → (n == n) ≡ true
+number_itself n = grind (arith, nat_tests)
+
+pub same_number : (x y : ℕ) → (x == y) ≡ true → x ≡ y
+same_number x y e = grind (arith, nat_tests)
+
+-- ---- tables
+pub in_table : (t : ℕ) (a b : List Value) → place_cmp (t, a) (t, b) ≡ row_cmp a b
+in_table t a b = ap (λ o. ordering_then o (row_cmp a b)) (sym (nat_cmp_is t t Equal refl))
+
+pub later_table : (t u : ℕ) (a b : List Value) → t < u → place_cmp (t, a) (u, b) ≡ Less
+later_table t u a b lt = ap (λ o. ordering_then o (row_cmp a b)) (sym (nat_cmp_is t u Less lt))
+
+pub table_order : (a b : Put) → put_cmp a b ≡ Less → a.table ≤ b.table
+table_order a b less = by (cases_lt b.table a.table)
+  where
+    by : (b.table < a.table) ⊎ (a.table ≤ b.table) → a.table ≤ b.table
+    by (inl lt) =
+        let more : put_cmp b a ≡ Less = later_table b.table a.table b.key a.key lt in
+        let turned : put_cmp a b ≡ Greater = place_total.antisymm (put_place a) (put_place b) ∙ ap ordering_reverse more in
+        cc
+    by (inr le) = le
+
+-- ---- places
 
 pub place_itself : (p : Place) → same_place p p ≡ true
 place_itself p = both_true (p.0 == p.0) (row_eq p.1 p.1) (number_itself p.0) (row_itself p.1)

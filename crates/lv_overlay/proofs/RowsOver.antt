@@ -1,13 +1,11 @@
 -- The rows over a table's rows, one key after another.
-use Rattle.std.proofs.Common.{◌≡◌, ℕ, zero, suc, ◌<◌, ◌≤◌, Bool, true, false, cond, ◌&&◌, List, [], ◌∷◌, ◌++◌, map, drop, Option, Some, None, refl, sym, ap, ap₂, ◌∙◌, subst, inl, inr, arith}
-use Rattle.std.specs.Prelude.{◌==◌, ◌⊎◌, slice_get, unwrap_or}
+use Rattle.std.proofs.Common.{◌≡◌, ℕ, zero, suc, ◌<◌, ◌≤◌, Bool, true, false, cond, ◌&&◌, List, [], ◌∷◌, ◌++◌, map, drop, Option, Some, None, refl, sym, ap, ap₂, ◌∙◌, subst, arith}
+use Rattle.std.specs.Prelude.{◌==◌, nat_lt, slice_get, unwrap_or}
 use Rattle.std.specs.List.{AllByRecursion, cons_option, filter_map}
-use Rattle.std.specs.Ordering.{is_eq, is_lt, ordering_reverse, ordering_then}
-use Rattle.std.specs.Cmp.{nat_cmp_is}
+use Rattle.std.specs.Ordering.{is_eq, ordering_reverse}
 use Rattle.std.specs.FinMap.Entries.{by_order}
 use Rattle.std.specs.declared.cmp.Ordering.{Ordering}
 use Rattle.std.specs.declared.cmp.Ordering.TheVariants.{Less, Equal, Greater}
-use Rattle.std.proofs.lemmas.Bool.{cases_lt}
 use Rattle.std.proofs.lemmas.Bool.Decides.{nat_tests}
 use Rattle.std.proofs.lemmas.Cmp.{tied_itself}
 use Rattle.lv_values.specs.declared.value.Value.{Value}
@@ -21,10 +19,10 @@ use Rattle.lv_schema.proofs.Apart.{all_append, all_map, all_weaker}
 use Rattle.lv_schema.proofs.NetsLead.{row_itself}
 use Rattle.lv_shelf.specs.Cuts.{IsCut}
 use Rattle.lv_overlay.specs.declared.put.Put.{Put}
-use Rattle.lv_overlay.specs.Ordered.{put_place, put_cmp, is_before, is_of, AreFrom}
-use Rattle.lv_overlay.specs.PlaceOrder.{place_total}
+use Rattle.lv_overlay.specs.Ordered.{put_place, put_cmp, is_below, is_of, AreFrom}
 use Rattle.lv_overlay.specs.Puts.{put_at, over, put_keys, rows_over}
-use Rattle.lv_overlay.proofs.Cutting.{none_above, above_through}
+use Rattle.lv_overlay.proofs.Cutting.{none_above, above_through, below_other}
+use Rattle.lv_overlay.proofs.Places.{in_table, later_table, number_itself, same_number, table_order}
 
 abbrev ARow : Type 0
 ARow = List Value
@@ -72,18 +70,6 @@ same_picks f g (x ∷ xs) a = ap₂ cons_option a.0 (same_picks f g xs a.1)
 
 key_differs : (k q : ARow) → row_cmp k q ≡ Less → row_eq q k ≡ false
 key_differs k q less = ap is_eq (row_total.antisymm q k ∙ ap ordering_reverse less)
-
-number_itself : (n : ℕ) → (n == n) ≡ true
-number_itself n = grind (arith, nat_tests)
-
-pub in_table : (t : ℕ) (a b : ARow) → place_cmp (t, a) (t, b) ≡ row_cmp a b
-in_table t a b = ap (λ o. ordering_then o (row_cmp a b)) (sym (nat_cmp_is t t Equal refl))
-
-later_table : (t u : ℕ) (a b : ARow) → t < u → place_cmp (t, a) (u, b) ≡ Less
-later_table t u a b lt = ap (λ o. ordering_then o (row_cmp a b)) (sym (nat_cmp_is t u Less lt))
-
-same_number : (x y : ℕ) → (x == y) ≡ true → x ≡ y
-same_number x y e = grind (arith, nat_tests)
 
 -- the keys of the writes after a place
 keys_after : (t : ℕ) (k : ARow) (puts : List Put) → AllByRecursion (λ q. place_cmp (t, k) (put_place q) ≡ Less) puts → Above k (put_keys puts t)
@@ -226,35 +212,19 @@ module _ (key : List ℕ) where
   put_elsewhere t q puts rows e =
       ap (λ b. filter_map (λ k. unwrap_or (cond (b && row_eq k q.key) (Some q.row) (put_at puts (t, k))) (row_at key k rows)) (once row_cmp (map (values_at key) rows ++ cond b (q.key ∷ put_keys puts t) (put_keys puts t)))) e
 
-  not_less : (a : ARow) → is_lt (row_cmp a []) ≡ false
-  not_less [] = refl
-  not_less (v ∷ a) = refl
-
-  before_table : (t : ℕ) (q : Put) → is_before (t, []) q ≡ true → (t == q.table) ≡ false
-  before_table t q h = by (t == q.table) refl
-    where
-      by : (b : Bool) → (t == q.table) ≡ b → b ≡ false
-      by true e =
-          let one : q.table ≡ t = sym (same_number t q.table e) in
-          let less : is_lt (place_cmp (t, q.key) (t, [])) ≡ true = subst (λ u. is_lt (place_cmp (u, q.key) (t, [])) ≡ true) one h in
-          let not : is_lt (place_cmp (t, q.key) (t, [])) ≡ false = ap is_lt (in_table t q.key []) ∙ not_less q.key in
-          cc
-      by false e = refl
-
-  pub rows_from : (t n : ℕ) (puts : List Put) (rows : List ARow) → IsCut (is_before (t, [])) n puts → rows_over key puts t rows ≡ rows_over key (drop n puts) t rows
+  pub rows_from : (t n : ℕ) (puts : List Put) (rows : List ARow) → IsCut (is_below t) n puts → rows_over key puts t rows ≡ rows_over key (drop n puts) t rows
   rows_from t zero puts rows cut = refl
   rows_from t (suc n) [] rows cut = absurd cut
-  rows_from t (suc n) (q ∷ puts) rows cut = put_elsewhere t q puts rows (before_table t q cut.0) ∙ rows_from t n puts rows cut.1
+  rows_from t (suc n) (q ∷ puts) rows cut = put_elsewhere t q puts rows (below_other t q cut.0) ∙ rows_from t n puts rows cut.1
 
-  table_from : (t : ℕ) (q : Put) → is_before (t, []) q ≡ false → t ≤ q.table
-  table_from t q h = by (cases_lt q.table t)
+  table_from : (t : ℕ) (q : Put) → is_below t q ≡ false → t ≤ q.table
+  table_from t q h = by q.table h
     where
-      by : (q.table < t) ⊎ (t ≤ q.table) → t ≤ q.table
-      by (inl lt) = let less : is_before (t, []) q ≡ true = ap is_lt (later_table q.table t q.key [] lt) in cc
-      by (inr le) = le
+      by : (n : ℕ) → nat_lt n t ≡ false → t ≤ n
+      by n lt = grind (arith, nat_tests)
 
-  pub all_from_table : (t n : ℕ) (puts : List Put) → IsCut (is_before (t, [])) n puts → AreFrom t (drop n puts)
-  all_from_table t zero puts cut = all_weaker (λ q. is_before (t, []) q ≡ false) (λ q. t ≤ q.table) (λ q h. table_from t q h) puts cut
+  pub all_from_table : (t n : ℕ) (puts : List Put) → IsCut (is_below t) n puts → AreFrom t (drop n puts)
+  all_from_table t zero puts cut = all_weaker (λ q. is_below t q ≡ false) (λ q. t ≤ q.table) (λ q h. table_from t q h) puts cut
   all_from_table t (suc n) [] cut = absurd cut
   all_from_table t (suc n) (q ∷ puts) cut = all_from_table t n puts cut.1
 
@@ -279,15 +249,6 @@ module _ (key : List ℕ) where
 
       behind : (a b c : ℕ) → a < b → b ≤ c → (a == c) ≡ false
       behind a b c lt le = grind (arith, nat_tests)
-
-      table_order : (a b : Put) → put_cmp a b ≡ Less → a.table ≤ b.table
-      table_order a b less = by (cases_lt b.table a.table)
-        where
-          by : (b.table < a.table) ⊎ (a.table ≤ b.table) → a.table ≤ b.table
-          by (inl lt) = let more : put_cmp b a ≡ Less = later_table b.table a.table b.key a.key lt in
-              let turned : put_cmp a b ≡ Greater = place_total.antisymm (put_place a) (put_place b) ∙ ap ordering_reverse more in
-              cc
-          by (inr le) = le
 
       next : (qs : List Put) → AreFrom t qs → Ascends put_cmp (q ∷ qs) → is_of t (slice_get qs 0) ≡ false
       next [] f u = refl

@@ -1,5 +1,5 @@
 -- A write that comes in, or that takes the place of the one at its place.
-use Rattle.std.proofs.Common.{◌≡◌, ℕ, zero, suc, Bool, true, false, cond, ◌&&◌, List, [], ◌∷◌, set, Option, Some, None, refl, sym, ap, ◌∙◌, subst}
+use Rattle.std.proofs.Common.{◌≡◌, ℕ, zero, suc, Bool, true, false, cond, List, [], ◌∷◌, set, Option, Some, None, refl, sym, ap, ◌∙◌, subst}
 use Rattle.std.specs.Prelude.{slice_get}
 use Rattle.std.specs.List.{AllByRecursion, insert, list_all}
 use Rattle.std.specs.declared.cmp.Ordering.TheVariants.{Less}
@@ -12,7 +12,7 @@ use Rattle.lv_overlay.specs.declared.put.Put.{Put}
 use Rattle.lv_overlay.specs.Ordered.{put_place, put_cmp, is_before, is_there}
 use Rattle.lv_overlay.specs.Puts.{put_at, PutIs}
 use Rattle.lv_overlay.proofs.Cutting.{above_through}
-use Rattle.lv_overlay.proofs.Places.{after_differs, comes_after, less_of, place_itself}
+use Rattle.lv_overlay.proofs.Places.{after_differs, and_left, and_right, both_true, comes_after, less_of, place_itself}
 
 all_insert : {X : Type 0} (P : X → Type 0) (xs : List X) (i : ℕ) (x : X) → P x → AllByRecursion P xs → AllByRecursion P (insert xs i x)
 all_insert P xs zero x h a = (h, a)
@@ -100,24 +100,12 @@ pub replaced_put : (q : Put) (at : ℕ) (puts : List Put) → Ascends put_cmp pu
 replaced_put q at puts up e = let t = there (put_place q) (slice_get puts at) e in set_put q t.0 t.2 at puts up t.1
 
 -- ---- what each write passes
-and_left : (a b : Bool) → (a && b) ≡ true → a ≡ true
-and_left true b e = refl
-and_left false b e = e
-
-and_right : (a b : Bool) → (a && b) ≡ true → b ≡ true
-and_right true b e = e
-and_right false b e = cc
-
-both : (a b : Bool) → a ≡ true → b ≡ true → (a && b) ≡ true
-both true b e f = f
-both false b e f = cc
-
 pub insert_passes : (test : Put → Bool) (puts : List Put) (i : ℕ) (q : Put) → test q ≡ true → list_all test puts ≡ true → list_all test (insert puts i q) ≡ true
-insert_passes test puts zero q h a = both (test q) _ h a
-insert_passes test [] (suc i) q h a = both (test q) _ h refl
-insert_passes test (r ∷ puts) (suc i) q h a = both (test r) _ (and_left _ _ a) (insert_passes test puts i q h (and_right (test r) _ a))
+insert_passes test puts zero q h a = both_true (test q) _ h a
+insert_passes test [] (suc i) q h a = both_true (test q) _ h refl
+insert_passes test (r ∷ puts) (suc i) q h a = both_true (test r) _ (and_left _ _ a) (insert_passes test puts i q h (and_right (test r) _ a))
 
 pub set_passes : (test : Put → Bool) (puts : List Put) (i : ℕ) (q : Put) → test q ≡ true → list_all test puts ≡ true → list_all test (set puts i q) ≡ true
 set_passes test [] i q h a = refl
-set_passes test (r ∷ puts) zero q h a = both (test q) _ h (and_right (test r) _ a)
-set_passes test (r ∷ puts) (suc i) q h a = both (test r) _ (and_left _ _ a) (set_passes test puts i q h (and_right (test r) _ a))
+set_passes test (r ∷ puts) zero q h a = both_true (test q) _ h (and_right (test r) _ a)
+set_passes test (r ∷ puts) (suc i) q h a = both_true (test r) _ (and_left _ _ a) (set_passes test puts i q h (and_right (test r) _ a))

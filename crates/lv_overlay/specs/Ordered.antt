@@ -1,5 +1,5 @@
 -- The order of the writes, by table and key.
-use Rattle.std.specs.Prelude.{ℕ, ◌==◌, ◌&&◌, ◌≤◌, false, Bool, List, Option, Some, None}
+use Rattle.std.specs.Prelude.{ℕ, ◌==◌, ◌&&◌, ◌≤◌, nat_lt, false, Bool, List, Option, Some, None}
 use Rattle.std.specs.List.{AllByRecursion}
 use Rattle.std.specs.Ordering.{is_eq, is_gt, is_lt}
 use Rattle.std.specs.declared.cmp.Ordering.{Ordering}
@@ -21,6 +21,10 @@ is_before p q = is_lt (place_cmp (put_place q) p)
 abbrev pub is_there : Place → Option Put → Bool
 is_there p None = false
 is_there p (Some q) = same_place p (put_place q)
+
+-- a write of one of the tables below a number
+abbrev pub is_below : ℕ → Put → Bool
+is_below bound q = nat_lt q.table bound
 
 -- a write of the table
 abbrev pub is_of : ℕ → Option Put → Bool

@@ -8,7 +8,7 @@ use Rattle.std.proofs.lemmas.Cmp.{then_total, on_total, nat_cmp_total}
 use Rattle.std.specs.declared.cmp.Ordering.{Ordering}
 use Rattle.std.specs.declared.cmp.Ordering.TheVariants.{Less, Equal, Greater}
 use Rattle.lv_values.specs.declared.value.Value.{Value}
-use Rattle.lv_values.specs.OrderLaws.{row_total, row_exact}
+use Rattle.lv_values.specs.OrderLaws.{both_tie, row_total, row_exact}
 use Rattle.lv_schema.specs.Commits.{Place, place_cmp}
 
 abbrev table_of : Place → ℕ
@@ -19,11 +19,6 @@ key_of p = p.1
 
 pub place_total : IsTotalOrder place_cmp
 place_total = then_total (on_total table_of nat_cmp_total) (on_total key_of row_total)
-
-both_tie : (a b : Ordering) → ordering_then a b ≡ Equal → (a ≡ Equal) × (b ≡ Equal)
-both_tie Less b h = cc
-both_tie Equal b h = (refl, h)
-both_tie Greater b h = cc
 
 same_pair : (a b : Place) → a.0 ≡ b.0 → a.1 ≡ b.1 → a ≡ b
 same_pair a b e f = ap (λ t. (t, a.1)) e ∙ ap (λ k. (b.0, k)) f

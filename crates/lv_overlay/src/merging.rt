@@ -157,7 +157,7 @@ impl Overlay {
         requires { Ascends (key_cmp table.now.key) base }
         ensures { IfOk result (λ rows. rows ≡ rows_over table.now.key self.now.list table.now.no base) }
     {
-        let first = self.cut(table.no, &Row::new(alloc));
+        let first = self.below(table.no as u64);
         if is_of(self, first, table.no) {
             merge(alloc, self, first, table, base)
         } else {

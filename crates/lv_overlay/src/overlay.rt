@@ -4,10 +4,10 @@ ghost use Rattle.std.specs.List.{insert, list_all};
 ghost use Rattle.lv_schema.specs.Once.{Ascends};
 ghost use Rattle.lv_shelf.specs.Cuts.{IsCut};
 ghost use Rattle.lv_overlay.specs.declared.put.Put.{Put};
-ghost use Rattle.lv_overlay.specs.Puts.{put_at, PutIs};
-ghost use Rattle.lv_overlay.specs.Ordered.{is_before, is_there, put_cmp};
+ghost use Rattle.lv_overlay.specs.Puts.{put_at, put_keys, PutIs};
+ghost use Rattle.lv_overlay.specs.Ordered.{is_before, is_below, is_there, put_cmp};
 
-use crate::put::{Before, Put, is_at};
+use crate::put::{Before, Below, Put, is_at};
 use lv_shelf::Shelf;
 use lv_values::{NoMemory, Row};
 use std::alloc::Global;
@@ -75,6 +75,24 @@ impl Overlay {
         ensures cut { IsCut (is_before (table, key.now)) result self.now.list }
     {
         self.writes.cut(&Before { table, key })
+    }
+
+    /// How many writes are of the tables below a number. Cost: a binary search.
+    pub(crate) fn below(&self, bound: u64) -> usize
+        ensures within { result ≤ length self.now.list }
+        ensures order { Ascends put_cmp self.now.list }
+        ensures cut { IsCut (is_below bound) result self.now.list }
+    {
+        self.writes.cut(&Below { bound })
+    }
+
+    /// How many keys of a table are written. Cost: two binary searches.
+    pub fn count(&self, table: u32) -> u64
+        ensures { result ≡ length (put_keys self.now.list table) }
+    {
+        let first = self.below(table as u64);
+        let last = self.below(table as u64 + 1);
+        (last - first) as u64
     }
 
     /// Whether the write at a place in the order, if there is one, is of the table and the key.

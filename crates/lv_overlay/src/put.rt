@@ -38,6 +38,22 @@ impl<'a> Test<Put> for Before<'a> {
     }
 }
 
+/// Tells the writes of the tables below a number.
+#[derive(Drop)]
+pub(crate) struct Below {
+    pub bound: u64,
+}
+
+impl Test<Put> for Below {
+    ghost use Rattle.lv_overlay.specs.Ordered.{is_below};
+
+    ghost passed = { λ t q. is_below t.bound q };
+
+    fn passes(&self, put: &Put) -> bool {
+        (put.table as u64) < self.bound
+    }
+}
+
 /// Whether a write is at a place.
 pub(crate) fn is_at(put: &Put, table: u32, key: &Row) -> bool
     ensures { result ≡ same_place (table, key.now) (put_place put.now) }

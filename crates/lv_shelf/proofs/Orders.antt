@@ -1,14 +1,14 @@
 -- Further orders of the elements in slots.
 use Rattle.std.proofs.Common.{◌≡◌, ℕ, zero, suc, ◌+◌, ◌<◌, ◌≤◌, Bool, true, false, cond, List, [], ◌∷◌, ◌++◌, length, length-append, map, take, get_or, set, filter, Option, Some, None, refl, sym, ap, ap₂, ◌∙◌, subst, arith}
-use Rattle.std.specs.Prelude.{is_some, ◌==◌}
+use Rattle.std.specs.Prelude.{is_some, slice_get, ◌==◌}
 use Rattle.std.specs.List.{AllByRecursion, cons_option, insert, remove}
-use Rattle.std.proofs.lemmas.List.{get_or-set_same, length-map, map-set}
+use Rattle.std.proofs.lemmas.List.{get_or-set_same, get_or_read, length-map, map-set}
 use Rattle.std.proofs.Math.Seq.{map-set_same}
 use Rattle.lv_schema.proofs.Apart.{all_weaker, apart_filter}
 use Rattle.lv_shelf.specs.Shelves.{AreShelved, ChangesOnly, Differ, HaveRoom, IsEmpty, IsHeld, IsOrder, LacksItem, Roomed, clear_of, cleared, is_among, is_taken, items_at, lists_of, passes, passes_in, slot_of}
 use Rattle.lv_shelf.proofs.Among.{all_remove, among_all, apart_remove, eq_of, most, ne_of}
 use Rattle.lv_shelf.proofs.Cutting.{all_at, all_kept}
-use Rattle.lv_shelf.proofs.Shelved.{all_differ, all_insert, apart_insert, clear_other, grown_items, grown_shelf, grown_slot, held_gone, held_set, in_range, items_other, slot_other, some_of, taken_in}
+use Rattle.lv_shelf.proofs.Shelved.{all_differ, all_insert, apart_insert, clear_other, get_items, grown_items, grown_shelf, grown_slot, held_gone, held_set, in_range, items_other, length_items, slot_other, some_of, taken_in}
 
 -- ---- maps
 pub map_same : {X Y : Type 0} (g h : X → Y) (xs : List X) → AllByRecursion (λ x. g x ≡ h x) xs → map g xs ≡ map h xs
@@ -266,6 +266,40 @@ value_set slots os others j y l is e =
 
 pub room_at : (n : ℕ) (os : List Roomed) (j : ℕ) (x : Roomed) → x ≡ get_or os j no_list → j < length os → HaveRoom n os → n ≤ x.room
 room_at n os j x at lt a = subst (λ (o : Roomed). n ≤ o.room) (sym at) (all_at (λ (o : Roomed). n ≤ o.room) os j no_list lt a)
+
+-- a further order, as a call reads it
+pub record IsOther {T : Type 0} (slots : List (Option T)) (os : List Roomed) (others : List (List T)) (j : ℕ) (x : Roomed) : Type 0 where
+  pub within : j < length os
+  pub read : x ≡ get_or os j no_list
+  pub order : IsOrder slots x.list
+  pub seen : items_at slots x.list ≡ get_or others j []
+  pub long : length x.list ≡ length (get_or others j [])
+
+pub other_is : {T : Type 0} (slots : List (Option T)) (order free : List ℕ) (a b : ℕ) (os : List Roomed) (others : List (List T)) (j : ℕ) (x : Roomed) → AreShelved slots order free a b os → map (items_at slots) (lists_of os) ≡ others → j < length others
+    → x ≡ get_or os j x → IsOther slots os others j x
+other_is slots order free a b os others j x s is lt e =
+    let within : j < length os = omega (arith, lt, length_others slots os others is) in
+    let read : x ≡ get_or os j no_list = get_or_read os j x within e no_list in
+    let o = order_at slots os j x read within s.lists in
+    let seen = read_other slots os others j x is read in
+    record { within = within; read = read; order = o; seen = seen; long = sym (length_items slots x.list o.held) ∙ ap length seen }
+
+-- the slot at a place of the first order, as a call reads it
+pub record IsPlace {T : Type 0} (slots : List (Option T)) (order : List ℕ) (list : List T) (i p : ℕ) : Type 0 where
+  pub within : i < length order
+  pub read : p ≡ get_or order i 0
+  pub held : IsHeld slots p
+  pub item : T
+  pub there : slot_of slots p ≡ Some item
+  pub seen : slice_get list i ≡ Some item
+
+pub place_is : {T : Type 0} (slots : List (Option T)) (order : List ℕ) (list : List T) (i p : ℕ) → AllByRecursion (IsHeld slots) order → items_at slots order ≡ list → i < length list → p ≡ get_or order i p → IsPlace slots order list i p
+place_is slots order list i p h is lt e =
+    let within : i < length order = omega (arith, lt, length_items slots order h, ap length is) in
+    let read : p ≡ get_or order i 0 = get_or_read order i p within e 0 in
+    let held : IsHeld slots p = subst (IsHeld slots) (sym read) (all_at (IsHeld slots) order i 0 within h) in
+    let item = some_of (slot_of slots p) held in
+    record { within = within; read = read; held = held; item = item.0; there = item.1; seen = ap (λ l. slice_get l i) (sym is) ∙ get_items slots order i h within ∙ ap (slot_of slots) (sym read) ∙ item.1 }
 
 -- a loop over lists with room
 pub lists_same : (os : List Roomed) (j : ℕ) (x y : Roomed) → x ≡ get_or os j no_list → y.list ≡ x.list → lists_of (set os j y) ≡ lists_of os

@@ -40,6 +40,7 @@ impl<T> Shelf<T> {
     pub fn new(alloc: Global) -> Self
         ensures list { result.list ≡ [] }
         ensures others { result.others ≡ [] }
+        ensures room { result.spare ≡ 0 }
     {
         Shelf {
             slots: Vec::new(alloc),

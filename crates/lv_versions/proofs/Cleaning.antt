@@ -1,10 +1,10 @@
 -- The order of the ended versions.
 use Rattle.std.proofs.Common.{◌≡◌, ℕ, zero, suc, ◌<◌, ◌≤◌, Bool, true, false, cond, List, [], ◌∷◌, ◌++◌, map, filter, length, set, Option, Some, None, refl, sym, ap, ap₂, ◌∙◌, subst, arith}
 use Rattle.std.specs.Prelude.{◌&&◌, nat_lt, nat_le, not, is_none, slice_get}
-use Rattle.std.specs.List.{AllByRecursion, remove}
+use Rattle.std.specs.List.{AllByRecursion, insert, remove}
 use Rattle.std.proofs.lemmas.List.{get_or-set_same, length-set}
 use Rattle.std.proofs.lemmas.Option.{slice_get-get_or}
-use Rattle.std.specs.Ordering.{is_eq, is_gt, is_lt, nat_cmp}
+use Rattle.std.specs.Ordering.{is_eq, is_gt, nat_cmp}
 use Rattle.std.specs.declared.cmp.Ordering.{Ordering}
 use Rattle.std.specs.declared.cmp.Ordering.TheVariants.{Less, Equal, Greater}
 use Rattle.std.proofs.lemmas.Bool.Decides.{nat_tests}
@@ -18,13 +18,13 @@ use Rattle.lv_schema.specs.Nets.{has_row}
 use Rattle.lv_schema.proofs.NetsLead.{same_row}
 use Rattle.lv_schema.specs.declared.version.RowVersion.{RowVersion}
 use Rattle.lv_shelf.specs.Cuts.{Apart, Falls, IsCut}
-use Rattle.lv_shelf.specs.Shelves.{ChangesOnly, LacksItem, other_at}
+use Rattle.lv_shelf.specs.Shelves.{ChangesOnly, LacksItem}
 use Rattle.lv_shelf.proofs.Among.{all_remove}
 use Rattle.lv_shelf.proofs.Cutting.{all_at, all_kept, got, got_within}
-use Rattle.lv_versions.specs.Versions.{AreEnded, AreEndedIn, EndsAtMost, EndsNoLater, EndsSooner, HasEnded, IsBy, IsIn, Precedes, comes_before, ended_at, ends_after, is_current, is_over, lost, new_version, version_cmp}
+use Rattle.lv_versions.specs.Versions.{AreEnded, EndsAtMost, EndsNoLater, EndsSooner, HasEnded, IsBy, IsIn, Precedes, comes_before, ended_at, ends_after, is_current, is_over, lost, new_version, version_cmp}
 use Rattle.lv_versions.proofs.Ending.{all_lost, earlier_other, ends_at_most, later_other, lost_current, lost_other}
 use Rattle.lv_versions.proofs.Bringing.{all_last}
-use Rattle.lv_versions.proofs.Standing.{all_placed, falls_from, is_less, precedes_less, true_not_false, version_total}
+use Rattle.lv_versions.proofs.Standing.{all_placed, falls_from, precedes_less, true_not_false, version_total}
 
 abbrev Lost : ℕ → List Value → RowVersion → RowVersion
 Lost number row = lost number (row ∷ [])
@@ -38,22 +38,20 @@ lacks_filter p y (z ∷ zs) t a = by (p z) refl a (λ a'. lacks_filter p y zs t 
     by true e a' ih = (a'.0, ih a'.1)
     by false e a' ih = ((λ same. true_not_false (p y) t (ap p (sym same) ∙ e)), ih a')
 
-kept_ended : (p : RowVersion → Bool) (order vs : List RowVersion) → AreEnded order vs → AreEnded (filter p order) (filter p vs)
+pub kept_here : (p : RowVersion → Bool) (order vs : List RowVersion) → AllByRecursion (λ v. IsIn v vs) order → AllByRecursion (λ v. IsIn v (filter p vs)) (filter p order)
+kept_here p order vs a = all_both (λ v. IsIn v vs) (λ v. p v ≡ true) (λ v. IsIn v (filter p vs)) (λ v i t l. i (lacks_filter p v vs t l)) (filter p order) (all_filter (λ v. IsIn v vs) p order a) (all_kept p order)
+
+pub kept_ended : (p : RowVersion → Bool) (order vs : List RowVersion) → AreEnded order vs → AreEnded (filter p order) (filter p vs)
 kept_ended p order vs a = record {
   ends = apart_filter EndsSooner p order a.ends;
   ended = all_filter HasEnded p order a.ended;
-  here = all_both (λ v. IsIn v vs) (λ v. p v ≡ true) (λ v. IsIn v (filter p vs)) (λ v i t l. i (lacks_filter p v vs t l)) (filter p order) (all_filter (λ v. IsIn v vs) p order a.here) (all_kept p order);
+  here = kept_here p order vs a.here;
   all = all_both (λ v. HasEnded v → IsIn v order) (λ v. p v ≡ true) (λ v. HasEnded v → IsIn v (filter p order)) (λ v i t e l. i e (lacks_filter p v order t l)) (filter p vs)
       (all_filter (λ v. HasEnded v → IsIn v order) p vs a.all) (all_kept p vs);
 }
 
-pub kept_in : (p : RowVersion → Bool) (others : List (List RowVersion)) (vs : List RowVersion) → AreEndedIn others vs → AreEndedIn (map (filter p) others) (filter p vs)
-kept_in p [] vs a = tt
-kept_in p (order ∷ []) vs a = kept_ended p order vs a
-kept_in p (order ∷ next ∷ more) vs a = absurd a
-
 -- ---- a version that comes
-all_unplaced : {X : Type 0} (R : X → X → Ordering) (P : X → Type 0) (x : X) (ys : List X) → AllByRecursion P (placed R x ys) → AllByRecursion P ys
+pub all_unplaced : {X : Type 0} (R : X → X → Ordering) (P : X → Type 0) (x : X) (ys : List X) → AllByRecursion P (placed R x ys) → AllByRecursion P ys
 all_unplaced R P x [] a = tt
 all_unplaced R P x (y ∷ ys) a = by (is_gt (R x y)) a (λ b. all_unplaced R P x ys b)
   where
@@ -61,15 +59,21 @@ all_unplaced R P x (y ∷ ys) a = by (is_gt (R x y)) a (λ b. all_unplaced R P x
     by true a' ih = (a'.0, ih a'.1)
     by false a' ih = a'.1
 
-pub put_in : (ps : List ℕ) (number : ℕ) (row : List Value) (others : List (List RowVersion)) (vs : List RowVersion) → AreEndedIn others vs → AreEndedIn others (placed (version_cmp ps) (new_version number row) vs)
-put_in ps number row [] vs a = tt
-put_in ps number row (order ∷ []) vs a = record {
+pub placed_here : {X : Type 0} (R : X → X → Ordering) (P : X → Type 0) (x : X) (ys : List X) → AllByRecursion P (placed R x ys) → P x
+placed_here R P x [] a = a.0
+placed_here R P x (y ∷ ys) a = by (is_gt (R x y)) a (λ b. placed_here R P x ys b)
+  where
+    by : (t : Bool) → AllByRecursion P (cond t (y ∷ placed R x ys) (x ∷ y ∷ ys)) → (AllByRecursion P (placed R x ys) → P x) → P x
+    by true a' ih = ih a'.1
+    by false a' ih = a'.0
+
+pub put_ended : (ps : List ℕ) (number : ℕ) (row : List Value) (order vs : List RowVersion) → AreEnded order vs → AreEnded order (placed (version_cmp ps) (new_version number row) vs)
+put_ended ps number row order vs a = record {
   ends = a.ends;
   ended = a.ended;
   here = all_weaker (λ v. IsIn v vs) (λ v. IsIn v (placed (version_cmp ps) (new_version number row) vs)) (λ v i l. i (all_unplaced (version_cmp ps) (λ y. y ≡ v → ⊥) (new_version number row) vs l)) order a.here;
   all = all_placed (version_cmp ps) (λ v. HasEnded v → IsIn v order) (new_version number row) vs (λ e. cc) a.all;
 }
-put_in ps number row (order ∷ next ∷ more) vs a = absurd a
 
 -- ---- versions in their order are different
 less_differ : (ps : List ℕ) (z x : RowVersion) → version_cmp ps z x ≡ Less → z ≡ x → ⊥
@@ -78,7 +82,7 @@ less_differ ps z x l e =
     let tied : version_cmp ps z z ≡ Equal = tied_itself (version_total ps) z in
     cc
 
-rest_lacks : (ps : List ℕ) (vs : List RowVersion) (at : ℕ) (item x : RowVersion) → ((z : RowVersion) → version_cmp ps x z ≡ version_cmp ps item z) → ((z : RowVersion) → version_cmp ps z x ≡ version_cmp ps z item)
+pub rest_lacks : (ps : List ℕ) (vs : List RowVersion) (at : ℕ) (item x : RowVersion) → ((z : RowVersion) → version_cmp ps x z ≡ version_cmp ps item z) → ((z : RowVersion) → version_cmp ps z x ≡ version_cmp ps z item)
     → Apart (Precedes ps) vs → slice_get vs at ≡ Some item → LacksItem x (remove vs at)
 rest_lacks ps [] zero item x left right a e = tt
 rest_lacks ps [] (suc at) item x left right a e = tt
@@ -89,7 +93,7 @@ rest_lacks ps (z ∷ zs) (suc at) item x left right a e =
     let before : Precedes ps z item = subst (Precedes ps z) (got zs at item item e) (all_at (Precedes ps z) zs at item (got_within zs at item e) a.0) in
     ((λ same. less_differ ps z x (right z ∙ precedes_less ps z item before) same), rest_lacks ps zs at item x left right a.1 e)
 
-back_lacks : (vs : List RowVersion) (at : ℕ) (item x : RowVersion) → slice_get vs at ≡ Some item → (item ≡ x → ⊥) → LacksItem x (remove vs at) → LacksItem x vs
+pub back_lacks : (vs : List RowVersion) (at : ℕ) (item x : RowVersion) → slice_get vs at ≡ Some item → (item ≡ x → ⊥) → LacksItem x (remove vs at) → LacksItem x vs
 back_lacks [] at item x e ne l = tt
 back_lacks (z ∷ zs) zero item x e ne l = ((λ same. ne (sym (got (z ∷ zs) zero item item e) ∙ same)), l)
 back_lacks (z ∷ zs) (suc at) item x e ne l = (l.0, back_lacks zs at item x e ne l.1)
@@ -98,7 +102,7 @@ back_lacks (z ∷ zs) (suc at) item x e ne l = (l.0, back_lacks zs at item x e n
 stays : (number : ℕ) (row : List Value) (v : RowVersion) → HasEnded v → Lost number row v ≡ v
 stays number row v e = lost_other number row v (ap (λ b. b && row_eq v.row row) e)
 
-stay : (number : ℕ) (row : List Value) (order : List RowVersion) → AllByRecursion HasEnded order → map (Lost number row) order ≡ order
+pub stay : (number : ℕ) (row : List Value) (order : List RowVersion) → AllByRecursion HasEnded order → map (Lost number row) order ≡ order
 stay number row [] a = refl
 stay number row (v ∷ order) a = ap₂ (λ x l. x ∷ l) (stays number row v a.0) (stay number row order a.1)
 
@@ -129,16 +133,10 @@ lacks_at ps number row vs at item a e h =
     first true b t = refl
     first false b t = cc
 
-absent : (ps : List ℕ) (number : ℕ) (row : List Value) (order vs : List RowVersion) (at : ℕ) (item : RowVersion) → Apart (Precedes ps) vs → slice_get vs at ≡ Some item → is_current row item ≡ true → AreEnded order vs
+pub absent : (ps : List ℕ) (number : ℕ) (row : List Value) (order vs : List RowVersion) (at : ℕ) (item : RowVersion) → Apart (Precedes ps) vs → slice_get vs at ≡ Some item → is_current row item ≡ true → AreEnded order vs
     → LacksItem (Lost number row item) order
 absent ps number row order vs at item a e h r =
     all_weaker (λ y. IsIn y vs) (λ y. y ≡ Lost number row item → ⊥) (λ y i same. i (subst (λ w. LacksItem w vs) (sym same) (lacks_at ps number row vs at item a e h))) order r.here
-
-pub absent_in : (ps : List ℕ) (number : ℕ) (row : List Value) (others : List (List RowVersion)) (vs : List RowVersion) (at : ℕ) (item : RowVersion) → Apart (Precedes ps) vs → slice_get vs at ≡ Some item → is_current row item ≡ true → AreEndedIn others vs
-    → AllByRecursion (LacksItem (Lost number row item)) (map (map (Lost number row)) others)
-absent_in ps number row [] vs at item a e h r = tt
-absent_in ps number row (order ∷ []) vs at item a e h r = (subst (LacksItem (Lost number row item)) (sym (stay number row order r.ended)) (absent ps number row order vs at item a e h r), tt)
-absent_in ps number row (order ∷ next ∷ more) vs at item a e h r = absurd r
 
 at_most : (number : ℕ) (y : RowVersion) (vs : List RowVersion) → IsIn y vs → AllByRecursion (λ v. EndsAtMost number v.until) vs → HasEnded y → EndsNoLater y.until (Some number)
 at_most number y vs i b h = by y.until refl
@@ -154,7 +152,7 @@ at_most number y vs i b h = by y.until refl
     by None e = absurd (true_not_false (is_none y.until) (ap is_none e) h)
     by (Some k) e = test k e (nat_le k number) refl
 
-ended_more : (ps : List ℕ) (number : ℕ) (row : List Value) (order vs : List RowVersion) (at : ℕ) (item : RowVersion) → Apart (Precedes ps) vs → AllByRecursion (λ v. EndsAtMost number v.until) vs → slice_get vs at ≡ Some item
+pub ended_more : (ps : List ℕ) (number : ℕ) (row : List Value) (order vs : List RowVersion) (at : ℕ) (item : RowVersion) → Apart (Precedes ps) vs → AllByRecursion (λ v. EndsAtMost number v.until) vs → slice_get vs at ≡ Some item
     → is_current row item ≡ true → ChangesOnly (Lost number row) at vs → AreEnded order vs → AreEnded (order ++ Lost number row item ∷ []) (map (Lost number row) vs)
 ended_more ps number row order vs at item a b e h only r =
     let f : RowVersion → RowVersion = Lost number row in
@@ -179,15 +177,6 @@ ended_more ps number row order vs at item a b e h only r =
     map_all : (g : RowVersion → RowVersion) (P : RowVersion → Type 0) (xs : List RowVersion) → AllByRecursion (λ v. P (g v)) xs → AllByRecursion P (map g xs)
     map_all g P [] q = tt
     map_all g P (y ∷ ys) q = (q.0, map_all g P ys q.1)
-
-pub ended_more_in : (ps : List ℕ) (number : ℕ) (row : List Value) (others others' : List (List RowVersion)) (vs : List RowVersion) (at : ℕ) (item : RowVersion) → Apart (Precedes ps) vs
-    → AllByRecursion (λ v. EndsAtMost number v.until) vs → slice_get vs at ≡ Some item → is_current row item ≡ true → ChangesOnly (Lost number row) at vs → AreEndedIn others vs
-    → ((order : List RowVersion) → map (map (Lost number row)) others ≡ order ∷ [] → others' ≡ (order ++ Lost number row item ∷ []) ∷ []) → (map (map (Lost number row)) others ≡ [] → others' ≡ [])
-    → AreEndedIn others' (map (Lost number row) vs)
-ended_more_in ps number row [] others' vs at item a b e h only r some none = subst (λ l. AreEndedIn l (map (Lost number row) vs)) (sym (none refl)) tt
-ended_more_in ps number row (order ∷ []) others' vs at item a b e h only r some none =
-    subst (λ l. AreEndedIn l (map (Lost number row) vs)) (sym (some order (ap (λ l. l ∷ []) (stay number row order r.ended)))) (ended_more ps number row order vs at item a b e h only r)
-ended_more_in ps number row (order ∷ next ∷ more) others' vs at item a b e h only r some none = absurd r
 
 -- the end of the version that has the row changes that one alone
 others_stay : (ps : List ℕ) (row : List Value) (number : ℕ) (vs : List RowVersion) → AllByRecursion (λ v. v.from < number) vs → AllByRecursion (λ v. comes_before ps row number v ≡ false) vs → AllByRecursion (λ v. Lost number row v ≡ v) vs
@@ -239,9 +228,6 @@ none_over floor order vs r b = all_pass (λ v. ends_after floor v.until) vs (all
     by v i (Some k) e = test v i (ap is_none e) (ends_after floor v.until) refl
 
 -- ---- the version that ended first
-not_less : (ps : List ℕ) (v z : RowVersion) → comes_before ps v.row v.from z ≡ false → version_cmp ps z v ≡ Less → ⊥
-not_less ps v z f l = let t : comes_before ps v.row v.from z ≡ true = ap is_lt l in true_not_false (comes_before ps v.row v.from z) t f
-
 same_version : (z v : RowVersion) → z.row ≡ v.row → z.from ≡ v.from → z.until ≡ v.until → z ≡ v
 same_version z v a b c = ap (λ (r : List Value). record z { row = r }) a ∙ ap (λ (n : ℕ). record z { row = v.row; from = n }) b ∙ ap (λ (u : Option ℕ). record z { row = v.row; from = v.from; until = u }) c
 
@@ -270,32 +256,30 @@ same_end_or None (Some k) nn = absurd (nn (λ same. cc))
 same_end_or (Some k) None nn = absurd (nn (λ same. cc))
 same_end_or (Some k) (Some j) nn = ap Some (same_nat_or k j (λ ne. nn (λ same. ne cc)))
 
-same_version_or : (z v : RowVersion) → ((z ≡ v → ⊥) → ⊥) → z ≡ v
+pub same_version_or : (z v : RowVersion) → ((z ≡ v → ⊥) → ⊥) → z ≡ v
 same_version_or z v nn =
     same_version z v (same_row_or z.row v.row (λ ne. nn (λ same. ne (ap (λ (w : RowVersion). w.row) same)))) (same_nat_or z.from v.from (λ ne. nn (λ same. ne (ap (λ (w : RowVersion). w.from) same))))
     (same_end_or z.until v.until (λ ne. nn (λ same. ne (ap (λ (w : RowVersion). w.until) same))))
 
-pub found_at : (ps : List ℕ) (v : RowVersion) (at : ℕ) (vs : List RowVersion) → Apart (Precedes ps) vs → IsIn v vs → IsCut (comes_before ps v.row v.from) at vs → slice_get vs at ≡ Some v
-found_at ps v zero [] a i cut = absurd (i tt)
-found_at ps v zero (z ∷ zs) a i cut =
-    ap Some (same_version_or z v (λ ne. i (ne, all_weaker (Precedes ps z) (λ w. w ≡ v → ⊥) (λ w r same. not_less ps v z cut.0 (subst (λ y. version_cmp ps z y ≡ Less) same (precedes_less ps z w r))) zs a.0)))
-found_at ps v (suc at) [] a i cut = absurd cut
-found_at ps v (suc at) (z ∷ zs) a i cut = found_at ps v at zs a.1 (λ l. i ((λ same. less_differ ps z v (is_less (version_cmp ps z v) cut.0) same), l)) cut.1
-
 flip : (v : RowVersion) (rest : List RowVersion) → AllByRecursion (EndsSooner v) rest → LacksItem v rest
 flip v rest a = all_weaker (EndsSooner v) (λ y. y ≡ v → ⊥) (λ y r same. r.1 (sym same)) rest a
 
-pub alone : (v : RowVersion) (rest vs : List RowVersion) → AreEnded (v ∷ rest) vs → LacksItem v rest
-alone v rest vs r = flip v rest r.ends.0
+-- it is no more in the order without its first
+pub alone : (v : RowVersion) (order vs : List RowVersion) → slice_get order 0 ≡ Some v → AreEnded order vs → LacksItem v (remove order 0)
+alone v [] vs e r = tt
+alone v (w ∷ rest) vs e r = let is : w ≡ v = got (w ∷ rest) zero v v e in flip v rest (subst (λ x. AllByRecursion (EndsSooner x) rest) is r.ends.0)
 
-pub first_gone : (ps : List ℕ) (v : RowVersion) (rest vs : List RowVersion) (at : ℕ) → Apart (Precedes ps) vs → slice_get vs at ≡ Some v → AreEnded (v ∷ rest) vs → AreEnded rest (remove vs at)
-first_gone ps v rest vs at a e r = record {
-  ends = r.ends.1;
-  ended = r.ended.1;
-  here = all_both (EndsSooner v) (λ y. IsIn y vs) (λ y. IsIn y (remove vs at)) (λ y s i l. i (back_lacks vs at v y e s.1 l)) rest r.ends.0 r.here.1;
-  all = all_both (λ w. w ≡ v → ⊥) (λ w. HasEnded w → IsIn w (v ∷ rest)) (λ w. HasEnded w → IsIn w rest) (λ w ne i h l. i h ((λ same. ne (sym same)), l)) (remove vs at)
-      (rest_lacks ps vs at v v (λ z. refl) (λ z. refl) a e) (all_remove (λ w. HasEnded w → IsIn w (v ∷ rest)) vs at r.all);
-}
+pub first_gone : (ps : List ℕ) (v : RowVersion) (order vs : List RowVersion) (at : ℕ) → Apart (Precedes ps) vs → slice_get vs at ≡ Some v → slice_get order 0 ≡ Some v → AreEnded order vs → AreEnded (remove order 0) (remove vs at)
+first_gone ps v [] vs at a e f r = cc
+first_gone ps v (w ∷ rest) vs at a e f r =
+    let is : w ≡ v = got (w ∷ rest) zero v v f in
+    record {
+      ends = r.ends.1;
+      ended = r.ended.1;
+      here = all_both (EndsSooner w) (λ y. IsIn y vs) (λ y. IsIn y (remove vs at)) (λ y s i l. i (back_lacks vs at v y e (λ same. s.1 (is ∙ same)) l)) rest r.ends.0 r.here.1;
+      all = all_both (λ y. y ≡ v → ⊥) (λ y. HasEnded y → IsIn y (w ∷ rest)) (λ y. HasEnded y → IsIn y rest) (λ y ne i h l. i h ((λ same. ne (sym same ∙ is)), l)) (remove vs at)
+          (rest_lacks ps vs at v v (λ z. refl) (λ z. refl) a e) (all_remove (λ y. HasEnded y → IsIn y (w ∷ rest)) vs at r.all);
+    }
 
 pub filter_gone : (p : RowVersion → Bool) (v : RowVersion) (vs : List RowVersion) (at : ℕ) → slice_get vs at ≡ Some v → p v ≡ false → filter p (remove vs at) ≡ filter p vs
 filter_gone p v [] zero e f = refl
@@ -323,33 +307,16 @@ lost_at_most number rows vs a =
     all_lost (λ v. EndsAtMost number v.until) number rows vs
     (all_weaker (λ v. EndsAtMost number v.until) (λ v. EndsAtMost number (lost number rows v).until) (λ v h. ends_at_most v.until (not (has_row v.row rows)) number number (omega arith) h) vs a)
 
--- ---- the one further order
-pub first_is : (others : List (List RowVersion)) (v w : RowVersion) (rest : List RowVersion) → others ≡ (v ∷ rest) ∷ [] → slice_get (other_at others 0) 0 ≡ Some w → v ≡ w
-first_is others v w rest is e = got (v ∷ rest) zero w w (subst (λ l. slice_get (other_at l 0) 0 ≡ Some w) is e)
+-- ---- the first of some that pass
+pub first_passes : (p : RowVersion → Bool) (n m : ℕ) (order : List RowVersion) (v : RowVersion) → n ≡ suc m → slice_get order 0 ≡ Some v → IsCut p n order → p v ≡ true
+first_passes p n m [] v is e cut = cc
+first_passes p n m (w ∷ rest) v is e cut =
+    let cut' : IsCut p (suc m) (w ∷ rest) = subst (λ k. IsCut p k (w ∷ rest)) is cut in
+    subst (λ x. p x ≡ true) (got (w ∷ rest) zero v v e) cut'.0
 
-pub found_first : (ps : List ℕ) (first v : RowVersion) (rest : List RowVersion) (others : List (List RowVersion)) (vs : List RowVersion) (at : ℕ) → others ≡ (v ∷ rest) ∷ [] → slice_get (other_at others 0) 0 ≡ Some first → Apart (Precedes ps) vs
-    → AreEnded (v ∷ rest) vs → IsCut (comes_before ps first.row first.from) at vs → slice_get vs at ≡ Some v
-found_first ps first v rest others vs at is e a r cut =
-    found_at ps v at vs a r.here.0 (subst (λ (w : RowVersion). IsCut (comes_before ps w.row w.from) at vs) (sym (first_is others v first rest is e)) cut)
-
-pub the_same : (others : List (List RowVersion)) (order order' : List RowVersion) (vs : List RowVersion) → others ≡ order ∷ [] → others ≡ order' ∷ [] → AreEnded order vs → AreEnded order' vs
-the_same others order order' vs e e' r = subst (λ o. AreEnded o vs) (ap (λ l. other_at l 0) (sym e ∙ e')) r
-
-abbrev pub HaveOrder : List (List RowVersion) → List RowVersion → Type 0
-HaveOrder others vs = (order : List RowVersion) × ((others ≡ order ∷ []) × AreEnded order vs)
-
-pub the_order : (others : List (List RowVersion)) (vs : List RowVersion) → 0 < length others → AreEndedIn others vs → HaveOrder others vs
-the_order [] vs lt a = absurd (omega arith)
-the_order (order ∷ []) vs lt a = (order, (refl, a))
-the_order (order ∷ next ∷ more) vs lt a = absurd a
-
-pub have_in : (others : List (List RowVersion)) (order vs : List RowVersion) → others ≡ order ∷ [] → AreEnded order vs → AreEndedIn others vs
-have_in others order vs is r = subst (λ o. AreEndedIn o vs) (sym is) r
-
-pub has_first : (others : List (List RowVersion)) (order vs : List RowVersion) (p : RowVersion → Bool) (n m : ℕ) → n ≡ suc m → others ≡ order ∷ [] → AreEnded order vs → IsCut p n order
-    → (v : RowVersion) × ((rest : List RowVersion) × ((others ≡ (v ∷ rest) ∷ []) × (AreEnded (v ∷ rest) vs × ((p v ≡ true) × IsCut p m rest))))
-has_first others [] vs p n m is e r cut = absurd (subst (λ k. IsCut p k []) is cut)
-has_first others (v ∷ rest) vs p n m is e r cut = let cut' : IsCut p (suc m) (v ∷ rest) = subst (λ k. IsCut p k (v ∷ rest)) is cut in (v, (rest, (e, (r, cut'))))
+pub rest_cut : (p : RowVersion → Bool) (n m : ℕ) (order : List RowVersion) → n ≡ suc m → IsCut p n order → (0 < length order) × IsCut p m (remove order 0)
+rest_cut p n m [] is cut = absurd (subst (λ k. IsCut p k []) is cut)
+rest_cut p n m (w ∷ rest) is cut = let cut' : IsCut p (suc m) (w ∷ rest) = subst (λ k. IsCut p k (w ∷ rest)) is cut in (omega arith, cut'.1)
 
 pub not_after : (floor : ℕ) (v : RowVersion) → is_over floor v ≡ true → ends_after floor v.until ≡ false
 not_after floor v h = by (ends_after floor v.until) h
@@ -357,3 +324,9 @@ not_after floor v h = by (ends_after floor v.until) h
     by : (b : Bool) → not b ≡ true → b ≡ false
     by true t = cc
     by false t = refl
+
+-- ---- a version put in at a place
+pub got_insert : (vs : List RowVersion) (i : ℕ) (x : RowVersion) → i ≤ length vs → slice_get (insert vs i x) i ≡ Some x
+got_insert vs zero x le = refl
+got_insert [] (suc i) x le = absurd (omega arith)
+got_insert (v ∷ vs) (suc i) x le = got_insert vs i x (omega arith)

@@ -11,13 +11,14 @@ use Rattle.lv_values.specs.declared.value.Value.{Value}
 use Rattle.lv_values.specs.Order.{row_cmp, row_eq}
 use Rattle.lv_values.specs.OrderLaws.{row_total}
 use Rattle.lv_values.specs.Rows.{key_cmp, values_at}
-use Rattle.lv_schema.proofs.Apart.{all_both, all_filter, all_weaker}
+use Rattle.lv_schema.specs.Once.{Ascends}
+use Rattle.lv_schema.proofs.Apart.{all_both, all_filter, all_weaker, apart_filter}
 use Rattle.lv_schema.proofs.NetsLead.{same_row}
 use Rattle.lv_schema.specs.declared.version.RowVersion.{RowVersion}
 use Rattle.lv_shelf.specs.Cuts.{Apart, IsCut}
 use Rattle.lv_versions.specs.Versions.{EndsAtMost, EndsBy, EndsFrom, IsBy, Precedes, ends_after, hits, is_at, precedes_by, reaches, reaches_by, row_with, rows_hit, rows_with, state_at}
-use Rattle.lv_shelf.proofs.Cutting.{all_at, cut_at, cut_long, got}
-use Rattle.lv_shelf.proofs.Cutting.{all_kept}
+use Rattle.lv_shelf.proofs.Cutting.{all_at, all_kept, cut_at, cut_long, got}
+use Rattle.lv_versions.proofs.Standing.{state_ascends}
 
 both : (a b : Bool) → (a && b) ≡ true → (a ≡ true) × (b ≡ true)
 both true b h = (refl, h)
@@ -216,6 +217,10 @@ hit_rows ps key n (v ∷ vs) = by (is_at n v) (row_eq (values_at ps v.row) key) 
     by true true e ih = ap (λ l. v.row ∷ l) ih ∙ sym (ap (λ b. cond b (v.row ∷ rows_with ps key (state_at n vs)) (rows_with ps key (state_at n vs))) e)
     by true false e ih = ih ∙ sym (ap (λ b. cond b (v.row ∷ rows_with ps key (state_at n vs)) (rows_with ps key (state_at n vs))) e)
     by false b e ih = ih
+
+-- they stand in the order of their keys
+pub with_ascends : (ps columns : List ℕ) (values : List Value) (n : ℕ) (vs : List RowVersion) → Apart (Precedes ps) vs → Ascends (key_cmp ps) (rows_with columns values (state_at n vs))
+with_ascends ps columns values n vs a = apart_filter (λ x y. key_cmp ps x y ≡ Less) (λ row. row_eq (values_at columns row) values) (state_at n vs) (state_ascends ps n vs a)
 
 hit_cons : (ps : List ℕ) (key : List Value) (n : ℕ) (v : RowVersion) (vs : List RowVersion) → rows_hit ps key n (v ∷ []) ++ rows_hit ps key n vs ≡ rows_hit ps key n (v ∷ vs)
 hit_cons ps key n v vs = by (hits ps key n v)

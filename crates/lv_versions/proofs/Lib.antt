@@ -4,3 +4,5 @@ pub mod Bringing
 pub mod Finding
 pub mod Committed
 pub mod Cleaning
+pub mod Indexing
+pub mod Keeping

@@ -53,7 +53,7 @@ before_falls ps row number vs a = falls_from (comes_before ps row number) (Prece
     step v w r t = ap is_lt ((version_total ps).trans v w (new_version number row) (precedes_less ps v w r) (is_less (version_cmp ps w (new_version number row)) t))
 
 -- below what a key reaches
-less_reaches : (x y key : List Value) (o : Ordering) (b c : Bool) → row_cmp x y ≡ Less → row_cmp y key ≡ o → reaches_by o b ≡ true → reaches_by (row_cmp x key) c ≡ true
+pub less_reaches : (x y key : List Value) (o : Ordering) (b c : Bool) → row_cmp x y ≡ Less → row_cmp y key ≡ o → reaches_by o b ≡ true → reaches_by (row_cmp x key) c ≡ true
 less_reaches x y key Less b c e f t = ap (λ o. reaches_by o c) (row_total.trans x y key e f)
 less_reaches x y key Equal b c e f t =
     let same : y ≡ key = row_exact y key f in

@@ -1,5 +1,5 @@
 -- What a table's versions give after a commit.
-use Rattle.std.specs.Prelude.{◌≡◌, ℕ, min, ◌<◌, ◌≤◌, Bool, true, false, not, ◌&&◌, nat_le, List, [], ◌∷◌, map, filter, slice_get, Option, Some, None, is_none}
+use Rattle.std.specs.Prelude.{◌≡◌, ℕ, min, ◌+◌, ◌<◌, ◌≤◌, Bool, true, false, not, ◌&&◌, nat_le, List, [], ◌∷◌, length, map, filter, slice_get, slice_index_or, Option, Some, None, is_none}
 use Rattle.std.specs.List.{AllByRecursion}
 use Rattle.std.specs.Ordering.{nat_cmp, on, then_cmp, is_lt}
 use Rattle.std.specs.declared.cmp.Ordering.{Ordering}
@@ -16,7 +16,7 @@ use Rattle.lv_schema.specs.Once.{Ascends}
 use Rattle.lv_schema.specs.declared.version.RowVersion.{RowVersion}
 pub use Rattle.lv_schema.specs.Versions.{ends_after, end_by, is_at, new_version}
 use Rattle.lv_shelf.specs.Cuts.{Apart}
-use Rattle.lv_shelf.specs.Shelves.{LacksItem}
+use Rattle.lv_shelf.specs.Shelves.{LacksItem, other_at}
 
 -- the rows after commit n, in the order of the versions
 abbrev pub state_at : ℕ → List RowVersion → List (List Value)
@@ -98,17 +98,47 @@ pub record AreEnded (order versions : List RowVersion) : Type 0 where
   pub here : AllByRecursion (λ v. IsIn v versions) order
   pub all : AllByRecursion (λ v. HasEnded v → IsIn v order) versions
 
--- at most one further order, which is theirs
-abbrev pub AreEndedIn : List (List RowVersion) → List RowVersion → Type 0
-AreEndedIn [] versions = Unit {0}
-AreEndedIn (order ∷ []) versions = AreEnded order versions
-AreEndedIn (order ∷ next ∷ more) versions = ⊥
+-- versions stand in the order of their keys, and under one key in the order in which they came
+abbrev pub version_cmp : List ℕ → RowVersion → RowVersion → Ordering
+version_cmp positions = then_cmp (on (λ v. values_at positions v.row) row_cmp) (on (λ v. v.from) nat_cmp)
 
--- and no version that a clean-up below the soonest end would drop, and those that ended have their order
-pub record AreKept (positions : List ℕ) (last floor soonest : ℕ) (others : List (List RowVersion)) (versions : List RowVersion) : Type 0 where
+-- in an index by some columns they stand in the order of their values there, and then in their own
+abbrev pub index_cmp : List ℕ → List ℕ → RowVersion → RowVersion → Ordering
+index_cmp columns positions = then_cmp (on (λ v. values_at columns v.row) row_cmp) (version_cmp positions)
+
+-- the versions in the order of an index
+pub record AreIndexed (columns positions : List ℕ) (order versions : List RowVersion) : Type 0 where
+  pub ascends : Ascends (index_cmp columns positions) order
+  pub here : AllByRecursion (λ v. IsIn v versions) order
+  pub all : AllByRecursion (λ v. IsIn v order) versions
+
+-- all of them but one
+pub record AreIndexedBut (columns positions : List ℕ) (one : RowVersion) (order versions : List RowVersion) : Type 0 where
+  pub ascends : Ascends (index_cmp columns positions) order
+  pub here : AllByRecursion (λ v. IsIn v versions) order
+  pub lacks : LacksItem one order
+  pub all : AllByRecursion (λ v. (v ≡ one → ⊥) → IsIn v order) versions
+
+-- the columns of an index
+abbrev pub columns_at : List (List ℕ) → ℕ → List ℕ
+columns_at columns j = slice_index_or columns j []
+
+-- the further orders: first that of the versions that ended, then an index by each of these lists of columns
+pub record AreOrders (positions : List ℕ) (columns : List (List ℕ)) (others : List (List RowVersion)) (versions : List RowVersion) : Type 0 where
+  pub count : length others ≡ length columns + 1
+  pub ended : AreEnded (other_at others 0) versions
+  pub indexed : (j : ℕ) → j < length columns → AreIndexed (columns_at columns j) positions (other_at others (j + 1)) versions
+
+-- or no order yet, and then no version and no room for one
+abbrev pub HaveOrders : List ℕ → List (List ℕ) → ℕ → List (List RowVersion) → List RowVersion → Type 0
+HaveOrders positions columns spare [] versions = (columns ≡ []) × (versions ≡ []) × (spare ≡ 0)
+HaveOrders positions columns spare (order ∷ more) versions = AreOrders positions columns (order ∷ more) versions
+
+-- and no version that a clean-up below the soonest end would drop, and the further orders
+pub record AreKept (positions : List ℕ) (last floor soonest : ℕ) (columns : List (List ℕ)) (spare : ℕ) (others : List (List RowVersion)) (versions : List RowVersion) : Type 0 where
   pub are : AreVersions positions last floor versions
   pub ends : AllByRecursion (λ v. EndsFrom soonest v.until) versions
-  pub ended : AreEndedIn others versions
+  pub orders : HaveOrders positions columns spare others versions
 
 -- the soonest end after a commit that takes these rows away
 abbrev pub soonest_after : ℕ → ℕ → List (List Value) → ℕ
@@ -125,10 +155,6 @@ pub record Kept : Type 0 where
   pub floor : ℕ
 
 -- ---- what a commit does to the versions
--- versions stand in the order of their keys, and under one key in the order in which they came
-abbrev pub version_cmp : List ℕ → RowVersion → RowVersion → Ordering
-version_cmp positions = then_cmp (on (λ v. values_at positions v.row) row_cmp) (on (λ v. v.from) nat_cmp)
-
 -- a version after a commit that takes these rows away
 abbrev pub lost : ℕ → List (List Value) → RowVersion → RowVersion
 lost number rows v = record v { until = end_by v.until (not (has_row v.row rows)) number }
@@ -145,6 +171,10 @@ ended_at number v = record v { until = Some number }
 abbrev pub comes_before : List ℕ → List Value → ℕ → RowVersion → Bool
 comes_before positions row number v = is_lt (version_cmp positions v (new_version number row))
 
+-- and whether it does in an index
+abbrev pub comes_before_in : List ℕ → List ℕ → List Value → ℕ → RowVersion → Bool
+comes_before_in columns positions row number v = is_lt (index_cmp columns positions v (new_version number row))
+
 abbrev pub is_current : List Value → RowVersion → Bool
 is_current row v = is_none v.until && row_eq v.row row
 
@@ -156,6 +186,10 @@ reaches_by Greater b = false
 
 abbrev pub reaches : List ℕ → List Value → ℕ → RowVersion → Bool
 reaches positions key n v = reaches_by (row_cmp (values_at positions v.row) key) (nat_le v.from n)
+
+-- whether its values in some columns are below others, or, if these count too, are these
+abbrev pub is_upto : List ℕ → List Value → Bool → RowVersion → Bool
+is_upto columns values themselves v = reaches_by (row_cmp (values_at columns v.row) values) themselves
 
 -- the row of a version that has a key and is there after commit n
 abbrev pub hits : List ℕ → List Value → ℕ → RowVersion → Bool

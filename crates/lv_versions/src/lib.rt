@@ -3,6 +3,7 @@
 
 mod changing;
 mod dropping;
+mod indexes;
 mod version;
 mod versions;
 

@@ -34,6 +34,17 @@ pub(crate) fn hits(version: &RowVersion, positions: &[u8], values: &Row, n: u64)
     is_at(version, n) && compare_to_key(positions, &version.row, values).is_eq()
 }
 
+/// Whether a version's key is below that of a row, or is that key and it came before a commit.
+fn comes_before(positions: &[u8], row: &Row, number: u64, version: &RowVersion) -> bool
+    ensures { result ≡ spec.comes_before positions.now row.now number version.now }
+{
+    match compare_keys(positions, &version.row, row) {
+        Ordering::Less => true,
+        Ordering::Equal => version.from < number,
+        Ordering::Greater => false,
+    }
+}
+
 /// Tests whether a version comes before the one that a commit brings.
 #[derive(Drop)]
 pub(crate) struct ComesBefore<'a> {
@@ -57,9 +68,68 @@ impl<'a> Test<RowVersion> for ComesBefore<'a> {
     ghost passed = { λ t v. comes_before t.0 t.1 t.2 v };
 
     fn passes(&self, version: &RowVersion) -> bool {
-        match compare_keys(self.positions, &version.row, self.row) {
+        comes_before(self.positions, self.row, self.number, version)
+    }
+}
+
+/// Tests whether a version comes before another one in an index by some columns.
+#[derive(Drop)]
+pub(crate) struct ComesBeforeIn<'a> {
+    pub(crate) columns: &'a [u8],
+    pub(crate) positions: &'a [u8],
+    pub(crate) row: &'a Row,
+    pub(crate) number: u64,
+}
+
+impl<'a> Model for ComesBeforeIn<'a> {
+    ghost use Rattle.std.specs.Prelude.{ℕ, List};
+    ghost use Rattle.lv_values.specs.declared.value.Value.{Value as AValue};
+
+    ghost Value = { List ℕ × List ℕ × List AValue × ℕ };
+
+    ghost view = { λ t. (t.columns.now, t.positions.now, t.row.now, t.number) };
+}
+
+impl<'a> Test<RowVersion> for ComesBeforeIn<'a> {
+    ghost use Rattle.lv_versions.specs.Versions.{comes_before_in};
+
+    ghost passed = { λ t v. comes_before_in t.0 t.1 t.2 t.3 v };
+
+    fn passes(&self, version: &RowVersion) -> bool {
+        match compare_keys(self.columns, &version.row, self.row) {
             Ordering::Less => true,
-            Ordering::Equal => version.from < self.number,
+            Ordering::Equal => comes_before(self.positions, self.row, self.number, version),
+            Ordering::Greater => false,
+        }
+    }
+}
+
+/// Tests whether a version's values in some columns are below others, or, if these count too, are these.
+#[derive(Drop)]
+pub(crate) struct IsUpTo<'a> {
+    pub(crate) columns: &'a [u8],
+    pub(crate) values: &'a Row,
+    pub(crate) themselves: bool,
+}
+
+impl<'a> Model for IsUpTo<'a> {
+    ghost use Rattle.std.specs.Prelude.{ℕ, List, Bool};
+    ghost use Rattle.lv_values.specs.declared.value.Value.{Value as AValue};
+
+    ghost Value = { List ℕ × List AValue × Bool };
+
+    ghost view = { λ t. (t.columns.now, t.values.now, t.themselves) };
+}
+
+impl<'a> Test<RowVersion> for IsUpTo<'a> {
+    ghost use Rattle.lv_versions.specs.Versions.{is_upto};
+
+    ghost passed = { λ t v. is_upto t.0 t.1 t.2 v };
+
+    fn passes(&self, version: &RowVersion) -> bool {
+        match compare_to_key(self.columns, &version.row, self.values) {
+            Ordering::Less => true,
+            Ordering::Equal => self.themselves,
             Ordering::Greater => false,
         }
     }

@@ -1,29 +1,33 @@
 //! A table's row versions.
-ghost use Rattle.std.specs.Prelude.{◌≡◌, ◌+◌, ◌<◌, ◌≤◌, ◌++◌, ◌∷◌, [], ℕ, length, map, filter, Some, None, MatchOption, IfOk, OnOk, OnErr, option_to_list};
+ghost use Rattle.std.specs.Prelude.{◌≡◌, ◌+◌, ◌<◌, ◌≤◌, ◌++◌, ◌∷◌, [], ℕ, Bool, length, map, filter, Some, None, MatchOption, IfOk, OnOk, OnErr, option_to_list};
 ghost use Rattle.std.specs.Option.{option_to_list};
 ghost use Rattle.std.specs.List.{AllByRecursion};
 ghost use Rattle.std.specs.List.Sorted.{IsPermutation};
 ghost use Rattle.lv_values.specs.Rows.{key_cmp};
 ghost use Rattle.lv_schema.specs.Nets.{with_net};
 ghost use Rattle.lv_schema.specs.Once.{Ascends};
-ghost use Rattle.lv_shelf.specs.Cuts.{Apart};
-ghost use Rattle.lv_versions.specs.Versions.{Applies, AreEndedIn, EndsFrom, IsBy, Precedes, ends_after, lost, new_version, row_with, rows_hit, rows_with, soonest_after, state_at};
+ghost use Rattle.lv_shelf.specs.Cuts.{Apart, Falls};
+ghost use Rattle.lv_shelf.specs.Shelves.{other_at};
+ghost use Rattle.lv_versions.specs.Versions.{Applies, EndsFrom, HaveOrders, IsBy, Precedes, ends_after, is_upto, lost, new_version, row_with, rows_hit, rows_with, soonest_after, state_at};
 
 use crate::changing::change;
 use crate::dropping::drop_over;
-use crate::version::{Reaches, hits, is_at};
-use lv_schema::{Net, RowVersion, TableDef};
+use crate::indexes::{add_first, add_index, index_by};
+use crate::version::{IsUpTo, Reaches, hits, is_at};
+use lv_schema::{Net, Positions, RowVersion, TableDef};
 use lv_shelf::Shelf;
-use lv_values::{Copying, NoMemory, Row, Rows, Steps};
+use lv_values::{Copying, NoMemory, Room, Row, Rows, Steps};
 use std::alloc::Global;
 use std::marker::Model;
 use std::sync::ledger::Ledger;
 
-/// A table's rows after each commit.
+/// A table's rows after each commit. It may have indexes, by columns of which `probe` is asked: they make it faster,
+/// and no answer tells of them.
 #[derive(Drop)]
 pub struct Versions {
     def: TableDef,
     versions: Shelf<RowVersion>,
+    indexes: Room<Positions>,
     last: u64,
     floor: u64,
     soonest: u64,
@@ -37,7 +41,7 @@ impl Model for Versions {
 
     ghost view = { λ v. record { def = v.def; versions = v.versions.list; spare = v.versions.spare; last = v.last; floor = v.floor } };
 
-    ghost invariant = { λ v. AreKept v.def.key v.last v.floor v.soonest v.versions.others v.versions.list };
+    ghost invariant = { λ v. AreKept v.def.key v.last v.floor v.soonest v.indexes.list v.versions.spare v.versions.others v.versions.list };
 }
 
 impl Versions {
@@ -51,6 +55,7 @@ impl Versions {
         Versions {
             def,
             versions: Shelf::new(alloc),
+            indexes: Room::new(alloc),
             last: 0,
             floor: 0,
             soonest: u64::MAX,
@@ -104,7 +109,8 @@ impl Versions {
     }
 
     /// The rows after commit n that have these values in these columns, in the order of their keys.
-    /// Cost: one pass over the versions, and a copy of each row.
+    /// Cost: a copy of each row, and with an index by these columns two binary searches and the versions of all commits
+    /// that have these values, or else one pass over the versions.
     pub fn probe<L: Ledger>(
         &self,
         alloc: Global,
@@ -115,11 +121,37 @@ impl Versions {
     ) -> Result<Rows, NoMemory>
         requires { self.now.floor ≤ n }
         ensures rows { IfOk result (λ rows. rows ≡ rows_with columns.now values.now (state_at n self.now.versions)) }
+        ensures keyed { Ascends (key_cmp self.now.def.key) (rows_with columns.now values.now (state_at n self.now.versions)) }
         ensures cost { OnOk result (steps.new ≡ steps.old + length (rows_with columns.now values.now (state_at n self.now.versions))) }
         ensures most { OnErr result (steps.new ≤ steps.old + length (rows_with columns.now values.now (state_at n self.now.versions))) }
     {
         let versions = &self.versions;
-        rows_with(alloc, n, columns, values, versions, steps)
+        match index_by(self.indexes.as_slice(), columns) {
+            Some(index) => rows_between(alloc, n, columns, values, index + 1, versions, steps),
+            None => rows_with(alloc, n, columns, values, versions, steps),
+        }
+    }
+
+    /// Adds an index by some columns, in which `probe` then searches, and which `commit` and `prune` keep: each costs
+    /// a binary search and a move of small numbers more for each row. Where there is one, nothing changes, as for want
+    /// of memory. Cost: a binary search and a move of small numbers for each version.
+    pub fn add_index(&mut self, columns: &[u8]) -> Result<(), NoMemory>
+        ensures def { self.new.def ≡ self.old.def }
+        ensures same { self.new.versions ≡ self.old.versions }
+        ensures last { self.new.last ≡ self.old.last }
+        ensures floor { self.new.floor ≡ self.old.floor }
+        ensures room { self.new.spare ≡ self.old.spare }
+    {
+        if index_by(self.indexes.as_slice(), columns).is_some() {
+            return Ok(());
+        }
+        add_index(
+            self.alloc,
+            self.def.key.as_slice(),
+            columns,
+            &mut self.indexes,
+            &mut self.versions,
+        )
     }
 
     /// Makes room for `rows` rows. The versions stay as they were, and the room never shrinks.
@@ -131,14 +163,12 @@ impl Versions {
         ensures room { OnOk result (rows ≤ self.new.spare) }
         ensures kept { self.old.spare ≤ self.new.spare }
     {
-        if self.versions.len() == 0 && self.versions.orders() == 0 {
-            self.versions.add_order(self.alloc)?;
-        }
+        add_first(self.alloc, &mut self.versions)?;
         self.versions.reserve(rows)
     }
 
     /// Commits a net change. It takes no memory. Cost: a binary search for each row that goes or comes, and a move of
-    /// small numbers for each that comes.
+    /// small numbers for each that comes, with a search and a move more in each index.
     pub fn commit(&mut self, number: u64, net: Net)
         requires later { self.old.last < number }
         requires above { self.old.floor < number }
@@ -153,14 +183,20 @@ impl Versions {
         ensures room { self.new.spare + length net.plus ≡ self.old.spare }
     {
         let soonest = soonest_after(self.soonest, number, &net.minus);
-        change(self.def.key.as_slice(), net, number, &mut self.versions);
+        change(
+            self.def.key.as_slice(),
+            self.indexes.as_slice(),
+            net,
+            number,
+            &mut self.versions,
+        );
         self.last = number;
         self.soonest = soonest;
     }
 
     /// Drops the versions that ended at or below a floor. It takes no memory. Cost: constant where none ended at or
-    /// below it, two binary searches and moves of small numbers for each where at most 64 did, or else two passes over
-    /// small numbers.
+    /// below it, two binary searches and moves of small numbers for each where at most 64 did, and one more in each
+    /// index, or else two passes over small numbers, and one more over those of each index.
     pub fn prune(&mut self, floor: u64)
         requires { self.old.floor ≤ floor }
         ensures kept { self.new.versions ≡ filter (λ v. ends_after floor v.until) self.old.versions }
@@ -173,6 +209,7 @@ impl Versions {
     {
         let soonest = drop_ended(
             self.def.key.as_slice(),
+            self.indexes.as_slice(),
             &mut self.versions,
             self.soonest,
             self.last,
@@ -212,24 +249,25 @@ fn soonest_after(soonest: u64, number: u64, minus: &Rows) -> u64
 /// none ends at or below the floor, or else that of the versions that go.
 fn drop_ended(
     positions: &[u8],
+    indexes: &[Positions],
     versions: &mut Shelf<RowVersion>,
     soonest: u64,
     last: u64,
     floor: u64,
 ) -> u64
-    requires order { Apart (Precedes positions.now) versions.old.list }
-    requires others { AreEndedIn versions.old.others versions.old.list }
+    requires stand { Apart (Precedes positions.now) versions.old.list }
+    requires orders { HaveOrders positions.now indexes.now versions.old.spare versions.old.others versions.old.list }
     requires ends { AllByRecursion (λ v. EndsFrom soonest v.until) versions.old.list }
     requires each { AllByRecursion (IsBy last) versions.old.list }
     ensures kept { versions.new.list ≡ filter (λ v. ends_after floor v.until) versions.old.list }
     ensures room { versions.old.spare ≤ versions.new.spare }
-    ensures others { AreEndedIn versions.new.others versions.new.list }
+    ensures orders { HaveOrders positions.now indexes.now versions.new.spare versions.new.others versions.new.list }
     ensures ends { AllByRecursion (λ v. EndsFrom result v.until) versions.new.list }
 {
     if floor < soonest {
         return soonest;
     }
-    drop_over(positions, floor, versions);
+    drop_over(positions, indexes, floor, versions);
     if floor < last { floor + 1 } else { u64::MAX }
 }
 
@@ -312,6 +350,50 @@ fn rows_with<L: Ledger>(
             columns,
             values,
             versions.get(at),
+            &mut rows,
+            steps,
+        )?;
+    }
+    Ok(rows)
+}
+
+/// Copies of the rows after commit n that have these values, from an index by these columns, and one step for each.
+/// Cost: two binary searches, and the versions between.
+fn rows_between<L: Ledger>(
+    alloc: Global,
+    n: u64,
+    columns: &[u8],
+    values: &Row,
+    order: usize,
+    versions: &Shelf<RowVersion>,
+    steps: &mut Steps<L>,
+) -> Result<Rows, NoMemory>
+    requires order { order < length versions.now.others }
+    requires falls { (b : Bool) → Falls (is_upto columns.now values.now b) (other_at versions.now.others order) }
+    ensures rows { IfOk result (λ rows. rows ≡ rows_hit columns.now values.now n (other_at versions.now.others order)) }
+    ensures cost { OnOk result (steps.new ≡ steps.old + length (rows_hit columns.now values.now n (other_at versions.now.others order))) }
+    ensures most { OnErr result (steps.new ≤ steps.old + length (rows_hit columns.now values.now n (other_at versions.now.others order))) }
+{
+    let below = IsUpTo {
+        columns,
+        values,
+        themselves: false,
+    };
+    let first = versions.cut_in(order, &below);
+    let upto = IsUpTo {
+        columns,
+        values,
+        themselves: true,
+    };
+    let end = versions.cut_in(order, &upto);
+    let mut rows = Rows::new(alloc);
+    for at in first..end {
+        push_hit(
+            alloc,
+            n,
+            columns,
+            values,
+            versions.get_in(order, at),
             &mut rows,
             steps,
         )?;

@@ -120,6 +120,21 @@ fn copy_current(
     Ok(copy)
 }
 
+/// Copies of versions, in their order.
+fn copy_versions(
+    alloc: Global,
+    versions: &Shelf<GroupVersion>,
+) -> Result<Shelf<GroupVersion>, NoMemory>
+    ensures { IfOk result (λ copy. copy.list ≡ versions.now.list) }
+{
+    let mut copy = Shelf::new(alloc);
+    copy.reserve(versions.len() as u64)?;
+    for at in 0..versions.len() {
+        push_last(&mut copy, versions.get(at).copy(alloc)?)?;
+    }
+    Ok(copy)
+}
+
 impl ViewRows {
     /// The distinct rows of a join view at a commit, and at every one below it. Cost: a sort of the rows.
     pub fn new(
@@ -165,6 +180,17 @@ impl ViewRows {
             def,
             at: point,
             versions,
+        })
+    }
+
+    /// An equal value, whatever room it has for more. Cost: linear in the versions.
+    pub fn copy(&self, alloc: Global) -> Result<ViewRows, NoMemory>
+        ensures { IfOk result (λ copy. copy ≡ record self.now { spare = copy.spare }) }
+    {
+        Ok(ViewRows {
+            def: self.def.copy(alloc)?,
+            at: self.at,
+            versions: copy_versions(alloc, &self.versions)?,
         })
     }
 

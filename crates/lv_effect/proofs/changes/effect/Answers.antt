@@ -1,24 +1,12 @@
-use Rattle.std.proofs.Common.{◌≡◌, ◌∙◌, List, sym, ap, subst}
+use Rattle.std.proofs.Common.{◌∙◌, List, ap, subst}
 use Rattle.std.specs.Prelude.{IfOk}
 use Rattle.lv_values.specs.declared.value.Value.{Value}
 use Rattle.lv_schema.specs.Effects.{matching}
 use Rattle.lv_overlay.specs.Puts.{rows_over}
 use Rattle.lv_versions.specs.Versions.{state_at}
-use Rattle.lv_effect.specs.KeyOrder.{AreInKeyOrder}
 use Rattle.lv_effect.specs.Sums.{ChangeSumsFit, SumsFit}
-use Rattle.lv_effect.proofs.KeyedRows.{ascends_ordered}
 use Rattle.lv_effect.proofs.TriedRows.{delete_tried, update_tried}
 use Rattle.lv_effect.proofs.changes.effect.Goals as goal
-
-pub insert_effect-requires : goal.insert_effect-requires
-insert_effect-requires g c =
-    let key = c.args.table.now.key in
-    let puts = c.args.own.now.list in
-    let no = c.args.table.now.no in
-    let below = state_at c.args.n c.args.base.now.versions in
-    let own = c.writes_give_own_rows.ensures key puts no below c.requires.own in
-    let is : c.as_slice-in-Insert.result.now ≡ rows_over key puts no below = c.as_slice-in-Insert.ensures ∙ c.in_ok-rows-in-Insert.ensures.rows in
-    subst (AreInKeyOrder key) (sym is) (ascends_ordered key (rows_over key puts no below) own.ascend)
 
 pub update_effect-requires : goal.update_effect-requires
 update_effect-requires g c =

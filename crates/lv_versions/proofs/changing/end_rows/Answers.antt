@@ -10,10 +10,10 @@ use Rattle.lv_versions.proofs.changing.end_rows.Goals as goal
 
 pub loop-row-init : goal.loop-row-init
 loop-row-init c = record {
-  order = c.requires.order;
+  stand = c.requires.stand;
   earlier = c.requires.earlier;
   ends = c.requires.ends;
-  others = c.requires.others;
+  orders = c.requires.orders;
   ended = sym (lost_none c.args.number c.args.versions.now.list);
   room = search rules;
 }
@@ -29,10 +29,10 @@ loop-row-preserved c =
     let start = c.args.versions.now.list in
     let more = take_more rows i row c.loop-row-test.true ∙ ap (λ r. take i rows ++ r ∷ []) (sym c.row-item.is) in
     record {
-      order = subst (Apart (Precedes ps)) (sym c.end_row.ensures.ended) (lost_order ps number (row ∷ []) vs c.loop-row.invariant.order);
+      stand = subst (Apart (Precedes ps)) (sym c.end_row.ensures.ended) (lost_order ps number (row ∷ []) vs c.loop-row.invariant.stand);
       earlier = subst (AllByRecursion (λ (v : RowVersion). v.from < number)) (sym c.end_row.ensures.ended) (lost_earlier number (row ∷ []) vs c.loop-row.invariant.earlier);
       ends = subst (AllByRecursion (λ (v : RowVersion). EndsAtMost number v.until)) (sym c.end_row.ensures.ended) (lost_at_most number (row ∷ []) vs c.loop-row.invariant.ends);
-      others = c.end_row.ensures.others;
+      orders = c.end_row.ensures.orders;
       ended = c.end_row.ensures.ended ∙ ap (map (lost number (row ∷ []))) c.loop-row.invariant.ended ∙ lost_more number (take i rows) row start ∙ ap (λ l. map (lost number l) start) (sym more);
       room = c.end_row.ensures.room ∙ c.loop-row.invariant.room;
     }

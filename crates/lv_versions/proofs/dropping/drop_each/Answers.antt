@@ -1,39 +1,37 @@
 use Rattle.std.proofs.Common.{◌≡◌, ◌+◌, ◌-◌, suc, sym, subst, ◌∙◌, arith}
 use Rattle.lv_shelf.specs.Cuts.{IsCut}
+use Rattle.lv_shelf.specs.Shelves.{other_at}
 use Rattle.lv_versions.specs.Versions.{is_over}
-use Rattle.lv_versions.proofs.Cleaning.{has_first, have_in, none_over}
+use Rattle.lv_versions.proofs.Cleaning.{first_passes, none_over, rest_cut}
+use Rattle.lv_versions.proofs.Keeping.{item_there}
 use Rattle.lv_versions.proofs.dropping.drop_each.Goals as goal
 
-pub drop_first-requires-clause-others : goal.drop_first-requires-clause-others
-drop_first-requires-clause-others c =
-    let o = c.loop.invariant.others in
+pub drop_first-requires-clause-some : goal.drop_first-requires-clause-some
+drop_first-requires-clause-some c =
     let i = c.loop.counter in
-    let many = c.args.many in
-    let is : many - i ≡ suc (many - (i + 1)) = let h = c.loop-test.true in omega arith in
-    let f = has_first c.loop.versions.others o.0 c.loop.versions.list (is_over c.args.floor) (many - i) (many - (i + 1)) is o.1.0 o.1.1.0 o.1.1.1 in
-    (f.0, (f.1.0, (f.1.1.0, f.1.1.1.0)))
+    let is : c.args.many - i ≡ suc (c.args.many - (i + 1)) = let h = c.loop-test.true in omega arith in
+    (rest_cut (is_over c.args.floor) (c.args.many - i) (c.args.many - (i + 1)) (other_at c.loop.versions.others 0) is c.loop.invariant.over).0
 
 pub loop-preserved : goal.loop-preserved
 loop-preserved c =
-    let o = c.loop.invariant.others in
     let i = c.loop.counter in
     let many = c.args.many in
+    let over = is_over c.args.floor in
+    let order = other_at c.loop.versions.others 0 in
     let is : many - i ≡ suc (many - (i + 1)) = let h = c.loop-test.true in omega arith in
-    let f = has_first c.loop.versions.others o.0 c.loop.versions.list (is_over c.args.floor) (many - i) (many - (i + 1)) is o.1.0 o.1.1.0 o.1.1.1 in
-    let gone = c.drop_first.ensures.others f.0 f.1.0 f.1.1.0 in
+    let rest = rest_cut over (many - i) (many - (i + 1)) order is c.loop.invariant.over in
+    let first = item_there order 0 rest.0 in
     record {
-      order = c.drop_first.ensures.order;
-      others = (f.1.0, (gone.0, (gone.1, f.1.1.1.1.1)));
-      kept = c.drop_first.ensures.kept f.0 f.1.0 c.args.floor f.1.1.0 f.1.1.1.1.0 ∙ c.loop.invariant.kept;
+      stand = c.drop_first.ensures.stand;
+      orders = c.drop_first.ensures.orders;
+      over = subst (IsCut over (many - (i + 1))) (sym c.drop_first.ensures.rest) rest.1;
+      kept = c.drop_first.ensures.kept first.0 c.args.floor first.1 (first_passes over (many - i) (many - (i + 1)) order first.0 is first.1 c.loop.invariant.over) ∙ c.loop.invariant.kept;
       room = omega (arith, c.drop_first.ensures.room, c.loop.invariant.room);
     }
 
 pub returns-clause-kept : goal.returns-clause-kept
 returns-clause-kept c =
-    let o = c.loop.invariant.others in
+    let order = other_at c.loop.versions.others 0 in
     let is : c.args.many - c.loop.counter ≡ 0 = let h = c.loop-test.false in omega arith in
-    let none = subst (λ n. IsCut (is_over c.args.floor) n o.0) is o.1.1.1 in
-    sym (none_over c.args.floor o.0 c.loop.versions.list o.1.1.0 none) ∙ c.loop.invariant.kept
-
-pub returns-clause-others : goal.returns-clause-others
-returns-clause-others c = let o = c.loop.invariant.others in have_in c.loop.versions.others o.0 c.loop.versions.list o.1.0 o.1.1.0
+    let none = subst (λ n. IsCut (is_over c.args.floor) n order) is c.loop.invariant.over in
+    sym (none_over c.args.floor order c.loop.versions.list c.loop.invariant.orders.ended none) ∙ c.loop.invariant.kept

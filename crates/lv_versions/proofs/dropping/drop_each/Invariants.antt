@@ -1,13 +1,14 @@
-use Rattle.std.proofs.Common.{◌≡◌, ◌≤◌, ◌∷◌, [], ◌-◌, List, filter}
-use Rattle.lv_schema.specs.declared.version.RowVersion.{RowVersion}
+use Rattle.std.proofs.Common.{◌≡◌, ◌≤◌, ◌-◌, filter}
 use Rattle.lv_shelf.specs.Cuts.{Apart, IsCut}
-use Rattle.lv_versions.specs.Versions.{AreEnded, Precedes, ends_after, is_over}
+use Rattle.lv_shelf.specs.Shelves.{other_at}
+use Rattle.lv_versions.specs.Versions.{AreOrders, Precedes, ends_after, is_over}
 use Rattle.lv_versions.proofs.dropping.drop_each.Given as goal
 
 abbrev pub invariant-loop : goal.invariant-loop
 invariant-loop l = record {
-  order : Apart (Precedes l.positions) l.versions.list;
-  others : (order : List RowVersion) × ((l.versions.others ≡ order ∷ []) × (AreEnded order l.versions.list × IsCut (is_over l.floor) (l.many - l.counter) order));
+  stand : Apart (Precedes l.positions) l.versions.list;
+  orders : AreOrders l.positions l.indexes l.versions.others l.versions.list;
+  over : IsCut (is_over l.floor) (l.many - l.counter) (other_at l.versions.others 0);
   kept : filter (λ v. ends_after l.floor v.until) l.versions.list ≡ filter (λ v. ends_after l.floor v.until) l.initial.versions.list;
   room : l.initial.versions.spare ≤ l.versions.spare;
 }

@@ -1,54 +1,99 @@
-use Rattle.std.proofs.Common.{◌≡◌, ◌∷◌, Some, refl, sym, subst, ◌∙◌, arith}
+use Rattle.std.proofs.Common.{◌≡◌, ◌+◌, [], length, length-set, true, Some, sym, ap, subst, ◌∙◌, arith}
 use Rattle.std.specs.Prelude.{slice_get}
-use Rattle.lv_shelf.specs.Shelves.{LacksItem}
+use Rattle.std.specs.List.{remove}
+use Rattle.std.proofs.lemmas.List.{get_or-set_same}
+use Rattle.lv_shelf.specs.Cuts.{Apart}
+use Rattle.lv_shelf.specs.Shelves.{LacksItem, other_at}
 use Rattle.lv_shelf.proofs.Among.{apart_remove}
 use Rattle.lv_shelf.proofs.Cutting.{got, got_within}
-use Rattle.lv_versions.specs.Versions.{Precedes, ends_after}
-use Rattle.lv_versions.proofs.Cleaning.{alone, filter_gone, first_gone, found_first, not_after, the_same}
+use Rattle.lv_versions.specs.Versions.{AreIndexed, Precedes, columns_at, ends_after, is_over}
+use Rattle.lv_versions.proofs.Cleaning.{alone, filter_gone, first_gone, not_after}
+use Rattle.lv_versions.proofs.Indexing.{indexed_rest}
+use Rattle.lv_versions.proofs.Keeping.{each_lacks, first_found, later_set}
 use Rattle.lv_versions.proofs.Standing.{before_falls}
 use Rattle.lv_versions.proofs.dropping.drop_first.Goals as goal
 
-pub get_in-first-requires : goal.get_in-first-requires
-get_in-first-requires c = rw c.requires.others.1.1.0 (record { order = omega arith; place = omega arith })
+pub get_in-first-requires-clause-order : goal.get_in-first-requires-clause-order
+get_in-first-requires-clause-order c = omega (arith, c.requires.orders.count)
 
 pub cut-at-requires : goal.cut-at-requires
-cut-at-requires c = before_falls c.args.positions.now c.get_in-first.result.now.row c.get_in-first.result.now.from c.args.versions.now.list c.requires.order
+cut-at-requires c = before_falls c.args.positions.now c.get_in-first.result.now.row c.get_in-first.result.now.from c.args.versions.now.list c.requires.stand
 
-pub leave-requires : goal.leave-requires
-leave-requires c = rw c.requires.others.1.1.0 (record { order = omega arith; place = omega arith })
+pub leave-requires-clause-order : goal.leave-requires-clause-order
+leave-requires-clause-order c = omega (arith, c.requires.orders.count)
 
-pub remove-requires-clause-at : goal.remove-requires-clause-at
-remove-requires-clause-at c =
-    let o = c.requires.others in
-    let found = found_first c.args.positions.now c.get_in-first.result.now o.0 o.1.0 c.args.versions.now.others c.args.versions.now.list c.cut-at.result o.1.1.0 c.get_in-first.ensures c.requires.order o.1.1.1 c.cut-at.ensures.cut in
-    rw c.leave.ensures.same (got_within c.args.versions.now.list c.cut-at.result o.0 found)
+pub leave_each-requires : goal.leave_each-requires
+leave_each-requires c =
+    let ps = c.args.positions.now in
+    let cs = c.args.indexes.now in
+    let old = c.args.versions.now in
+    let v = c.get_in-first.result.now in
+    let rest = remove (other_at old.others 0) 0 in
+    let found = first_found ps v (other_at old.others 0) old.list c.cut-at.result c.get_in-first.ensures c.requires.stand c.requires.orders.ended c.cut-at.ensures.cut in
+    record {
+      at = rw c.leave.ensures.same (got_within old.list c.cut-at.result v found);
+      count = ap length c.leave.ensures.left ∙ length-set old.others 0 rest ∙ c.requires.orders.count;
+      indexed = λ j lt. rw (c.leave.ensures.same, c.leave.ensures.left) (subst (λ l. AreIndexed (columns_at cs j) ps l old.list) (sym (later_set old.others rest j)) (c.requires.orders.indexed j lt));
+    }
 
-pub remove-requires-clause-alone : goal.remove-requires-clause-alone
-remove-requires-clause-alone c = λ item e.
-    let o = c.requires.others in
-    let vs = c.args.versions.now.list in
+pub remove-requires : goal.remove-requires
+remove-requires c =
+    let ps = c.args.positions.now in
+    let cs = c.args.indexes.now in
+    let old = c.args.versions.now in
+    let v = c.get_in-first.result.now in
     let at = c.cut-at.result in
-    let found = found_first c.args.positions.now c.get_in-first.result.now o.0 o.1.0 c.args.versions.now.others vs at o.1.1.0 c.get_in-first.ensures c.requires.order o.1.1.1 c.cut-at.ensures.cut in
-    let same : o.0 ≡ item = sym (got vs at o.0 item found) ∙ got vs at item item (subst (λ l. slice_get l at ≡ Some item) c.leave.ensures.same e) in
-    rw (c.leave.ensures.left, o.1.1.0) (subst (λ w. LacksItem w o.1.0) same (alone o.0 o.1.0 vs o.1.1.1), tt)
+    let rest = remove (other_at old.others 0) 0 in
+    let found = first_found ps v (other_at old.others 0) old.list at c.get_in-first.ensures c.requires.stand c.requires.orders.ended c.cut-at.ensures.cut in
+    let list = c.leave_each.ensures.same ∙ c.leave.ensures.same in
+    let there = ap (λ l. slice_get l at) list ∙ found in
+    let ended = c.leave_each.ensures.ended ∙ ap (λ l. other_at l 0) c.leave.ensures.left ∙ get_or-set_same old.others 0 rest [] (omega (arith, c.requires.orders.count)) in
+    record {
+      at = rw list (got_within old.list at v found);
+      alone = λ item e.
+          let same : v ≡ item = sym (got old.list at v v found) ∙ got old.list at item v (subst (λ l. slice_get l at ≡ Some item) list e) in
+          each_lacks item cs c.leave_each.new.versions.others (c.leave_each.ensures.count ∙ ap length c.leave.ensures.left ∙ length-set old.others 0 rest ∙ c.requires.orders.count)
+          (subst (LacksItem item) (sym ended) (subst (λ w. LacksItem w rest) same (alone v (other_at old.others 0) old.list c.get_in-first.ensures c.requires.orders.ended)))
+          (λ j lt. (c.leave_each.ensures.but item j e lt).lacks);
+    }
 
-pub returns-clause-order : goal.returns-clause-order
-returns-clause-order c = rw (c.remove.ensures.removed, c.leave.ensures.same) (apart_remove (Precedes c.args.positions.now) c.args.versions.now.list c.cut-at.result c.requires.order)
+pub returns-clause-stand : goal.returns-clause-stand
+returns-clause-stand c = rw (c.remove.ensures.removed, c.leave_each.ensures.same, c.leave.ensures.same) (apart_remove (Precedes c.args.positions.now) c.args.versions.now.list c.cut-at.result c.requires.stand)
 
-pub returns-clause-others : goal.returns-clause-others
-returns-clause-others c = λ v rest is.
-    let o = c.requires.others in
-    let vs = c.args.versions.now.list in
+pub returns-clause-orders : goal.returns-clause-orders
+returns-clause-orders c =
+    let ps = c.args.positions.now in
+    let cs = c.args.indexes.now in
+    let old = c.args.versions.now in
+    let v = c.get_in-first.result.now in
     let at = c.cut-at.result in
-    let r = the_same c.args.versions.now.others (o.0 ∷ o.1.0) (v ∷ rest) vs o.1.1.0 is o.1.1.1 in
-    let found = found_first c.args.positions.now c.get_in-first.result.now v rest c.args.versions.now.others vs at is c.get_in-first.ensures c.requires.order r c.cut-at.ensures.cut in
-    (c.remove.ensures.others ∙ c.leave.ensures.left ∙ rw is refl, rw (c.remove.ensures.removed, c.leave.ensures.same) (first_gone c.args.positions.now v rest vs at c.requires.order found r))
+    let rest = remove (other_at old.others 0) 0 in
+    let found = first_found ps v (other_at old.others 0) old.list at c.get_in-first.ensures c.requires.stand c.requires.orders.ended c.cut-at.ensures.cut in
+    let list = c.leave_each.ensures.same ∙ c.leave.ensures.same in
+    let there = ap (λ l. slice_get l at) list ∙ found in
+    let ended = c.leave_each.ensures.ended ∙ ap (λ l. other_at l 0) c.leave.ensures.left ∙ get_or-set_same old.others 0 rest [] (omega (arith, c.requires.orders.count)) in
+    record {
+      count = ap length c.remove.ensures.others ∙ c.leave_each.ensures.count ∙ ap length c.leave.ensures.left ∙ length-set old.others 0 rest ∙ c.requires.orders.count;
+      ended = rw (c.remove.ensures.removed, list, c.remove.ensures.others, ended) (first_gone ps v (other_at old.others 0) old.list at c.requires.stand found c.get_in-first.ensures c.requires.orders.ended);
+      indexed = λ j lt.
+          rw (c.remove.ensures.removed, c.remove.ensures.others)
+          (indexed_rest (columns_at cs j) ps v (other_at c.leave_each.new.versions.others (j + 1)) c.leave_each.new.versions.list at (subst (Apart (Precedes ps)) (sym list) c.requires.stand) there (c.leave_each.ensures.but v j there lt));
+    }
+
+pub returns-clause-rest : goal.returns-clause-rest
+returns-clause-rest c =
+    let old = c.args.versions.now in
+    ap (λ l. other_at l 0) c.remove.ensures.others
+    ∙ c.leave_each.ensures.ended
+    ∙ ap (λ l. other_at l 0) c.leave.ensures.left
+    ∙ get_or-set_same old.others 0 (remove (other_at old.others 0) 0) [] (omega (arith, c.requires.orders.count))
 
 pub returns-clause-kept : goal.returns-clause-kept
-returns-clause-kept c = λ v rest floor is over.
-    let o = c.requires.others in
-    let vs = c.args.versions.now.list in
-    let at = c.cut-at.result in
-    let r = the_same c.args.versions.now.others (o.0 ∷ o.1.0) (v ∷ rest) vs o.1.1.0 is o.1.1.1 in
-    let found = found_first c.args.positions.now c.get_in-first.result.now v rest c.args.versions.now.others vs at is c.get_in-first.ensures c.requires.order r c.cut-at.ensures.cut in
-    rw (c.remove.ensures.removed, c.leave.ensures.same) (filter_gone (λ w. ends_after floor w.until) v vs at found (not_after floor v over))
+returns-clause-kept c = λ w floor e over.
+    let ps = c.args.positions.now in
+    let old = c.args.versions.now in
+    let v = c.get_in-first.result.now in
+    let found = first_found ps v (other_at old.others 0) old.list c.cut-at.result c.get_in-first.ensures c.requires.stand c.requires.orders.ended c.cut-at.ensures.cut in
+    let same : v ≡ w = sym (got (other_at old.others 0) 0 v v c.get_in-first.ensures) ∙ got (other_at old.others 0) 0 w v e in
+    rw (c.remove.ensures.removed, c.leave_each.ensures.same, c.leave.ensures.same)
+    (filter_gone (λ x. ends_after floor x.until) v old.list c.cut-at.result found (not_after floor v (subst (λ x. is_over floor x ≡ true) (sym same) over)))

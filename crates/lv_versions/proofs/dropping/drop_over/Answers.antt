@@ -1,21 +1,34 @@
-use Rattle.std.proofs.Common.{◌<◌, length, sym, subst, arith}
-use Rattle.lv_shelf.specs.Cuts.{Falls, IsCut}
+use Rattle.std.proofs.Common.{◌<◌, refl, length, arith}
 use Rattle.lv_shelf.specs.Shelves.{other_at}
-use Rattle.lv_versions.specs.Versions.{ends_after, is_over}
-use Rattle.lv_versions.proofs.Cleaning.{kept_in, over_falls, the_order}
+use Rattle.lv_versions.specs.Versions.{ends_after}
+use Rattle.lv_versions.proofs.Cleaning.{over_falls}
+use Rattle.lv_versions.proofs.Keeping.{no_orders, orders_have, orders_kept, some_orders}
 use Rattle.lv_versions.proofs.dropping.drop_over.Goals as goal
+
+pub returns-then-orders-eq0-clause-kept : goal.returns-then-orders-eq0-clause-kept
+returns-then-orders-eq0-clause-kept c =
+    let old = c.args.versions.now in
+    let none = no_orders c.args.positions.now c.args.indexes.now old.spare old.others old.list (omega (arith, c.orders.ensures, c.if-orders-eq0.true)) c.requires.orders in
+    rw none refl
 
 pub cut_in-many-requires-clause-falls : goal.cut_in-many-requires-clause-falls
 cut_in-many-requires-clause-falls c =
-    let some : 0 < length c.args.versions.now.others = let h = c.if-orders-gt0.true in omega (arith, c.orders.ensures) in
-    let o = the_order c.args.versions.now.others c.args.versions.now.list some c.requires.others in
-    subst (λ l. Falls (is_over c.args.floor) (other_at l 0)) (sym o.1.0) (over_falls c.args.floor o.0 o.1.1.ends)
+    let old = c.args.versions.now in
+    let some : 0 < length old.others = let h = c.if-orders-eq0.false in omega (arith, c.orders.ensures) in
+    over_falls c.args.floor (other_at old.others 0) (some_orders c.args.positions.now c.args.indexes.now old.spare old.others old.list some c.requires.orders).ended.ends
 
-pub drop_each-requires-clause-others : goal.drop_each-requires-clause-others
-drop_each-requires-clause-others c =
-    let some : 0 < length c.args.versions.now.others = let h = c.if-orders-gt0.true in omega (arith, c.orders.ensures) in
-    let o = the_order c.args.versions.now.others c.args.versions.now.list some c.requires.others in
-    (o.0, (o.1.0, (o.1.1, subst (λ l. IsCut (is_over c.args.floor) c.cut_in-many.result (other_at l 0)) o.1.0 c.cut_in-many.ensures.cut)))
+pub drop_each-requires-clause-orders : goal.drop_each-requires-clause-orders
+drop_each-requires-clause-orders c =
+    let old = c.args.versions.now in
+    let some : 0 < length old.others = let h = c.if-orders-eq0.false in omega (arith, c.orders.ensures) in
+    some_orders c.args.positions.now c.args.indexes.now old.spare old.others old.list some c.requires.orders
 
-pub returns-clause-others : goal.returns-clause-others
-returns-clause-others c = rw (c.keep.ensures.others, c.keep.ensures.kept) (kept_in (λ v. ends_after c.args.floor v.until) c.args.versions.now.others c.args.versions.now.list c.requires.others)
+pub returns-else-many-le-FEW-clause-orders : goal.returns-else-many-le-FEW-clause-orders
+returns-else-many-le-FEW-clause-orders c =
+    let ps = c.args.positions.now in
+    let cs = c.args.indexes.now in
+    let old = c.args.versions.now in
+    let now = c.keep.new.self in
+    let some : 0 < length old.others = let h = c.if-orders-eq0.false in omega (arith, c.orders.ensures) in
+    orders_have ps cs now.spare now.others now.list
+    (rw (c.keep.ensures.others, c.keep.ensures.kept) (orders_kept ps cs (λ v. ends_after c.args.floor v.until) old.others old.list (some_orders ps cs old.spare old.others old.list some c.requires.orders)))

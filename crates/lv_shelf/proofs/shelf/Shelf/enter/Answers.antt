@@ -1,10 +1,7 @@
-use Rattle.std.proofs.Common.{◌≡◌, ◌<◌, ◌≤◌, [], ◌∙◌, sym, ap, subst, length, get_or, insert, Some, arith}
-use Rattle.std.specs.Prelude.{slice_get}
-use Rattle.std.proofs.lemmas.List.{get_or_default, get_or_read}
-use Rattle.lv_shelf.specs.Shelves.{IsHeld, IsOrder, LacksItem, items_at, slot_of}
-use Rattle.lv_shelf.proofs.Cutting.{all_at}
-use Rattle.lv_shelf.proofs.Orders.{fits, lacks_slot, length_others, lists_set, no_list, order_at, order_entered, read_other, room_at, room_set, value_set}
-use Rattle.lv_shelf.proofs.Shelved.{get_items, insert_items, length_items, some_of}
+use Rattle.std.proofs.Common.{◌≡◌, ◌≤◌, [], ◌∙◌, sym, ap, subst, length, get_or, insert, Some, vec_capacity, arith}
+use Rattle.lv_shelf.specs.Shelves.{IsOrder, LacksItem, items_at, slot_of}
+use Rattle.lv_shelf.proofs.Orders.{fits, lacks_slot, lists_set, order_entered, other_is, place_is, room_at, room_set, value_set}
+use Rattle.lv_shelf.proofs.Shelved.{insert_items, length_items}
 use Rattle.lv_shelf.proofs.shelf.Shelf.enter.Goals as goal
 
 pub index-slot-requires : goal.index-slot-requires
@@ -12,94 +9,47 @@ index-slot-requires g c =
     let s = c.self.inside in
     omega (arith, length_items s.slots.items s.order.items c.self.invariant.own.held, ap (λ r. length r.list) c.self.view_is, s.order.ok.0, c.requires.at)
 
-pub insert-requires-clause-place : goal.insert-requires-clause-place
-insert-requires-clause-place g c =
+pub insert-requires : goal.insert-requires
+insert-requires g c =
     let s = c.self.inside in
     let slots = s.slots.items in
-    let os = s.others.items in
-    let j = c.args.order in
+    let others = c.args.self.now.others in
     let x = c.index_mut.result.now in
-    let is = ap (λ r. r.others) c.self.view_is in
-    let lt : j < length os = omega (arith, length_others slots os c.args.self.now.others is, c.requires.order) in
-    let at : x ≡ get_or os j no_list = c.index_mut.ensures.value ∙ get_or_default os j x no_list lt in
-    let o = order_at slots os j x at lt c.self.invariant.lists in
-    let seen = read_other slots os c.args.self.now.others j x is at in
-    omega (arith, c.requires.place, length_items slots x.list o.held, ap length seen)
-
-pub insert-requires-clause-room : goal.insert-requires-clause-room
-insert-requires-clause-room g c =
-    let s = c.self.inside in
-    let slots = s.slots.items in
-    let os = s.others.items in
-    let j = c.args.order in
-    let x = c.index_mut.result.now in
-    let is = ap (λ r. r.others) c.self.view_is in
-    let lt : j < length os = omega (arith, length_others slots os c.args.self.now.others is, c.requires.order) in
-    let at : x ≡ get_or os j no_list = c.index_mut.ensures.value ∙ get_or_default os j x no_list lt in
-    let o = order_at slots os j x at lt c.self.invariant.lists in
-    let seen = read_other slots os c.args.self.now.others j x is at in
-    let order = s.order.items in
-    let i = c.args.at in
-    let p = c.index-slot.result.now in
-    let within : i < length order = omega (arith, length_items slots order c.self.invariant.own.held, ap (λ r. length r.list) c.self.view_is, c.requires.at) in
-    let read = get_or_read order i p within c.index-slot.ensures 0 in
-    let held : IsHeld slots p = subst (IsHeld slots) (sym read) (all_at (IsHeld slots) order i 0 within c.self.invariant.own.held) in
-    let item = some_of (slot_of slots p) held in
-    let there = ap (λ r. slice_get r.list i) (sym c.self.view_is) ∙ get_items slots order i c.self.invariant.own.held within ∙ ap (slot_of slots) (sym read) ∙ item.1 in
-    let differ = lacks_slot slots p item.0 x.list item.1 o.held (subst (LacksItem item.0) (sym seen) (c.requires.absent item.0 there)) in
-    omega (arith, fits slots x.list p held differ o, room_at (length slots) os j x at lt c.self.invariant.rooms)
+    let o = other_is slots s.order.items s.free.items (vec_capacity s.order) (vec_capacity s.free) s.others.items others c.args.order x c.self.invariant (ap (λ r. r.others) c.self.view_is) c.requires.order c.index_mut.ensures.value in
+    let slot = place_is slots s.order.items c.args.self.now.list c.args.at c.index-slot.result.now c.self.invariant.own.held (ap (λ r. r.list) c.self.view_is) c.requires.at c.index-slot.ensures in
+    let differ = lacks_slot slots c.index-slot.result.now slot.item x.list slot.there o.order.held (subst (LacksItem slot.item) (sym o.seen) (c.requires.absent slot.item slot.seen)) in
+    record {
+      place = omega (arith, c.requires.place, o.long);
+      room = omega (arith, fits slots x.list c.index-slot.result.now slot.held differ o.order, room_at (length slots) s.others.items c.args.order x o.read o.within c.self.invariant.rooms);
+    }
 
 pub invariant_of-self : goal.invariant_of-self
 invariant_of-self g c =
     let s = c.self.inside in
     let slots = s.slots.items in
-    let os = s.others.items in
-    let j = c.args.order in
+    let others = c.args.self.now.others in
     let x = c.index_mut.result.now in
-    let is = ap (λ r. r.others) c.self.view_is in
-    let lt : j < length os = omega (arith, length_others slots os c.args.self.now.others is, c.requires.order) in
-    let at : x ≡ get_or os j no_list = c.index_mut.ensures.value ∙ get_or_default os j x no_list lt in
-    let o = order_at slots os j x at lt c.self.invariant.lists in
-    let seen = read_other slots os c.args.self.now.others j x is at in
-    let order = s.order.items in
-    let i = c.args.at in
+    let o = other_is slots s.order.items s.free.items (vec_capacity s.order) (vec_capacity s.free) s.others.items others c.args.order x c.self.invariant (ap (λ r. r.others) c.self.view_is) c.requires.order c.index_mut.ensures.value in
+    let slot = place_is slots s.order.items c.args.self.now.list c.args.at c.index-slot.result.now c.self.invariant.own.held (ap (λ r. r.list) c.self.view_is) c.requires.at c.index-slot.ensures in
     let p = c.index-slot.result.now in
-    let within : i < length order = omega (arith, length_items slots order c.self.invariant.own.held, ap (λ r. length r.list) c.self.view_is, c.requires.at) in
-    let read = get_or_read order i p within c.index-slot.ensures 0 in
-    let held : IsHeld slots p = subst (IsHeld slots) (sym read) (all_at (IsHeld slots) order i 0 within c.self.invariant.own.held) in
-    let item = some_of (slot_of slots p) held in
-    let there = ap (λ r. slice_get r.list i) (sym c.self.view_is) ∙ get_items slots order i c.self.invariant.own.held within ∙ ap (slot_of slots) (sym read) ∙ item.1 in
-    let differ = lacks_slot slots p item.0 x.list item.1 o.held (subst (LacksItem item.0) (sym seen) (c.requires.absent item.0 there)) in
+    let differ = lacks_slot slots p slot.item x.list slot.there o.order.held (subst (LacksItem slot.item) (sym o.seen) (c.requires.absent slot.item slot.seen)) in
     let y = c.insert.new.self in
     record {
       own = c.self.invariant.own;
-      lists = lists_set slots os j y (subst (IsOrder slots) (sym c.insert.ensures.added) (order_entered slots x.list c.args.place p held differ o)) c.self.invariant.lists;
-      rooms = room_set (length slots) os j x y at lt c.insert.ensures.room c.self.invariant.rooms;
+      lists = lists_set slots s.others.items c.args.order y (subst (IsOrder slots) (sym c.insert.ensures.added) (order_entered slots x.list c.args.place p slot.held differ o.order)) c.self.invariant.lists;
+      rooms = room_set (length slots) s.others.items c.args.order x y o.read o.within c.insert.ensures.room c.self.invariant.rooms;
     }
 
 pub returns-clause-entered : goal.returns-clause-entered
 returns-clause-entered g c = λ thing e.
     let s = c.self.inside in
     let slots = s.slots.items in
-    let os = s.others.items in
-    let j = c.args.order in
+    let others = c.args.self.now.others in
     let x = c.index_mut.result.now in
-    let is = ap (λ r. r.others) c.self.view_is in
-    let lt : j < length os = omega (arith, length_others slots os c.args.self.now.others is, c.requires.order) in
-    let at : x ≡ get_or os j no_list = c.index_mut.ensures.value ∙ get_or_default os j x no_list lt in
-    let o = order_at slots os j x at lt c.self.invariant.lists in
-    let seen = read_other slots os c.args.self.now.others j x is at in
-    let order = s.order.items in
-    let i = c.args.at in
+    let o = other_is slots s.order.items s.free.items (vec_capacity s.order) (vec_capacity s.free) s.others.items others c.args.order x c.self.invariant (ap (λ r. r.others) c.self.view_is) c.requires.order c.index_mut.ensures.value in
+    let slot = place_is slots s.order.items c.args.self.now.list c.args.at c.index-slot.result.now c.self.invariant.own.held (ap (λ r. r.list) c.self.view_is) c.requires.at c.index-slot.ensures in
     let p = c.index-slot.result.now in
-    let within : i < length order = omega (arith, length_items slots order c.self.invariant.own.held, ap (λ r. length r.list) c.self.view_is, c.requires.at) in
-    let read = get_or_read order i p within c.index-slot.ensures 0 in
-    let held : IsHeld slots p = subst (IsHeld slots) (sym read) (all_at (IsHeld slots) order i 0 within c.self.invariant.own.held) in
-    let item = some_of (slot_of slots p) held in
-    let there = ap (λ r. slice_get r.list i) (sym c.self.view_is) ∙ get_items slots order i c.self.invariant.own.held within ∙ ap (slot_of slots) (sym read) ∙ item.1 in
-    let differ = lacks_slot slots p item.0 x.list item.1 o.held (subst (LacksItem item.0) (sym seen) (c.requires.absent item.0 there)) in
-    let y = c.insert.new.self in
-    let le : c.args.place ≤ length x.list = omega (arith, c.requires.place, length_items slots x.list o.held, ap length seen) in
-    let same : slot_of slots p ≡ Some thing = ap (slot_of slots) read ∙ sym (get_items slots order i c.self.invariant.own.held within) ∙ ap (λ r. slice_get r.list i) c.self.view_is ∙ e in
-    value_set slots os c.args.self.now.others j y (insert (get_or c.args.self.now.others j []) c.args.place thing) is
-    (ap (items_at slots) c.insert.ensures.added ∙ insert_items slots x.list c.args.place p thing o.held le same ∙ ap (λ l. insert l c.args.place thing) seen)
+    let le : c.args.place ≤ length x.list = omega (arith, c.requires.place, o.long) in
+    let same : slot_of slots p ≡ Some thing = slot.there ∙ sym slot.seen ∙ e in
+    value_set slots s.others.items others c.args.order c.insert.new.self (insert (get_or others c.args.order []) c.args.place thing) (ap (λ r. r.others) c.self.view_is)
+    (ap (items_at slots) c.insert.ensures.added ∙ insert_items slots x.list c.args.place p thing o.order.held le same ∙ ap (λ l. insert l c.args.place thing) o.seen)

@@ -2,7 +2,7 @@ use Rattle.std.proofs.Common.{◌<◌, ◌++◌, map, sym, ap, ◌∙◌, subst,
 use Rattle.std.specs.List.Sorted.{IsPermutation}
 use Rattle.lv_schema.specs.Nets.{with_net}
 use Rattle.lv_shelf.specs.Cuts.{Apart}
-use Rattle.lv_versions.specs.Versions.{Applies, AreEndedIn, Precedes, lost, new_version, state_at}
+use Rattle.lv_versions.specs.Versions.{Applies, HaveOrders, Precedes, lost, new_version, state_at}
 use Rattle.lv_versions.proofs.Cleaning.{all_at_most}
 use Rattle.lv_versions.proofs.Committed.{after_before, after_ends, after_is, after_state, after_versions, all_earlier, are_new}
 use Rattle.lv_versions.proofs.versions.Versions.commit.Goals as goal
@@ -14,11 +14,11 @@ change-requires c =
     let later : s.last < c.args.number = omega (arith, c.requires.later, ap (λ v. v.last) c.self.view_is) in
     let above : s.floor < c.args.number = omega (arith, c.requires.above, ap (λ v. v.floor) c.self.view_is) in
     let applies : Applies s.def.key c.args.net (state_at s.last vs) = subst (λ v. Applies v.def.key c.args.net (state_at v.last v.versions)) (sym c.self.view_is) c.requires.applies in
-    rw c.as_slice.ensures (record {
-      order = c.self.invariant.are.order;
+    rw (c.as_slice.ensures, c.as_slice-2.ensures) (record {
+      stand = c.self.invariant.are.order;
       earlier = all_earlier s.last c.args.number vs later c.self.invariant.are.each;
       ends = all_at_most s.last c.args.number vs later c.self.invariant.are.each;
-      others = c.self.invariant.ended;
+      orders = c.self.invariant.orders;
       new = are_new s.def.key s.last s.floor c.args.number c.args.net vs later above c.self.invariant.are applies;
       room = omega (arith, c.requires.room, ap (λ v. v.spare) c.self.view_is);
     })
@@ -31,11 +31,11 @@ invariant_of-self c =
     let above : s.floor < c.args.number = omega (arith, c.requires.above, ap (λ v. v.floor) c.self.view_is) in
     let applies : Applies s.def.key c.args.net (state_at s.last vs) = subst (λ v. Applies v.def.key c.args.net (state_at v.last v.versions)) (sym c.self.view_is) c.requires.applies in
     let changed = rw c.as_slice.ensures at c.change.ensures.changed in
-    let order = subst (Apart (Precedes s.def.key)) changed (rw c.as_slice.ensures at c.change.ensures.order) in
+    let order = subst (Apart (Precedes s.def.key)) changed (rw c.as_slice.ensures at c.change.ensures.stand) in
     rw (changed, c.soonest_after-soonest.ensures) (record {
       are = after_is s.def.key s.last s.floor c.args.number c.args.net vs later above c.self.invariant.are applies order;
       ends = after_ends s.def.key s.soonest c.args.number c.args.net vs c.self.invariant.ends;
-      ended = subst (AreEndedIn c.change.new.versions.others) changed c.change.ensures.others;
+      orders = subst (HaveOrders s.def.key s.indexes.list c.change.new.versions.spare c.change.new.versions.others) changed (rw (c.as_slice.ensures, c.as_slice-2.ensures) at c.change.ensures.orders);
     })
 
 pub returns : goal.returns
@@ -46,7 +46,7 @@ returns c =
     let above : s.floor < c.args.number = omega (arith, c.requires.above, ap (λ v. v.floor) c.self.view_is) in
     let applies : Applies s.def.key c.args.net (state_at s.last vs) = subst (λ v. Applies v.def.key c.args.net (state_at v.last v.versions)) (sym c.self.view_is) c.requires.applies in
     let changed = rw c.as_slice.ensures at c.change.ensures.changed in
-    let order = subst (Apart (Precedes s.def.key)) changed (rw c.as_slice.ensures at c.change.ensures.order) in
+    let order = subst (Apart (Precedes s.def.key)) changed (rw c.as_slice.ensures at c.change.ensures.stand) in
     record {
       state = λ n le.
           ap (state_at n) changed

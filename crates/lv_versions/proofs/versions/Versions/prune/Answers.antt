@@ -16,7 +16,7 @@ invariant_of-self c =
         each = all_filter (IsBy s.last) kept s.versions.list c.self.invariant.are.each;
         kept = all_kept kept s.versions.list;
       });
-      ended = c.drop_ended-soonest.ensures.others;
+      orders = rw (c.as_slice.ensures, c.as_slice-2.ensures) at c.drop_ended-soonest.ensures.orders;
       ends = c.drop_ended-soonest.ensures.ends;
     }
 

@@ -1,0 +1,14 @@
+use Rattle.std.proofs.Common.{◌≡◌, ℕ, ◌+◌, ◌<◌, ◌≤◌, length}
+use Rattle.lv_shelf.specs.Shelves.{other_at}
+use Rattle.lv_versions.specs.Versions.{AreIndexed, columns_at}
+use Rattle.lv_versions.proofs.indexes.enter_each.Given as goal
+
+abbrev pub invariant-loop-j : goal.invariant-loop-j
+invariant-loop-j l = record {
+  same : l.versions.list ≡ l.initial.versions.list;
+  room : l.versions.spare ≡ l.initial.versions.spare;
+  count : length l.versions.others ≡ length l.initial.versions.others;
+  ended : other_at l.versions.others 0 ≡ other_at l.initial.versions.others 0;
+  done : (k : ℕ) → k < l.j → AreIndexed (columns_at l.indexes k) l.positions (other_at l.versions.others (k + 1)) l.versions.list;
+  rest : (k : ℕ) → l.j ≤ k → other_at l.versions.others (k + 1) ≡ other_at l.initial.versions.others (k + 1);
+}

@@ -1,0 +1,16 @@
+use Rattle.std.proofs.Common.{◌≡◌, ℕ, ◌+◌, ◌<◌, ◌≤◌, length, Some}
+use Rattle.std.specs.Prelude.{slice_get}
+use Rattle.lv_schema.specs.declared.version.RowVersion.{RowVersion}
+use Rattle.lv_shelf.specs.Shelves.{other_at}
+use Rattle.lv_versions.specs.Versions.{AreIndexedBut, columns_at}
+use Rattle.lv_versions.proofs.indexes.leave_each.Given as goal
+
+abbrev pub invariant-loop-j : goal.invariant-loop-j
+invariant-loop-j l = record {
+  same : l.versions.list ≡ l.initial.versions.list;
+  room : l.versions.spare ≡ l.initial.versions.spare;
+  count : length l.versions.others ≡ length l.initial.versions.others;
+  ended : other_at l.versions.others 0 ≡ other_at l.initial.versions.others 0;
+  done : (v : RowVersion) (k : ℕ) → slice_get l.versions.list l.at ≡ Some v → k < l.j → AreIndexedBut (columns_at l.indexes k) l.positions v (other_at l.versions.others (k + 1)) l.versions.list;
+  rest : (k : ℕ) → l.j ≤ k → other_at l.versions.others (k + 1) ≡ other_at l.initial.versions.others (k + 1);
+}
