@@ -17,7 +17,9 @@ use Rattle.lv_schema.specs.UpkeepCases.{with_steps}
 use Rattle.lv_schema.specs.World.{Visible, World, last, snap, point}
 use Rattle.lv_schema.proofs.GoingOn.{served_goes_on}
 use Rattle.lv_schema.proofs.SteadyWorlds.{follows_itself, moves_steady}
-use Rattle.lv_stands.specs.Kept.{ViewKept, TransactionKept, shown, over}
+use Rattle.lv_overlay.specs.Puts.{over}
+use Rattle.lv_txn.specs.Kept.{TransactionKept}
+use Rattle.lv_stands.specs.Kept.{ViewKept, rows_shown}
 use Rattle.lv_stands.specs.Stands.{ViewStands, TransactionStands, SessionStands}
 
 -- ---- views
@@ -28,8 +30,8 @@ parts_same s t on (table ∷ tables) k le = let first = on.rows k table le in le
 pub view_goes_on : (s t : Visible) → GoesOn s t → (view : ViewDef) (p : ℕ) (k : ViewKept) → p ≤ last s → ViewStands s view p k → ViewStands t view p k
 view_goes_on s t on view p k le is = record {
   at_is = is.at_is;
-  served = served_goes_on s t on view p (λ n. shown n k.versions) le is.served;
-  groups_are = λ g. is.groups_are g ∙ ap (groups_over view) (sym (parts_same s t on view.tables p le));
+  served = served_goes_on s t on view p (λ n. rows_shown view n k) le is.served;
+  groups_are = λ n from. is.groups_are n from ∙ ap (groups_over view) (sym (parts_same s t on view.tables p le));
 }
 
 -- ---- sessions

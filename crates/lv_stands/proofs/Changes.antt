@@ -27,8 +27,12 @@ use Rattle.lv_schema.proofs.ServedQueries.{kept_live, live_within}
 use Rattle.lv_schema.proofs.SoundChanges.{change_leads}
 use Rattle.lv_schema.proofs.SoundSteps.{transaction_live}
 use Rattle.lv_schema.proofs.SteadySteps.{changed_steady}
-use Rattle.lv_stands.specs.Kept.{Put, TransactionKept, EngineKept, table_kept, put_at, over, shown}
-use Rattle.lv_stands.specs.Moves.{PutsTake, put_of, with_puts, AreOwnRows, transaction_changed, engine_changed}
+use Rattle.lv_overlay.specs.Puts.{put_at, over, PutsTake, AreOwnRows}
+use Rattle.lv_overlay.specs.declared.put.Put.{Put}
+use Rattle.lv_txn.specs.Kept.{TransactionKept, changed_by as kept_changed}
+use Rattle.lv_txn.specs.Written.{put_of}
+use Rattle.lv_stands.specs.Kept.{EngineKept, table_kept, shown}
+use Rattle.lv_stands.specs.Moves.{with_puts, engine_changed}
 use Rattle.lv_stands.specs.Stands.{TransactionStands, StandsFor}
 use Rattle.lv_stands.proofs.Statements.{session_moves, transaction_of}
 
@@ -45,7 +49,7 @@ pub writes_can_take : (tables : List TableDef) (actions : List Action) (puts : L
 writes_can_take = puts_take
 
 -- ---- the rows that a transaction reads
-live_at : (xs : List (Option Open)) (i : ℕ) (o : Open) → get_or xs i None ≡ Some o → Among (live xs) o.snapshot
+pub live_at : (xs : List (Option Open)) (i : ℕ) (o : Open) → get_or xs i None ≡ Some o → Among (live xs) o.snapshot
 live_at [] i o e = absurd (cc)
 live_at (None ∷ xs) zero o e = absurd (cc)
 live_at (Some p ∷ xs) zero o e = let same : o ≡ p = cc in inl (ap (λ (x : Open). x.snapshot) same)
@@ -61,11 +65,11 @@ snapshot_kept w session steady le = by (slice_index_or w.visible.sessions sessio
     by (Some o) e = let l = live_at w.visible.sessions session o e in (kept_live w o.snapshot steady l, live_within w o.snapshot steady l)
 
 pub own_rows_are : (w : World) (e : EngineKept) (session t : ℕ) (k : TransactionKept) (rows : List (List Value)) → StandsFor w e → slice_index_or e.sessions session None ≡ Some k → t < length e.tables → w.upkeep.pruned ≤ last w.visible
-    → AreOwnRows e.tables k.puts t (shown k.snapshot (table_kept e.base.tables t).versions) rows → rows ≡ rows_of (transaction session w.visible).own t
+    → AreOwnRows (table_at e.tables t).key k.puts t (shown k.snapshot (table_kept e.base.tables t).versions) rows → rows ≡ rows_of (transaction session w.visible).own t
 own_rows_are w e session t k rows is at lt le own =
     let kt = transaction_of w.visible e.sessions session k is.sessions_stand at in
     let there : t < length w.visible.tables = subst (λ ts. t < length ts) is.tables_are lt in
-    let here : AreOwnRows w.visible.tables k.puts t (shown k.snapshot (table_kept e.base.tables t).versions) rows = subst (λ ts. AreOwnRows ts k.puts t (shown k.snapshot (table_kept e.base.tables t).versions) rows) is.tables_are own in
+    let here : AreOwnRows (table_at w.visible.tables t).key k.puts t (shown k.snapshot (table_kept e.base.tables t).versions) rows = subst (λ ts. AreOwnRows (table_at ts t).key k.puts t (shown k.snapshot (table_kept e.base.tables t).versions) rows) is.tables_are own in
     let at_snapshot = snapshot_kept w session is.steady le in
     let below : shown k.snapshot (table_kept e.base.tables t).versions ≡ rows_of (snap w.visible (transaction session w.visible).snapshot) t =
     ap (λ n. shown n (table_kept e.base.tables t).versions) kt.snapshot_is ∙ (is.base_stands.each t there).reads (transaction session w.visible).snapshot at_snapshot.0 at_snapshot.1 in
@@ -74,7 +78,7 @@ own_rows_are w e session t k rows is at lt le own =
     (λ key. here.each key ∙ ap (λ rs. over k.puts (t, key) (row_at (table_at w.visible.tables t).key key rs)) below ∙ kt.own (t, key))
 
 -- ---- a change
-ok_means : {A : Type 0} (x : Option Fault) (a b : A) → ok_unless x a ≡ Ok b → (x ≡ None) × (a ≡ b)
+pub ok_means : {A : Type 0} (x : Option Fault) (a b : A) → ok_unless x a ≡ Ok b → (x ≡ None) × (a ≡ b)
 ok_means None a b e = let same : a ≡ b = cc in (refl, same)
 ok_means (Some f) a b e = absurd (cc)
 
@@ -83,7 +87,7 @@ pub changed_stands : (session : ℕ) (change : Change) (w : World) (e : EngineKe
     → StandsFor (world_after (changed session change w.visible) w) (engine_changed session puts effect.actions k e)
 changed_stands session change w e k rows effect puts is at bound own ok take =
     subst (λ (x : Case ℕ). StandsFor (world_after x w) (engine_changed session puts effect.actions k e)) (sym now)
-    (session_moves w e session (Some changed_one) (Some (transaction_changed puts effect.actions k)) is
+    (session_moves w e session (Some changed_one) (Some (kept_changed puts effect.actions k)) is
     (subst (λ (x : Case ℕ). GoesOn w.visible x.next) now (changed_goes_on session change w.visible is.steady.sound))
     (subst (λ (x : Case ℕ). IsSteady (world_after x w)) now (changed_steady session change w is.steady bound))
     (record {

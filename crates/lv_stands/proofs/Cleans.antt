@@ -20,8 +20,10 @@ use Rattle.lv_schema.proofs.KeptCounts.{versions_are_counted, entries_are_counte
 use Rattle.lv_schema.proofs.Replay.{keyed_database}
 use Rattle.lv_schema.proofs.SteadyUpkeep.{cleaning_steady}
 use Rattle.lv_schema.proofs.SteadyWorlds.{floor_last, least_among}
-use Rattle.lv_stands.specs.Kept.{TableKept, BaseKept, ViewKept, TransactionKept, EngineKept, table_kept, view_kept}
-use Rattle.lv_stands.specs.Moves.{TableCleaned, BaseCleaned, ViewCleaned, ViewsCleaned, live_kept, floor_kept, least_read, versions_counted, engine_cleaned}
+use Rattle.lv_txn.specs.Kept.{TransactionKept, live_kept}
+use Rattle.lv_viewrows.specs.Kept.{rows_listed}
+use Rattle.lv_stands.specs.Kept.{TableKept, BaseKept, ViewKept, EngineKept, table_kept, view_kept}
+use Rattle.lv_stands.specs.Moves.{TableCleaned, BaseCleaned, ViewCleaned, ViewsCleaned, floor_kept, least_read, versions_counted, engine_cleaned}
 use Rattle.lv_stands.specs.Stands.{HaveSame, TableStands, BaseStands, ViewStands, SessionStands, StandsFor}
 use Rattle.lv_stands.proofs.Lists.{sum-filter}
 use Rattle.lv_stands.proofs.Tasks.{filter_twice}
@@ -70,10 +72,10 @@ view_cleaned : (s : Visible) (view : ViewDef) (p m : ℕ) (old new : ViewKept) �
 view_cleaned s view p m old new lives is c = record {
   at_is = c.at_stays ∙ is.at_is;
   served = record {
-    now = λ k le. c.reads k (inr (omega (arith, is.at_is))) ∙ is.served.now k le;
-    before = λ k l lt. c.reads k (inl (lives k l)) ∙ is.served.before k l lt;
+    now = λ k le. ap (rows_listed view) (c.reads k (inr (omega (arith, is.at_is)))) ∙ is.served.now k le;
+    before = λ k l lt. ap (rows_listed view) (c.reads k (inl (lives k l))) ∙ is.served.before k l lt;
   };
-  groups_are = λ g. c.groups_stay ∙ is.groups_are g;
+  groups_are = λ n le. c.reads n (inr (omega (arith, is.at_is))) ∙ is.groups_are n le;
 }
 
 -- ---- what is read of the value alone

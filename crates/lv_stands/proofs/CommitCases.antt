@@ -12,7 +12,8 @@ use Rattle.lv_schema.specs.Effects.{first_fault}
 use Rattle.lv_schema.specs.Records.{commit_record}
 use Rattle.lv_schema.specs.WholeWorld.{world_after}
 use Rattle.lv_schema.specs.World.{World, last, transaction}
-use Rattle.lv_stands.specs.Kept.{BaseKept, TransactionKept, EngineKept}
+use Rattle.lv_txn.specs.Kept.{TransactionKept}
+use Rattle.lv_stands.specs.Kept.{BaseKept, EngineKept}
 use Rattle.lv_stands.specs.Moves.{BaseCommits, engine_committed, engine_rolled_back, refusal_in, answer_written, answer_unless, commit_answer, kept_written, kept_unless, commit_kept}
 use Rattle.lv_stands.specs.Stands.{TransactionStands, StandsFor}
 use Rattle.lv_stands.proofs.Refusals.{refusal_is}

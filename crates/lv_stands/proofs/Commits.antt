@@ -3,6 +3,7 @@ use Rattle.std.proofs.Common.{◌≡◌, ℕ, zero, suc, ◌+◌, ◌-◌, ◌<�
 use Rattle.std.specs.Prelude.{◌⊎◌}
 use Rattle.std.specs.List.{filter, sum_by, AllByRecursion}
 use Rattle.std.proofs.lemmas.List.Elements.{filter-append}
+use Rattle.std.proofs.lemmas.List.Sums.{sum_by-append}
 use mathlib.Core.Logic.{inl, inr}
 use Rattle.lv_values.specs.declared.value.Value.{Value}
 use Rattle.lv_values.specs.Rows.{key_cmp}
@@ -19,7 +20,7 @@ use Rattle.lv_schema.proofs.NetsLead.{any_lacking, elements, net_leads}
 use Rattle.lv_stands.specs.Kept.{TableKept, shown}
 use Rattle.lv_stands.specs.Moves.{lost, TableCommits}
 use Rattle.lv_stands.specs.Stands.{HaveSame, TableStands}
-use Rattle.lv_stands.proofs.Lists.{sum-map, sum-append}
+use Rattle.lv_stands.proofs.Lists.{sum-map}
 
 abbrev pub ARow : Type 0
 ARow = List Value
@@ -142,10 +143,10 @@ module _ (s next : Visible) (is_next : IsNext s next) (t : ℕ) where
       kept : HaveSame (kept_versions next pruned t) new.versions
       kept f =
           c.versions_are f
-          ∙ sum-append f (map (lost (suc (last s)) (lacking before after)) old.versions) (map (new_version (suc (last s))) (lacking after before))
+          ∙ sum_by-append f (map (lost (suc (last s)) (lacking before after)) old.versions) (map (new_version (suc (last s))) (lacking after before))
           ∙ ap (λ n. n + sum_by f (map (new_version (suc (last s))) (lacking after before)))
           (sum-map (lost (suc (last s)) (lacking before after)) f old.versions
           ∙ is.kept (λ v. f (lost (suc (last s)) (lacking before after) v))
           ∙ sym (sum-map (lost (suc (last s)) (lacking before after)) f (kept_versions s pruned t)))
-          ∙ sym (sum-append f (map (lost (suc (last s)) (lacking before after)) (kept_versions s pruned t)) (map (new_version (suc (last s))) (lacking after before)))
+          ∙ sym (sum_by-append f (map (lost (suc (last s)) (lacking before after)) (kept_versions s pruned t)) (map (new_version (suc (last s))) (lacking after before)))
           ∙ ap (sum_by f) (sym (kept_next pruned le))

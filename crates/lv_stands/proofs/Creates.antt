@@ -24,7 +24,9 @@ use Rattle.lv_schema.specs.World.{Visible, World, empty_world, last, snap, no_ta
 use Rattle.lv_schema.proofs.GoingOn.{table_goes_on}
 use Rattle.lv_schema.proofs.Replay.{keyed_database}
 use Rattle.lv_schema.proofs.SteadySteps.{empty_steady, table_made_steady}
-use Rattle.lv_stands.specs.Kept.{TableKept, BaseKept, TransactionKept, EngineKept, no_table_kept, table_kept, over}
+use Rattle.lv_overlay.specs.Puts.{over}
+use Rattle.lv_txn.specs.Kept.{TransactionKept}
+use Rattle.lv_stands.specs.Kept.{TableKept, BaseKept, EngineKept, no_table_kept, table_kept}
 use Rattle.lv_stands.specs.Moves.{engine_empty, table_new, engine_with_table, journal_with}
 use Rattle.lv_stands.specs.Stands.{TableStands, BaseStands, SessionStands, StandsFor}
 use Rattle.lv_stands.proofs.Commits.{versions_alike}

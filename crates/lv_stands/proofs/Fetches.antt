@@ -10,10 +10,12 @@ use Rattle.lv_schema.specs.UpkeepCases.{Fetched, no_pending, chosen_view, claim_
 use Rattle.lv_schema.specs.World.{Upkeep, World, last, Settings}
 use Rattle.lv_schema.proofs.Candidates.{chosen_is}
 use Rattle.lv_schema.proofs.SteadyUpkeep.{fetching_steady}
+use Rattle.lv_upkeep.specs.Kept.{claim_kept, planned_in}
 use Rattle.lv_stands.specs.Kept.{EngineKept}
-use Rattle.lv_stands.specs.Moves.{planned_in, view_chosen, kept_fetched, kept_among, kept_by, engine_fetching}
+use Rattle.lv_stands.specs.Moves.{inside_kept, view_chosen, kept_fetched, kept_among, kept_by, engine_fetching}
 use Rattle.lv_stands.specs.Stands.{StandsFor}
-use Rattle.lv_stands.proofs.Workers.{claimed_stands, planned_is_told, unclaimed_is_told}
+use Rattle.lv_stands.proofs.Upkeeps.{planned_is}
+use Rattle.lv_stands.proofs.Workers.{claimed_stands, unclaimed_is_told}
 
 module _ (settings : Settings) (worker : ℕ) (w : World) (e : EngineKept) (is : StandsFor w e) where
   abbrev Fits : Fetched × Upkeep → Fetched × EngineKept → Type 0
@@ -30,8 +32,8 @@ module _ (settings : Settings) (worker : ℕ) (w : World) (e : EngineKept) (is :
   among [] h = (refl, λ steady. is)
   among (p ∷ ps) h =
       let in_use = (chosen_is settings.policy w (omega (arith, ap length h))).in_use in
-      let told : planned_in settings (view_chosen settings.policy e) e e.base.number ≡ planned settings (chosen_view settings.policy w) w (last w.visible) =
-      (λ i. planned_in settings (view_is i) e (is.base_stands.number_is i)) ∙ planned_is_told w e settings (chosen_view settings.policy w) (last w.visible) is in_use (omega arith) in
+      let told : planned_in (inside_kept e) settings.combine e.upkeep (view_chosen settings.policy e) e.base.number ≡ planned settings (chosen_view settings.policy w) w (last w.visible) =
+      (λ i. planned_in (inside_kept e) settings.combine e.upkeep (view_is i) (is.base_stands.number_is i)) ∙ planned_is w e is settings (chosen_view settings.policy w) (last w.visible) in_use in
       subst (λ x. Fits (fetched_step (planned settings (chosen_view settings.policy w) w (last w.visible)) worker w.upkeep) (kept_fetched x worker e)) (sym told)
       (step (planned settings (chosen_view settings.policy w) w (last w.visible)))
 
@@ -42,6 +44,6 @@ module _ (settings : Settings) (worker : ℕ) (w : World) (e : EngineKept) (is :
 
   pub fetch_stands : ((fetching settings worker w).0 ≡ (engine_fetching settings worker e).0) × StandsFor (record { visible = w.visible; upkeep = (fetching settings worker w).1 }) (engine_fetching settings worker e).1
   fetch_stands =
-      let same : slice_index_or e.upkeep.claims worker None ≡ claim_of w.upkeep worker = ap (λ cs. slice_index_or cs worker None) is.upkeep_stands.claims_are in
+      let same : claim_kept e.upkeep worker ≡ claim_of w.upkeep worker = ap (λ cs. slice_index_or cs worker None) is.upkeep_stands.claims_are in
       let fits = subst (λ x. Fits (fetch_by (claim_of w.upkeep worker) settings worker w) (kept_by x settings worker e)) (sym same) (cases (claim_of w.upkeep worker)) in
       (fits.0, fits.1 (fetching_steady settings worker w is.steady))

@@ -3,7 +3,7 @@ use Rattle.std.proofs.Common.{◌≡◌, ℕ, zero, suc, ◌+◌, ◌-◌, ◌<�
 use Rattle.std.specs.Prelude.{nat_lt, nat_le}
 use Rattle.std.specs.List.{filter, flat_map, list_all}
 use Rattle.std.proofs.lemmas.Bool.Decides.{nat_tests}
-use Rattle.std.proofs.lemmas.List.{map-append}
+use Rattle.std.proofs.lemmas.List.{map-append, append-nil}
 use Rattle.std.proofs.lemmas.List.Elements.{filter-append}
 use Rattle.lv_schema.specs.declared.action.Action.{Action}
 use Rattle.lv_schema.specs.declared.action.DeltaEntry.{DeltaEntry}
@@ -54,10 +54,6 @@ of_all lo hi commits (k ∷ ks) =
     by true = refl
     by false = refl
 
-append_nil : {X : Type 0} (xs : List X) → xs ++ [] ≡ xs
-append_nil [] = refl
-append_nil (x ∷ xs) = ap (λ l. x ∷ l) (append_nil xs)
-
 -- numbers above hi are left out, and those up to it are all
 upto_same : (lo hi n : ℕ) → n ≤ hi → filter (λ k. nat_lt lo k && nat_le k hi) (numbers n) ≡ filter (nat_lt lo) (numbers n)
 upto_same lo hi zero le = refl
@@ -80,7 +76,7 @@ beyond lo hi (suc d) =
     ap (λ n. filter (λ k. nat_lt lo k && nat_le k hi) (numbers n)) e
     ∙ filter-append (λ k. nat_lt lo k && nat_le k hi) (numbers (hi + d)) (suc (hi + d) ∷ [])
     ∙ ap₂ (λ xs b. xs ++ cond b (suc (hi + d) ∷ []) []) (beyond lo hi d) off
-    ∙ append_nil (filter (nat_lt lo) (numbers hi))
+    ∙ append-nil (filter (nat_lt lo) (numbers hi))
   where
     and_false : (a : Bool) → (a && false) ≡ false
     and_false true = refl

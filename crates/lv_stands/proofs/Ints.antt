@@ -1,4 +1,4 @@
--- The numbers of a sound world's states have 64 bits, so those that a view sums have.
+-- The numbers of a sound world's databases have 64 bits, so those that a view sums have.
 use Rattle.std.proofs.Common.{◌≡◌, ℕ, ◌<◌, ◌≤◌, Bool, true, false, ◌&&◌, List, [], ◌∷◌, map, length, get_or, pos, refl, arith}
 use Rattle.std.specs.Prelude.{nat_lt}
 use Rattle.std.specs.List.{AllByRecursion, list_all, flat_map}
@@ -11,7 +11,7 @@ use Rattle.lv_schema.specs.declared.table.Column.{Column}
 use Rattle.lv_schema.specs.declared.table.Kind.{Kind}
 use Rattle.lv_schema.specs.declared.table.Kind.TheVariants.{Int, Text, Big}
 use Rattle.lv_schema.specs.Bound.{is_table_kind}
-use Rattle.lv_schema.specs.Databases.{is_int, rows_of, value_fits, row_fits}
+use Rattle.lv_schema.specs.Databases.{Db, IsDatabase, is_int, rows_of, value_fits, row_fits}
 use Rattle.lv_schema.specs.Differences.{summed_columns}
 use Rattle.lv_schema.specs.Groups.{number_at}
 use Rattle.lv_schema.specs.JoinViews.{parts_of, selected}
@@ -72,20 +72,24 @@ tuple_bits (col ∷ cols) tuple a =
     let first : is_int (number_at col tuple) ≡ true = number_bits (value_at tuple col) (all_get HasBits (get_or tuple col.alias []) col.column (Num (pos 0)) refl (all_get (AllByRecursion HasBits) tuple col.alias [] tt a)) in
     rw first (tuple_bits cols tuple a)
 
-module _ (s : Visible) (sound : IsSound s) (k : ℕ) (le : k ≤ last s) where
-  parts_bits : (tables : List ℕ) → list_all (λ t. nat_lt t (length s.tables)) tables ≡ true → AllByRecursion RowsHaveBits (parts_of tables (snap s k))
-  parts_bits [] e = tt
-  parts_bits (t ∷ tables) e =
+module _ (s : Visible) (sound : IsSound s) where
+  parts_bits : (db : Db) → IsDatabase s.tables db → (tables : List ℕ) → list_all (λ t. nat_lt t (length s.tables)) tables ≡ true → AllByRecursion RowsHaveBits (parts_of tables db)
+  parts_bits db fits [] e = tt
+  parts_bits db fits (t ∷ tables) e =
       let es = both (nat_lt t (length s.tables)) (list_all (λ t. nat_lt t (length s.tables)) tables) e in
       let test = es.0 in
       let lt : t < length s.tables = grind (arith, nat_tests) in
-      let is = zip_at s.tables (snap s k) t (sound.fits k le) lt in
-      (all_weaker (λ row. row_fits (table_at s.tables t).columns row ≡ true) (AllByRecursion HasBits) (λ row h. row_bits (table_at s.tables t).columns row (sound.schema.each_table t lt).kinds h) (rows_of (snap s k) t) is.fits, parts_bits tables es.1)
+      let is = zip_at s.tables db t fits lt in
+      (all_weaker (λ row. row_fits (table_at s.tables t).columns row ≡ true) (AllByRecursion HasBits) (λ row h. row_bits (table_at s.tables t).columns row (sound.schema.each_table t lt).kinds h) (rows_of db t) is.fits, parts_bits db fits tables es.1)
 
-  pub tuples_are_ints : (v : ℕ) → v < length s.views → AreInts (view_at s.views v) (selected (view_at s.views v).cond (parts_of (view_at s.views v).tables (snap s k)))
-  tuples_are_ints v lt =
+  -- over any database of the tables
+  pub tuples_over_are_ints : (db : Db) → IsDatabase s.tables db → (v : ℕ) → v < length s.views → AreInts (view_at s.views v) (selected (view_at s.views v).cond (parts_of (view_at s.views v).tables db))
+  tuples_over_are_ints db fits v lt =
       let view = view_at s.views v in
-      let parts = parts_of view.tables (snap s k) in
+      let parts = parts_of view.tables db in
       all_weaker RowsHaveBits (λ tuple. list_all (λ col. is_int (number_at col tuple)) (summed_columns view) ≡ true) (λ tuple a. tuple_bits (summed_columns view) tuple a)
       (selected view.cond parts)
-      (all_filter RowsHaveBits (holds view.cond) (tuples parts) (tuples_bits parts (parts_bits view.tables (sound.schema.each_view v lt).in_use)))
+      (all_filter RowsHaveBits (holds view.cond) (tuples parts) (tuples_bits parts (parts_bits db fits view.tables (sound.schema.each_view v lt).in_use)))
+
+  pub tuples_are_ints : (k : ℕ) → k ≤ last s → (v : ℕ) → v < length s.views → AreInts (view_at s.views v) (selected (view_at s.views v).cond (parts_of (view_at s.views v).tables (snap s k)))
+  tuples_are_ints k le = tuples_over_are_ints (snap s k) (sound.fits k le)

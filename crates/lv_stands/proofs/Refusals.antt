@@ -30,7 +30,8 @@ use Rattle.lv_schema.proofs.Numbers.{Each}
 use Rattle.lv_schema.proofs.Replay.{keyed_database, all_up}
 use Rattle.lv_schema.proofs.SoundSteps.{transaction_live}
 use Rattle.lv_schema.proofs.SteadyWorlds.{floor_last}
-use Rattle.lv_stands.specs.Kept.{TransactionKept, EngineKept, table_kept, shown}
+use Rattle.lv_txn.specs.Kept.{TransactionKept}
+use Rattle.lv_stands.specs.Kept.{EngineKept, table_kept, shown}
 use Rattle.lv_stands.specs.Moves.{rows_after, full_in, refusal_in}
 use Rattle.lv_stands.specs.Stands.{TransactionStands, StandsFor}
 use Rattle.lv_stands.proofs.Statements.{transaction_of}

@@ -20,7 +20,7 @@ use Rattle.lv_schema.proofs.Apart.{all_weaker, all_both, all_true}
 use Rattle.lv_schema.proofs.PlannedSteps.{planned_is}
 use Rattle.lv_schema.proofs.ServedReaders.{query_served}
 use Rattle.lv_schema.proofs.SteadyUpkeep.{planned_step}
-use Rattle.lv_stands.specs.Kept.{EngineKept, view_kept, shown}
+use Rattle.lv_stands.specs.Kept.{EngineKept, view_kept, rows_shown}
 use Rattle.lv_stands.specs.Moves.{ViewInstalls, engine_stepped, StepsRun, StepsFollow}
 use Rattle.lv_stands.specs.Stands.{StandsFor}
 use Rattle.lv_stands.proofs.Steps.{step_stands}
@@ -39,7 +39,7 @@ follow_append [] gs w a b = b
 follow_append (f ∷ fs) gs w a b = (a.0, a.1, follow_append fs gs (record { visible = w.visible; upkeep = with_steps (f ∷ []) w.upkeep }) a.2 b)
 
 module _ (settings : Settings) (s : Visible) (m : ℕ) where
-  one_view : (v turns lo : ℕ) (u : Upkeep) → v < length s.views → v < length u.points → (view_at s.views v).created ≤ lo → point u v ≡ lo → StepsFollow (record { visible = s; upkeep = u }) (forced_within settings s v m turns lo)
+  pub one_view : (v turns lo : ℕ) (u : Upkeep) → v < length s.views → v < length u.points → (view_at s.views v).created ≤ lo → point u v ≡ lo → StepsFollow (record { visible = s; upkeep = u }) (forced_within settings s v m turns lo)
   one_view v zero lo u lt long created at = tt
   one_view v (suc turns) lo u lt long created at = by (planned_from settings s (at_point v lo) m) refl (λ hi next long' created' at'. one_view v turns hi next lt long' created' at')
     where
@@ -91,7 +91,7 @@ forced_follow settings w views m steady up lt =
 
 -- ---- what a query then reads
 pub forced_reads : (settings : Settings) (w : World) (e : EngineKept) (views : List ℕ) (m v : ℕ) → StandsFor (record { visible = w.visible; upkeep = with_steps (forced settings w views m) w.upkeep }) e → IsSteady w → v < length w.visible.views → Among views v
-    → IsLive w.visible m ⊎ (m ≡ last w.visible) → m ≤ last w.visible → shown m (view_kept e.rows v).versions ≡ view_rows (view_at w.visible.views v) (snap w.visible m)
+    → IsLive w.visible m ⊎ (m ≡ last w.visible) → m ≤ last w.visible → rows_shown (view_at w.visible.views v) m (view_kept e.rows v) ≡ view_rows (view_at w.visible.views v) (snap w.visible m)
 forced_reads settings w e views m v is steady lt a from within =
-    query_served (record { visible = w.visible; upkeep = with_steps (forced settings w views m) w.upkeep }) v m (λ n. shown n (view_kept e.rows v).versions) is.steady lt (is.views_stand.each v lt).served from within
+    query_served (record { visible = w.visible; upkeep = with_steps (forced settings w views m) w.upkeep }) v m (λ n. rows_shown (view_at w.visible.views v) n (view_kept e.rows v)) is.steady lt (is.views_stand.each v lt).served from within
     (forced_done settings w views m v (omega (arith, lt, steady.points)) a)

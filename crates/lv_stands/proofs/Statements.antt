@@ -29,9 +29,12 @@ use Rattle.lv_schema.proofs.Replay.{keyed_database}
 use Rattle.lv_schema.proofs.SoundSteps.{transaction_live}
 use Rattle.lv_schema.proofs.SteadySteps.{began_steady, rolled_back_steady, committed_steady}
 use Rattle.lv_schema.proofs.SteadyWorlds.{floor_last}
-use Rattle.lv_stands.specs.Kept.{TableKept, BaseKept, UpkeepKept, ViewKept, TransactionKept, EngineKept, table_kept, view_kept}
-use Rattle.lv_stands.specs.Moves.{TableCommits, BaseCommits, with_task, with_tasks, transaction_begun, with_transaction, engine_began, engine_rolled_back, journal_with, engine_committed}
-use Rattle.lv_stands.specs.Stands.{TableStands, BaseStands, UpkeepStands, ViewStands, ViewsStand, TransactionStands, SessionStands, SessionsStand, StandsFor}
+use Rattle.lv_txn.specs.Kept.{TransactionKept, begun}
+use Rattle.lv_upkeep.specs.Kept.{UpkeepKept}
+use Rattle.lv_upkeep.specs.Stands.{UpkeepStands}
+use Rattle.lv_stands.specs.Kept.{TableKept, BaseKept, ViewKept, EngineKept, table_kept, view_kept}
+use Rattle.lv_stands.specs.Moves.{TableCommits, BaseCommits, with_task, with_tasks, with_transaction, engine_began, engine_rolled_back, journal_with, engine_committed}
+use Rattle.lv_stands.specs.Stands.{TableStands, BaseStands, ViewStands, ViewsStand, TransactionStands, SessionStands, SessionsStand, StandsFor}
 use Rattle.lv_stands.proofs.Commits.{versions_alike, IsNext, table_commits}
 use Rattle.lv_stands.proofs.Tasks.{entries_next, tasks_next, with_tasks_long, with_tasks_at}
 use Rattle.lv_stands.proofs.Carried.{view_goes_on, sessions_go_on}
@@ -81,7 +84,7 @@ session_moves w e session o k is on steady now = record {
 
 pub began_stands : (session : ℕ) (w : World) (e : EngineKept) → StandsFor w e → StandsFor (world_after (began session w.visible) w) (engine_began session e)
 began_stands session w e is =
-    session_moves w e session (Some (opened w.visible)) (Some (transaction_begun e.base.number)) is (began_goes_on session w.visible is.steady.sound) (began_steady session w is.steady)
+    session_moves w e session (Some (opened w.visible)) (Some (begun e.base.number)) is (began_goes_on session w.visible is.steady.sound) (began_steady session w is.steady)
     (record { snapshot_is = is.base_stands.number_is; actions_are = refl; changes_are = refl; own = λ p. refl })
 
 pub rolled_back_stands : (session : ℕ) (w : World) (e : EngineKept) → StandsFor w e → StandsFor (world_after (rolled_back session w.visible) w) (engine_rolled_back session e)

@@ -1,5 +1,5 @@
 -- A step of a view: its rows get the difference, its point rises, and its tasks go.
-use Rattle.std.proofs.Common.{◌≡◌, ℕ, ◌<◌, ◌≤◌, Bool, true, false, cond, List, [], ◌∷◌, ◌++◌, map, length, get_or, refl, sym, ap, ◌∙◌, subst, arith}
+use Rattle.std.proofs.Common.{◌≡◌, ℕ, ◌<◌, ◌≤◌, true, false, List, [], ◌∷◌, map, length, get_or, sym, ap, ◌∙◌, subst, arith}
 use Rattle.std.specs.Prelude.{◌⊎◌, nat_lt, slice_set}
 use Rattle.std.proofs.lemmas.Bool.Decides.{nat_tests}
 use Rattle.std.proofs.lemmas.List.{length-set, get_or-set_same, get_or-set_other}
@@ -7,64 +7,43 @@ use mathlib.Core.Logic.{inl, inr}
 use Rattle.lv_values.specs.declared.value.Value.{Value}
 use Rattle.lv_schema.specs.declared.forced.Forced.{Forced}
 use Rattle.lv_schema.specs.declared.view.ViewDef.{ViewDef}
-use Rattle.lv_schema.specs.Applicable.{with_changes}
-use Rattle.lv_schema.specs.Bound.{IsProfile, IsGroupList}
-use Rattle.lv_schema.specs.Differences.{summed_columns, view_difference, groups_of}
-use Rattle.lv_schema.specs.Groups.{grouped_rows, view_rows}
-use Rattle.lv_schema.specs.JoinViews.{parts_of, join_rows}
+use Rattle.lv_schema.specs.Differences.{view_difference, groups_of}
+use Rattle.lv_schema.specs.Groups.{view_rows}
 use Rattle.lv_schema.specs.Served.{IsServed, with_install}
-use Rattle.lv_schema.specs.SignedRows.{netted}
 use Rattle.lv_schema.specs.SoundWorld.{IsSound}
 use Rattle.lv_schema.specs.Steady.{IsStep, IsSteady}
 use Rattle.lv_schema.specs.Tasks.{pending}
 use Rattle.lv_schema.specs.UpkeepCases.{with_steps}
 use Rattle.lv_schema.specs.World.{Visible, World, last, snap, view_at, point}
-use Rattle.lv_schema.proofs.DifferencesAddUp.{groups_and_difference}
-use Rattle.lv_schema.proofs.JoinChanges.{few, lead_between}
 use Rattle.lv_schema.proofs.ServedReaders.{step_served}
-use Rattle.lv_group.proofs.GroupRows.{rows_are}
-use Rattle.lv_stands.specs.Kept.{ViewKept, UpkeepKept, EngineKept, view_kept, tasks_kept, shown, no_view_kept}
-use Rattle.lv_stands.specs.Moves.{ViewInstalls, tasks_above, upkeep_stepped, engine_stepped}
-use Rattle.lv_stands.specs.Stands.{ViewStands, ViewsStand, UpkeepStands, StandsFor, task_of}
+use Rattle.lv_tasks.specs.Kept.{tasks_kept, tasks_above}
+use Rattle.lv_upkeep.specs.Kept.{UpkeepKept}
+use Rattle.lv_upkeep.specs.Moves.{upkeep_stepped}
+use Rattle.lv_upkeep.specs.Stands.{UpkeepStands, task_of}
+use Rattle.lv_viewrows.specs.Changed.{groups_with}
+use Rattle.lv_viewrows.specs.Kept.{groups_at, rows_listed}
+use Rattle.lv_stands.specs.Kept.{ViewKept, EngineKept, view_kept, rows_shown, no_view_kept}
+use Rattle.lv_stands.specs.Moves.{ViewInstalls, engine_stepped}
+use Rattle.lv_stands.specs.Stands.{ViewStands, ViewsStand, StandsFor}
 use Rattle.lv_stands.proofs.Carried.{step_steady}
-use Rattle.lv_stands.proofs.Ints.{tuples_are_ints}
 use Rattle.lv_stands.proofs.Tasks.{tasks_left}
+use Rattle.lv_stands.proofs.ViewGroups.{groups_lead_on, groups_list_rows}
 
 eq_cases : (a b : ℕ) → (a ≡ b) ⊎ (a ≡ b → ⊥)
 eq_cases a b = grind arith
 
 -- ---- the view's rows
-module _ (s : Visible) (sound : IsSound s) (v : ℕ) (lt : v < length s.views) (lo hi : ℕ) (from : lo ≤ last s) (upto : hi ≤ last s) (old new : ViewKept) where
-  abbrev view : ViewDef
-  view = view_at s.views v
+module _ (s : Visible) (sound : IsSound s) (v : ℕ) (lt : v < length s.views) (lo hi : ℕ) (upto : hi ≤ last s) (old new : ViewKept) where
+  groups_now : ViewInstalls (view_at s.views v) hi (view_difference (view_at s.views v) (snap s lo) (snap s hi)) old new → ViewStands s (view_at s.views v) lo old
+      → (n : ℕ) → hi ≤ n → groups_at n new.versions ≡ groups_of (view_at s.views v) (snap s hi)
+  groups_now i is n le =
+      i.from n le
+      ∙ ap (groups_with (view_difference (view_at s.views v) (snap s lo) (snap s hi))) (is.groups_are old.at (omega (arith, is.at_is)))
+      ∙ groups_lead_on s sound v lt lo hi upto
 
-  group_list : (b : Bool) → b ≡ true → IsProfile s.tables (view_at s.views v) b → IsGroupList (view_at s.views v)
-  group_list true e p = p
-  group_list false e p = cc
-
-  groups_now : ViewInstalls (view_at s.views v) hi (view_difference (view_at s.views v) (snap s lo) (snap s hi)) old new → ViewStands s (view_at s.views v) lo old → (view_at s.views v).grouped ≡ true → new.groups ≡ groups_of (view_at s.views v) (snap s hi)
-  groups_now i is g =
-      i.groups_are g
-      ∙ ap (λ gs. netted (length (summed_columns view)) (gs ++ view_difference view (snap s lo) (snap s hi))) (is.groups_are g)
-      ∙ groups_and_difference view (parts_of view.tables (snap s lo)) (parts_of view.tables (snap s hi))
-
-  rows_now : ViewInstalls (view_at s.views v) hi (view_difference (view_at s.views v) (snap s lo) (snap s hi)) old new → ViewStands s (view_at s.views v) lo old → (n : ℕ) → hi ≤ n → shown n new.versions ≡ view_rows (view_at s.views v) (snap s hi)
-  rows_now i is n le = by view.grouped refl
-    where
-      by : (b : Bool) → (view_at s.views v).grouped ≡ b → shown n new.versions ≡ view_rows (view_at s.views v) (snap s hi)
-      by false g =
-          i.from g n le
-          ∙ ap (with_changes (view_difference (view_at s.views v) (snap s lo) (snap s hi))) (is.served.now old.at (omega (arith, is.at_is)))
-          ∙ lead_between s sound v lt lo hi from upto g
-      by true g =
-          i.from_groups g n le
-          ∙ rows_are (view_at s.views v) (parts_of (view_at s.views v).tables (snap s hi)) (record { by = (view_at s.views v).groups; items = (view_at s.views v).items; groups = new.groups; spare = 0 }) g
-          (group_list (view_at s.views v).grouped g (sound.schema.each_view v lt).profile).listed_grouped
-          (tuples_are_ints s sound hi upto v lt)
-          (let h = few s sound v lt hi upto in omega (arith, h))
-          (record { by = refl; items = refl })
-          (groups_now i is g)
-          ∙ (λ j. cond (sym g j) (grouped_rows (view_at s.views v) (parts_of (view_at s.views v).tables (snap s hi))) (join_rows (view_at s.views v) (parts_of (view_at s.views v).tables (snap s hi))))
+  rows_now : ViewInstalls (view_at s.views v) hi (view_difference (view_at s.views v) (snap s lo) (snap s hi)) old new → ViewStands s (view_at s.views v) lo old
+      → (n : ℕ) → hi ≤ n → rows_shown (view_at s.views v) n new ≡ view_rows (view_at s.views v) (snap s hi)
+  rows_now i is n le = ap (rows_listed (view_at s.views v)) (groups_now i is n le) ∙ groups_list_rows s sound v lt hi upto
 
 served_alike : (s : Visible) (def : ViewDef) (p : ℕ) (f g : ℕ → List (List Value)) → ((k : ℕ) → g k ≡ f k) → IsServed s def p f → IsServed s def p g
 served_alike s def p f g same is = record { now = λ k le. same k ∙ is.now k le; before = λ k l lt. same k ∙ is.before k l lt }
@@ -72,21 +51,20 @@ served_alike s def p f g same is = record { now = λ k le. same k ∙ is.now k l
 pub view_stepped : (s : Visible) (f : Forced) (old new : ViewKept) → IsSound s → IsStep s f → ViewStands s (view_at s.views f.view) f.lo old
     → ViewInstalls (view_at s.views f.view) f.hi (view_difference (view_at s.views f.view) (snap s f.lo) (snap s f.hi)) old new → ViewStands s (view_at s.views f.view) f.hi new
 view_stepped s f old new sound step is i =
-    let from : f.lo ≤ last s = omega (arith, step.rises, step.within) in
     record {
       at_is = i.at_is;
-      served = served_alike s (view_at s.views f.view) f.hi (with_install f.hi (view_rows (view_at s.views f.view) (snap s f.hi)) (λ n. shown n old.versions)) (λ n. shown n new.versions)
-          (λ k. by from k (cases k f.hi))
-          (step_served s f (λ n. shown n old.versions) sound step is.served);
-      groups_are = groups_now s sound f.view step.in_use f.lo f.hi from step.within old new i is;
+      served = served_alike s (view_at s.views f.view) f.hi (with_install f.hi (view_rows (view_at s.views f.view) (snap s f.hi)) (λ n. rows_shown (view_at s.views f.view) n old)) (λ n. rows_shown (view_at s.views f.view) n new)
+          (λ k. by k (cases k f.hi))
+          (step_served s f (λ n. rows_shown (view_at s.views f.view) n old) sound step is.served);
+      groups_are = groups_now s sound f.view step.in_use f.lo f.hi step.within old new i is;
     }
   where
     cases : (k t : ℕ) → (k < t) ⊎ (t ≤ k)
     cases k t = grind arith
 
-    by : f.lo ≤ last s → (k : ℕ) → (k < f.hi) ⊎ (f.hi ≤ k) → shown k new.versions ≡ with_install f.hi (view_rows (view_at s.views f.view) (snap s f.hi)) (λ n. shown n old.versions) k
-    by from k (inl lt) = let test : nat_lt k f.hi ≡ true = grind (arith, nat_tests) in rw test (i.before k lt)
-    by from k (inr le) = let test : nat_lt k f.hi ≡ false = grind (arith, nat_tests) in rw test (rows_now s sound f.view step.in_use f.lo f.hi from step.within old new i is k le)
+    by : (k : ℕ) → (k < f.hi) ⊎ (f.hi ≤ k) → rows_shown (view_at s.views f.view) k new ≡ with_install f.hi (view_rows (view_at s.views f.view) (snap s f.hi)) (λ n. rows_shown (view_at s.views f.view) n old) k
+    by k (inl lt) = let test : nat_lt k f.hi ≡ true = grind (arith, nat_tests) in rw test (ap (rows_listed (view_at s.views f.view)) (i.before k lt))
+    by k (inr le) = let test : nat_lt k f.hi ≡ false = grind (arith, nat_tests) in rw test (rows_now s sound f.view step.in_use f.lo f.hi step.within old new i is k le)
 
 -- ---- the points and tasks
 module _ (w : World) (f : Forced) (steady : IsSteady w) (step : IsStep w.visible f) (at : point w.upkeep f.view ≡ f.lo) where

@@ -3,43 +3,34 @@ use Rattle.std.proofs.Common.{◌≡◌, ℕ, zero, suc, ◌<◌, ◌≤◌, Boo
 use Rattle.std.specs.Prelude.{nat_lt, nat_le}
 use Rattle.std.specs.List.{filter, flat_map}
 use Rattle.std.proofs.lemmas.Bool.Decides.{nat_tests}
-use Rattle.std.proofs.lemmas.List.{map-append}
+use Rattle.std.proofs.lemmas.List.{map-append, append-nil}
 use Rattle.std.proofs.lemmas.List.Elements.{filter-append}
+use Rattle.std.proofs.lemmas.Grind.{flat_map-append}
 use Rattle.lv_schema.specs.declared.action.Action.{Action}
 use Rattle.lv_schema.specs.declared.action.DeltaEntry.{DeltaEntry}
 use Rattle.lv_schema.specs.declared.view.ViewDef.{ViewDef}
-use Rattle.lv_schema.specs.Tasks.{actions_on, is_task, is_pending, pending}
+use Rattle.lv_schema.specs.Tasks.{actions_on, is_pending, pending}
 use Rattle.lv_schema.specs.Versions.{delta_entry, delta_entries, kept_entries}
 use Rattle.lv_schema.specs.World.{Visible, last, commit_at, numbers, no_view}
 use Rattle.lv_schema.proofs.Numbers.{Each, each_weaker, numbers_each}
-use Rattle.lv_stands.specs.Kept.{Task}
-use Rattle.lv_stands.specs.Moves.{with_task, with_tasks, tasks_above}
-use Rattle.lv_stands.specs.Stands.{task_of}
+use Rattle.lv_schema.proofs.PendingFollows.{pending_after}
+use Rattle.lv_tasks.specs.Kept.{tasks_above}
+use Rattle.lv_tasks.specs.declared.task.Task.{Task}
+use Rattle.lv_upkeep.specs.Stands.{task_of}
+use Rattle.lv_stands.specs.Moves.{with_task, with_tasks}
 
 -- ---- lists whose elements are treated alike
 pub filter_alike : {X : Type 0} (p q : X → Bool) (xs : List X) → Each (λ x. q x ≡ p x) xs → filter q xs ≡ filter p xs
 filter_alike p q [] a = refl
 filter_alike p q (x ∷ xs) a = (λ i. cond (a.0 i) (x ∷ filter_alike p q xs a.1 i) (filter_alike p q xs a.1 i))
 
-flat_alike : {X Y : Type 0} (f g : X → List Y) (xs : List X) → Each (λ x. g x ≡ f x) xs → flat_map g xs ≡ flat_map f xs
+pub flat_alike : {X Y : Type 0} (f g : X → List Y) (xs : List X) → Each (λ x. g x ≡ f x) xs → flat_map g xs ≡ flat_map f xs
 flat_alike f g [] a = refl
 flat_alike f g (x ∷ xs) a = ap₂ (λ ys zs. ys ++ zs) a.0 (flat_alike f g xs a.1)
 
 map_alike : {X Y : Type 0} (f g : X → Y) (xs : List X) → Each (λ x. g x ≡ f x) xs → map g xs ≡ map f xs
 map_alike f g [] a = refl
 map_alike f g (x ∷ xs) a = ap₂ (λ y ys. y ∷ ys) a.0 (map_alike f g xs a.1)
-
-append_assoc : {X : Type 0} (xs ys zs : List X) → (xs ++ ys) ++ zs ≡ xs ++ (ys ++ zs)
-append_assoc [] ys zs = refl
-append_assoc (x ∷ xs) ys zs = ap (λ l. x ∷ l) (append_assoc xs ys zs)
-
-append_nil : {X : Type 0} (xs : List X) → xs ++ [] ≡ xs
-append_nil [] = refl
-append_nil (x ∷ xs) = ap (λ l. x ∷ l) (append_nil xs)
-
-flat_append : {X Y : Type 0} (f : X → List Y) (xs ys : List X) → flat_map f (xs ++ ys) ≡ flat_map f xs ++ flat_map f ys
-flat_append f [] ys = refl
-flat_append f (x ∷ xs) ys = ap (λ l. f x ++ l) (flat_append f xs ys) ∙ sym (append_assoc (f x) (flat_map f xs) (flat_map f ys))
 
 each_of_filter : {X : Type 0} (P : X → Type 0) (p : X → Bool) (xs : List X) → Each P xs → Each P (filter p xs)
 each_of_filter P p [] a = tt
@@ -50,7 +41,7 @@ each_of_filter P p (x ∷ xs) a = by (p x) (each_of_filter P p xs a.1)
     by false e = e
 
 -- ---- entries
-entries_above : (floor k : ℕ) (actions : List Action) → floor < k → filter (λ (e : DeltaEntry). nat_lt floor e.number) (map (delta_entry k) actions) ≡ map (delta_entry k) actions
+pub entries_above : (floor k : ℕ) (actions : List Action) → floor < k → filter (λ (e : DeltaEntry). nat_lt floor e.number) (map (delta_entry k) actions) ≡ map (delta_entry k) actions
 entries_above floor k [] lt = refl
 entries_above floor k (a ∷ actions) lt = let e : nat_lt floor k ≡ true = grind (arith, nat_tests) in rw e (ap (λ es. delta_entry k a ∷ es) (entries_above floor k actions lt))
 
@@ -59,11 +50,11 @@ module _ (s t : Visible) (one_more : last t ≡ suc (last s)) (commits : (k : �
   entries_next floor le =
       ap (λ n. filter (λ (e : DeltaEntry). nat_lt floor e.number) (flat_map (λ k. map (delta_entry k) (commit_at t.commits k)) (numbers n))) one_more
       ∙ ap (filter (λ (e : DeltaEntry). nat_lt floor e.number))
-      (flat_append (λ k. map (delta_entry k) (commit_at t.commits k)) (numbers (last s)) (suc (last s) ∷ [])
+      (flat_map-append (λ k. map (delta_entry k) (commit_at t.commits k)) (numbers (last s)) (suc (last s) ∷ [])
       ∙ ap₂ (λ xs ys. xs ++ ys)
       (flat_alike (λ k. map (delta_entry k) (commit_at s.commits k)) (λ k. map (delta_entry k) (commit_at t.commits k)) (numbers (last s))
       (each_weaker (λ k. (0 < k) × (k ≤ last s)) (λ k. map (delta_entry k) (commit_at t.commits k) ≡ map (delta_entry k) (commit_at s.commits k)) (numbers (last s)) (λ k h. ap (map (delta_entry k)) (commits k h.1)) (numbers_each (last s))))
-      (append_nil (map (delta_entry (suc (last s))) (commit_at t.commits (suc (last s))))))
+      (append-nil (map (delta_entry (suc (last s))) (commit_at t.commits (suc (last s))))))
       ∙ filter-append (λ (e : DeltaEntry). nat_lt floor e.number) (delta_entries s) (map (delta_entry (suc (last s))) (commit_at t.commits (suc (last s))))
       ∙ ap (λ es. kept_entries s floor ++ es) (entries_above floor (suc (last s)) (commit_at t.commits (suc (last s))) (omega arith))
 
@@ -101,7 +92,7 @@ module _ (s t : Visible) (one_more : last t ≡ suc (last s)) (commits : (k : �
 
       ends : (n : ℕ) → actions_on view (commit_at t.commits (suc (last s))) ≡ n
           → map (task_of s view) (pending s view p (last s)) ++ map (task_of t view) (cond (nat_lt 0 n) (suc (last s) ∷ []) []) ≡ with_task (suc (last s)) n (map (task_of s view) (pending s view p (last s)))
-      ends zero e = append_nil (map (task_of s view) (pending s view p (last s)))
+      ends zero e = append-nil (map (task_of s view) (pending s view p (last s)))
       ends (suc n) e =
           let test : nat_lt 0 (suc n) ≡ true = grind (arith, nat_tests) in
           rw test (ap (λ m. map (task_of s view) (pending s view p (last s)) ++ record { commit = suc (last s); actions = m } ∷ []) e)
@@ -143,16 +134,4 @@ filter_twice p q r (x ∷ xs) h = by (q x) (p x) refl (r x) (h x) (filter_twice 
 pub tasks_left : (s : Visible) (view : ViewDef) (lo hi : ℕ) → lo ≤ hi → tasks_above hi (map (task_of s view) (pending s view lo (last s))) ≡ map (task_of s view) (pending s view hi (last s))
 tasks_left s view lo hi le =
     filter_map_test (task_of s view) (λ t. nat_lt hi t.commit) (pending s view lo (last s))
-    ∙ ap (map (task_of s view)) (filter_twice (nat_lt hi) (is_pending s view lo (last s)) (is_pending s view hi (last s)) (numbers (last s)) (λ k. by k (is_task s view k) (nat_le k (last s)) (nat_lt hi k) refl))
-  where
-    by : (k : ℕ) (task within b : Bool) → nat_lt hi k ≡ b → ((nat_lt lo k && within && task) && nat_lt hi k) ≡ (nat_lt hi k && within && task)
-    by k task within true e = let f : nat_lt lo k ≡ true = grind (arith, nat_tests) in rw (e, f) (and_true (within && task))
-      where
-        and_true : (a : Bool) → (a && true) ≡ a
-        and_true true = refl
-        and_true false = refl
-    by k task within false e = rw e (and_false (nat_lt lo k && within && task))
-      where
-        and_false : (a : Bool) → (a && false) ≡ false
-        and_false true = refl
-        and_false false = refl
+    ∙ ap (map (task_of s view)) (sym (pending_after s view lo hi (last s) le))

@@ -1,6 +1,7 @@
 -- A table that a commit does not touch may be left as it is.
-use Rattle.std.proofs.Common.{◌≡◌, ℕ, suc, ◌<◌, Bool, true, not, List, [], ◌∷◌, ◌++◌, map, length, Option, Some, None, refl, sym, ap, ap₂, ◌∙◌, subst, arith}
+use Rattle.std.proofs.Common.{◌≡◌, ℕ, suc, ◌<◌, Bool, true, not, List, [], ◌∷◌, map, length, Option, Some, None, refl, sym, ap, ap₂, ◌∙◌, subst, arith}
 use Rattle.std.specs.List.{filter, sum_by, AllByRecursion}
+use Rattle.std.proofs.lemmas.List.{append-nil}
 use Rattle.lv_values.specs.declared.value.Value.{Value}
 use Rattle.lv_values.specs.Rows.{key_cmp}
 use Rattle.lv_schema.specs.declared.net.Net.{Net}
@@ -34,10 +35,6 @@ lost_none k (v ∷ vs) = ap₂ (λ x xs. x ∷ xs) (ap (λ (u : Option ℕ). rec
     by None = refl
     by (Some j) = refl
 
-append_nil : {X : Type 0} (xs : List X) → xs ++ [] ≡ xs
-append_nil [] = refl
-append_nil (x ∷ xs) = ap (λ l. x ∷ l) (append_nil xs)
-
 pub untouched_table : (s : Visible) (pruned t : ℕ) (k : TableKept) → IsSound s → t < length s.tables → TableStands s pruned t k → TableCommits (last s) no_net k k
 untouched_table s pruned t k sound lt is = record {
   def_stays = refl;
@@ -48,5 +45,5 @@ untouched_table s pruned t k sound lt is = record {
       is.newest n (omega (arith, above))
       ∙ sym (no_change k.def.key (rows_of (snap s (last s)) t) (subst (λ def. Ascends (key_cmp def.key) (rows_of (snap s (last s)) t)) (sym is.def_is) ((keyed_database s.tables (snap s (last s)) (sound.fits (last s) (omega arith))).up t lt)))
       ∙ ap (with_net k.def.key no_net) (sym (is.newest (last s) (omega arith)));
-  versions_are = λ f. ap (sum_by f) (sym (append_nil (map (lost (suc (last s)) []) k.versions) ∙ lost_none (suc (last s)) k.versions));
+  versions_are = λ f. ap (sum_by f) (sym (append-nil (map (lost (suc (last s)) []) k.versions) ∙ lost_none (suc (last s)) k.versions));
 }

@@ -1,26 +1,25 @@
 -- What workers and marks do, and what is planned, told from what is kept.
-use Rattle.std.proofs.Common.{◌≡◌, ℕ, zero, suc, ◌+◌, ◌<◌, ◌≤◌, Bool, true, false, cond, not, ◌&&◌, List, [], ◌∷◌, map, length, Option, Some, None, refl, sym, ap, ap₂, ◌∙◌, arith}
-use Rattle.std.specs.Prelude.{nat_lt, nat_le, slice_index, slice_set, option_map}
+use Rattle.std.proofs.Common.{◌≡◌, ℕ, zero, suc, ◌+◌, ◌<◌, ◌≤◌, Bool, true, false, cond, not, List, [], ◌∷◌, map, length, Option, Some, None, refl, sym, ap, ap₂, ◌∙◌, arith}
+use Rattle.std.specs.Prelude.{slice_set}
 use Rattle.std.specs.List.{filter, filter_map, list_any, range_with_len, AllByRecursion}
-use Rattle.std.proofs.lemmas.Bool.Decides.{nat_tests}
 use Rattle.lv_schema.specs.declared.forced.Forced.{Forced}
 use Rattle.lv_schema.specs.declared.pending.Pending.{Pending}
-use Rattle.lv_schema.specs.declared.view.ViewDef.{ViewDef}
 use Rattle.lv_schema.specs.Differences.{view_difference}
 use Rattle.lv_schema.specs.Steady.{IsSteady}
-use Rattle.lv_schema.specs.Tasks.{is_task, is_pending, pending, pending_now}
+use Rattle.lv_schema.specs.Tasks.{pending_now}
 use Rattle.lv_schema.specs.Policies.{pending_by, is_claim_of, is_claimed, unclaimed}
-use Rattle.lv_schema.specs.StepPlans.{is_inside, step_end, step_of, planned_from, view_point}
 use Rattle.lv_schema.specs.UpkeepCases.{with_steps, with_claim, claim_of, released}
-use Rattle.lv_schema.specs.World.{Visible, World, last, snap, numbers, view_at, point, Settings}
+use Rattle.lv_schema.specs.World.{World, snap, view_at, point}
 use Rattle.lv_schema.proofs.SteadyUpkeep.{released_steady}
-use Rattle.lv_stands.specs.Kept.{Task, ViewKept, EngineKept, tasks_kept, view_kept}
-use Rattle.lv_stands.specs.Moves.{ViewInstalls, engine_stepped, engine_claimed, pending_in, unclaimed_in, planned_in}
-use Rattle.lv_stands.specs.Stands.{UpkeepStands, StandsFor, task_of}
-use Rattle.lv_stands.proofs.Cleans.{live_kept_is}
+use Rattle.lv_tasks.specs.Kept.{tasks_kept, pending_in}
+use Rattle.lv_tasks.specs.declared.task.Task.{Task}
+use Rattle.lv_upkeep.specs.Kept.{unclaimed_in}
+use Rattle.lv_upkeep.specs.Stands.{UpkeepStands, task_of}
+use Rattle.lv_stands.specs.Kept.{ViewKept, EngineKept, view_kept}
+use Rattle.lv_stands.specs.Moves.{ViewInstalls, engine_stepped, engine_claimed}
+use Rattle.lv_stands.specs.Stands.{StandsFor}
 use Rattle.lv_stands.proofs.Lists.{sum-map}
 use Rattle.lv_stands.proofs.Steps.{step_stands}
-use Rattle.lv_stands.proofs.Tasks.{filter_twice}
 
 -- a claim comes or goes
 pub claimed_stands : (w : World) (e : EngineKept) (worker : ℕ) (claim : Option Forced) → StandsFor w e → IsSteady (record { visible = w.visible; upkeep = with_claim worker claim w.upkeep })
@@ -51,45 +50,6 @@ pub installed_stands : (w : World) (e : EngineKept) (worker : ℕ) (f : Forced) 
     → StandsFor (record { visible = w.visible; upkeep = with_claim worker None (with_steps (f ∷ []) w.upkeep) }) (engine_claimed worker None (engine_stepped f new e))
 installed_stands w e worker f new is claim at i =
     released_stands (record { visible = w.visible; upkeep = with_steps (f ∷ []) w.upkeep }) (engine_stepped f new e) worker (step_stands w e f new is (is.steady.claims worker f claim).step at i)
-
--- ---- what is planned
-commits_of_tasks : (s : Visible) (view : ViewDef) (m : ℕ) (ks : List ℕ) → map (λ (t : Task). t.commit) (filter (λ (t : Task). nat_le t.commit m) (map (task_of s view) ks)) ≡ filter (λ k. nat_le k m) ks
-commits_of_tasks s view m [] = refl
-commits_of_tasks s view m (k ∷ ks) = by (nat_le k m) (commits_of_tasks s view m ks)
-  where
-    by : (t : Bool) → map (λ (t : Task). t.commit) (filter (λ (t : Task). nat_le t.commit m) (map (task_of s view) ks)) ≡ filter (λ k. nat_le k m) ks
-        → map (λ (t : Task). t.commit) (cond t (task_of s view k ∷ filter (λ (t : Task). nat_le t.commit m) (map (task_of s view) ks)) (filter (λ (t : Task). nat_le t.commit m) (map (task_of s view) ks))) ≡ cond t (k ∷ filter (λ k. nat_le k m) ks) (filter (λ k. nat_le k m) ks)
-    by true e = ap (λ ks. k ∷ ks) e
-    by false e = e
-
-pending_upto : (s : Visible) (view : ViewDef) (lo m : ℕ) → m ≤ last s → filter (λ k. nat_le k m) (pending s view lo (last s)) ≡ pending s view lo m
-pending_upto s view lo m le = filter_twice (λ k. nat_le k m) (is_pending s view lo (last s)) (is_pending s view lo m) (numbers (last s)) (λ k. by k (nat_lt lo k) (is_task s view k) (nat_le k m) refl)
-  where
-    by : (k : ℕ) (a task b : Bool) → nat_le k m ≡ b → ((a && nat_le k (last s) && task) && nat_le k m) ≡ (a && nat_le k m && task)
-    by k true true true e = let f : nat_le k (last s) ≡ true = grind (arith, nat_tests) in rw (e, f) refl
-    by k true false true e = let f : nat_le k (last s) ≡ true = grind (arith, nat_tests) in rw (e, f) refl
-    by k false task true e = refl
-    by k true true false e = rw e (and_false (nat_le k (last s) && true))
-      where
-        and_false : (a : Bool) → (a && false) ≡ false
-        and_false true = refl
-        and_false false = refl
-    by k true false false e = rw e (and_false (nat_le k (last s) && false))
-      where
-        and_false : (a : Bool) → (a && false) ≡ false
-        and_false true = refl
-        and_false false = refl
-    by k false task false e = refl
-
-pub planned_is_told : (w : World) (e : EngineKept) (settings : Settings) (v m : ℕ) → StandsFor w e → v < length w.visible.views → m ≤ last w.visible → planned_in settings v e m ≡ planned_from settings w.visible (view_point w v) m
-planned_is_told w e settings v m is lt le =
-    (λ i. option_map (step_of v (slice_index (is.upkeep_stands.points_are i) v)) (step_end (is_inside (live_kept_is w e is i)) settings.combine (told i)))
-  where
-    told : map (λ (t : Task). t.commit) (filter (λ (t : Task). nat_le t.commit m) (tasks_kept e.upkeep.tasks v)) ≡ pending w.visible (view_at w.visible.views v) (point w.upkeep v) m
-    told =
-        ap (λ (ts : List Task). map (λ (t : Task). t.commit) (filter (λ (t : Task). nat_le t.commit m) ts)) (is.upkeep_stands.each v lt)
-        ∙ commits_of_tasks w.visible (view_at w.visible.views v) m (pending_now w v)
-        ∙ pending_upto w.visible (view_at w.visible.views v) (point w.upkeep v) m le
 
 -- ---- the views that a worker may be given
 pending_is : (w : World) (v : ℕ) (ks : List ℕ) → pending_in v (map (task_of w.visible (view_at w.visible.views v)) ks) ≡ pending_by w v ks
@@ -124,11 +84,11 @@ candidates w e is (v ∷ vs) a = by (is_claimed w.upkeep v) (candidates w e is v
         two None (Some q) ex ey h = let r : None ≡ Some q = sym ex ∙ told ∙ ey in absurd (cc)
         two (Some p) None ex ey h = let r : Some p ≡ None = sym ex ∙ told ∙ ey in absurd (cc)
 
-below_range : (a n b : ℕ) → a + n ≤ b → AllByRecursion (λ t. t < b) (range_with_len a n)
+pub below_range : (a n b : ℕ) → a + n ≤ b → AllByRecursion (λ t. t < b) (range_with_len a n)
 below_range a zero b le = tt
 below_range a (suc n) b le = (omega arith, below_range (a + 1) n b (omega arith))
 
-pub unclaimed_is_told : (w : World) (e : EngineKept) → StandsFor w e → unclaimed_in e ≡ unclaimed w
+pub unclaimed_is_told : (w : World) (e : EngineKept) → StandsFor w e → unclaimed_in e.upkeep ≡ unclaimed w
 unclaimed_is_told w e is =
-    (λ i. filter_map (λ v. pending_in v (tasks_kept e.upkeep.tasks v)) (filter (λ v. not (list_any (is_claim_of v) (is.upkeep_stands.claims_are i))) (range_with_len 0 (length (is.views_are i)))))
+    (λ i. filter_map (λ v. pending_in v (tasks_kept e.upkeep.tasks v)) (filter (λ v. not (list_any (is_claim_of v) (is.upkeep_stands.claims_are i))) (range_with_len 0 (is.upkeep_stands.all i))))
     ∙ candidates w e is.upkeep_stands (range_with_len 0 (length w.visible.views)) (below_range 0 (length w.visible.views) (length w.visible.views) (omega arith))

@@ -1,13 +1,13 @@
 -- What the calls of the parts do to what is kept.
-use Rattle.std.specs.Prelude.{◌≡◌, ◌⊎◌, ℕ, zero, suc, ◌+◌, ◌-◌, ◌^◌, min, ◌≤◌, ◌<◌, Bool, true, false, not, ◌&&◌, nat_lt, nat_le, slice_index, slice_index_or, List, [], ◌∷◌, ◌++◌, map, filter, length, slice_get, slice_set, replicate, option_map, Option, Some, None, Result, Ok, Err, ◌==◌, if◌then◌else◌}
-use Rattle.std.specs.List.{AllByRecursion, filter_map, list_any, last_or, range_with_len, sum_by}
+use Rattle.std.specs.Prelude.{◌≡◌, ◌⊎◌, ℕ, zero, suc, ◌+◌, ◌-◌, ◌^◌, min, ◌≤◌, ◌<◌, Bool, false, not, ◌&&◌, nat_lt, nat_le, slice_index, slice_index_or, List, [], ◌∷◌, ◌++◌, map, filter, length, slice_get, slice_set, replicate, option_map, Option, Some, None, Result, Ok, Err, ◌==◌, if◌then◌else◌}
+use Rattle.std.specs.List.{flat_map, range_with_len, sum_by}
 use Rattle.lv_values.specs.declared.value.Value.{Value}
 use Rattle.lv_values.specs.Ascending.{ascending}
-use Rattle.lv_values.specs.Rows.{values_at, key_cmp}
+use Rattle.lv_values.specs.Order.{row_cmp}
 use Rattle.lv_schema.specs.declared.action.Action.{Action}
 use Rattle.lv_schema.specs.declared.action.DeltaEntry.{DeltaEntry}
 use Rattle.lv_schema.specs.declared.fault.Fault.{Fault}
-use Rattle.lv_schema.specs.declared.fault.Fault.TheVariants.{Conflict, MergedFull, Store, JournalFull}
+use Rattle.lv_schema.specs.declared.fault.Fault.TheVariants.{MergedFull, Store, JournalFull}
 use Rattle.lv_schema.specs.declared.forced.Forced.{Forced}
 use Rattle.lv_schema.specs.declared.net.Net.{Net}
 use Rattle.lv_schema.specs.declared.pending.Pending.{Pending}
@@ -17,27 +17,32 @@ use Rattle.lv_schema.specs.declared.signed.SignedRow.{SignedRow}
 use Rattle.lv_schema.specs.declared.table.TableDef.{TableDef}
 use Rattle.lv_schema.specs.declared.view.ViewDef.{ViewDef}
 use Rattle.lv_schema.specs.Applicable.{with_changes}
-use Rattle.lv_schema.specs.Cases.{Outcome, good, failed, full, numbered}
-use Rattle.lv_schema.specs.Commits.{Place, place_cmp, same_place, written_place, conflict_in}
+use Rattle.lv_schema.specs.Cases.{Outcome, good, failed, full}
+use Rattle.lv_schema.specs.Commits.{conflict_in}
 use Rattle.lv_schema.specs.Condensed.{condensed}
-use Rattle.lv_schema.specs.Differences.{summed_columns, view_difference}
+use Rattle.lv_schema.specs.Differences.{view_difference}
 use Rattle.lv_schema.specs.Effects.{first_fault}
 use Rattle.lv_schema.specs.declared.part.Part.{Part}
-use Rattle.lv_schema.specs.Keys.{row_at, left_by, carried}
 use Rattle.lv_schema.specs.Nets.{has_row, with_net}
-use Rattle.lv_schema.specs.Once.{Ascends}
 use Rattle.lv_schema.specs.Records.{record_size}
-use Rattle.lv_schema.specs.SignedRows.{netted}
 use Rattle.lv_schema.specs.Steady.{IsStep}
 use Rattle.lv_schema.specs.Tasks.{actions_on}
-use Rattle.lv_schema.specs.Policies.{is_claim_of, chosen}
-use Rattle.lv_schema.specs.StepPlans.{is_inside, step_end, step_of}
-use Rattle.lv_schema.specs.World.{least, Visible, World, snap, table_at, view_at, point, Settings}
+use Rattle.lv_schema.specs.Policies.{chosen}
+use Rattle.lv_schema.specs.StepPlans.{is_inside}
+use Rattle.lv_schema.specs.World.{least, Visible, World, snap, view_at, point, Settings}
 use Rattle.lv_schema.specs.UpkeepCases.{with_steps, Fetched, busy, idle, fetched, no_pending}
 use Rattle.lv_schema.specs.declared.version.RowVersion.{RowVersion}
 use Rattle.lv_schema.specs.Versions.{new_version, end_by, ends_after, delta_entry}
-use Rattle.lv_group.specs.Gathered.{rows_of}
-use Rattle.lv_stands.specs.Kept.{TableKept, BaseKept, Task, UpkeepKept, ViewKept, Put, TransactionKept, EngineKept, table_kept, view_kept, tasks_kept, shown, over}
+use Rattle.lv_overlay.specs.declared.put.Put.{Put}
+use Rattle.lv_tasks.specs.declared.task.Task.{Task}
+use Rattle.lv_txn.specs.Kept.{TransactionKept, begun, changed_by, live_kept}
+use Rattle.lv_txn.specs.Written.{put_of}
+use Rattle.lv_upkeep.specs.Kept.{claim_kept, planned_in, unclaimed_in, upkeep_empty}
+use Rattle.lv_upkeep.specs.Moves.{upkeep_claimed, upkeep_marked, upkeep_stepped, upkeep_with_view}
+use Rattle.lv_viewrows.specs.declared.version.GroupVersion.{GroupVersion}
+use Rattle.lv_viewrows.specs.Changed.{groups_with}
+use Rattle.lv_viewrows.specs.Kept.{ViewKept as ViewRoom, groups_at, one_row, version_from}
+use Rattle.lv_stands.specs.Kept.{TableKept, BaseKept, ViewKept, EngineKept, table_kept, view_kept, shown, rows_shown}
 use Rattle.lv_stands.specs.Stands.{HaveSame}
 
 -- a version after a commit that takes these rows away
@@ -89,37 +94,23 @@ with_tasks number actions [] tasks = tasks
 with_tasks number actions (view ∷ views) [] = []
 with_tasks number actions (view ∷ views) (first ∷ tasks) = with_task number (actions_on view actions) first ∷ with_tasks number actions views tasks
 
--- the tasks above a number
-abbrev pub tasks_above : ℕ → List Task → List Task
-tasks_above hi tasks = filter (λ t. nat_lt hi t.commit) tasks
-
--- a view's point rises over its tasks
-abbrev pub upkeep_stepped : Forced → UpkeepKept → UpkeepKept
-upkeep_stepped f u = record u { points = slice_set u.points f.view f.hi; tasks = slice_set u.tasks f.view (tasks_above f.hi (tasks_kept u.tasks f.view)) }
-
--- a view's rows take a difference: from its end on they are the rows before with it, and a grouped view's are those of
--- its groups with it
+-- a view's rows take a difference: below its end they stay, and from there on its rows or groups are those before with
+-- the difference
 pub record ViewInstalls (view : ViewDef) (hi : ℕ) (changes : List SignedRow) (old new : ViewKept) : Type 0 where
   pub at_is : new.at ≡ hi
-  pub before : (n : ℕ) → n < hi → shown n new.versions ≡ shown n old.versions
-  pub from : view.grouped ≡ false → (n : ℕ) → hi ≤ n → shown n new.versions ≡ with_changes changes (shown old.at old.versions)
-  pub groups_are : view.grouped ≡ true → new.groups ≡ netted (length (summed_columns view)) (old.groups ++ changes)
-  pub from_groups : view.grouped ≡ true → (n : ℕ) → hi ≤ n → shown n new.versions ≡ rows_of (record { by = view.groups; items = view.items; groups = new.groups; spare = 0 })
+  pub before : (n : ℕ) → n < hi → groups_at n new.versions ≡ groups_at n old.versions
+  pub from : (n : ℕ) → hi ≤ n → groups_at n new.versions ≡ groups_with changes (groups_at old.at old.versions)
+  pub rows : view.grouped ≡ false → (n : ℕ) → hi ≤ n → rows_shown view n new ≡ with_changes changes (rows_shown view old.at old)
 
 -- a view's rows lose the versions that ended at or below a number
 pub record ViewCleaned (m : ℕ) (old new : ViewKept) : Type 0 where
   pub at_stays : new.at ≡ old.at
-  pub groups_stay : new.groups ≡ old.groups
-  pub reads : (n : ℕ) → (m ≤ n) ⊎ (old.at ≤ n) → shown n new.versions ≡ shown n old.versions
-  pub gone : AllByRecursion (λ v. ends_after m v.until ≡ true) new.versions
+  pub versions_are : new.versions ≡ filter (λ v. ends_after m v.until) old.versions
+  pub reads : (n : ℕ) → (m ≤ n) ⊎ (old.at ≤ n) → groups_at n new.versions ≡ groups_at n old.versions
 
 pub record ViewsCleaned (m : ℕ) (old new : List ViewKept) : Type 0 where
   pub all : length new ≡ length old
   pub each : (v : ℕ) → v < length old → ViewCleaned m (view_kept old v) (view_kept new v)
-
--- a transaction that begins
-abbrev pub transaction_begun : ℕ → TransactionKept
-transaction_begun snapshot = record { snapshot = snapshot; puts = []; actions = []; changes = 0 }
 
 -- ---- the calls of the engine
 -- BEGIN, and ROLLBACK
@@ -127,7 +118,7 @@ abbrev pub with_transaction : ℕ → Option TransactionKept → EngineKept → 
 with_transaction session k e = record e { sessions = slice_set e.sessions session k }
 
 abbrev pub engine_began : ℕ → EngineKept → EngineKept
-engine_began session e = with_transaction session (Some (transaction_begun e.base.number)) e
+engine_began session e = with_transaction session (Some (begun e.base.number)) e
 
 abbrev pub engine_rolled_back : ℕ → EngineKept → EngineKept
 engine_rolled_back session e = with_transaction session None e
@@ -153,12 +144,7 @@ engine_stepped f rows e = record e { upkeep = upkeep_stepped f e.upkeep; rows = 
 abbrev pub engine_cleaned : BaseKept → List ViewKept → EngineKept → EngineKept
 engine_cleaned base rows e = record e { base = base; rows = rows }
 
--- the snapshots of the transactions kept, the floor of a clean-up, and the number below which no view's rows are read
-abbrev pub live_kept : List (Option TransactionKept) → List ℕ
-live_kept [] = []
-live_kept (None ∷ sessions) = live_kept sessions
-live_kept (Some t ∷ sessions) = t.snapshot ∷ live_kept sessions
-
+-- the floor of a clean-up, and the number below which no view's rows are read
 abbrev pub floor_kept : EngineKept → ℕ
 floor_kept e = least (least e.base.number e.upkeep.points) (live_kept e.sessions)
 
@@ -182,29 +168,25 @@ abbrev pub StepsFollow : World → List Forced → Type 0
 StepsFollow w [] = Unit {0}
 StepsFollow w (f ∷ fs) = IsStep w.visible f × (point w.upkeep f.view ≡ f.lo) × StepsFollow (record { visible = w.visible; upkeep = with_steps (f ∷ []) w.upkeep }) fs
 
--- writes take actions: what stands at a place is then what the last of them on it leaves
-abbrev pub PutsTake : List TableDef → List Action → List Put → List Put → Type 0
-PutsTake tables actions old new = (p : Place) (below : Option (List Value)) → over new p below ≡ carried tables p (over old p below) actions
+-- the difference of a view that a step takes it over, and those of steps, one after another
+abbrev pub step_changes : Visible → Forced → List SignedRow
+step_changes s f = view_difference (view_at s.views f.view) (snap s f.lo) (snap s f.hi)
 
--- the write of an action, and those of actions, the last one first
-abbrev pub put_of : List TableDef → Action → Put
-put_of tables a = record { table = a.table; key = values_at (table_at tables a.table).key a.row; row = left_by a.kind a.row }
+abbrev pub changes_of : Visible → List Forced → List SignedRow
+changes_of s fs = flat_map (step_changes s) fs
 
+-- a view's rows with the view itself, and how many more versions go in without memory
+abbrev pub with_room : ViewDef → ℕ → ViewKept → ViewRoom
+with_room view spare k = record { def = view; at = k.at; versions = k.versions; spare = spare }
+
+-- the writes of actions, the last one first
 abbrev pub with_puts : List TableDef → List Action → List Put → List Put
 with_puts tables [] puts = puts
 with_puts tables (a ∷ actions) puts = with_puts tables actions (put_of tables a ∷ puts)
 
--- rows of a transaction's own: those below with its writes over them
-pub record AreOwnRows (tables : List TableDef) (puts : List Put) (t : ℕ) (below rows : List (List Value)) : Type 0 where
-  pub ascend : Ascends (key_cmp (table_at tables t).key) rows
-  pub each : (key : List Value) → row_at (table_at tables t).key key rows ≡ over puts (t, key) (row_at (table_at tables t).key key below)
-
 -- INSERT, UPDATE or DELETE in a transaction
-abbrev pub transaction_changed : List Put → List Action → TransactionKept → TransactionKept
-transaction_changed puts actions k = record { snapshot = k.snapshot; puts = puts; actions = k.actions ++ numbered (k.changes + 1) actions; changes = k.changes + 1 }
-
 abbrev pub engine_changed : ℕ → List Put → List Action → TransactionKept → EngineKept → EngineKept
-engine_changed session puts actions k e = with_transaction session (Some (transaction_changed puts actions k)) e
+engine_changed session puts actions k e = with_transaction session (Some (changed_by puts actions k)) e
 
 -- ---- why a commit is refused, told from what is kept
 -- the first table that would pass 65,535 rows
@@ -245,28 +227,15 @@ commit_kept outcome session k base e = if length k.actions == 0 then engine_roll
 
 -- ---- workers and marks
 abbrev pub engine_claimed : ℕ → Option Forced → EngineKept → EngineKept
-engine_claimed worker claim e = record e { upkeep = record e.upkeep { claims = slice_set e.upkeep.claims worker claim } }
+engine_claimed worker claim e = record e { upkeep = upkeep_claimed worker claim e.upkeep }
 
--- what a policy sees of a view with these tasks
-abbrev pub pending_in : ℕ → List Task → Option Pending
-pending_in v [] = None
-pending_in v (t ∷ ts) = Some (record { view = v; oldest = t.commit; actions = sum_by (λ (task : Task). task.actions) (t ∷ ts) })
-
-abbrev pub unclaimed_in : EngineKept → List Pending
-unclaimed_in e =
-    filter_map (λ v. pending_in v (tasks_kept e.upkeep.tasks v)) (filter (λ v. not (list_any (is_claim_of v) e.upkeep.claims)) (range_with_len 0 (length e.views)))
-
--- the planned step of a view from its point, told from its tasks
-abbrev pub planned_in : Settings → ℕ → EngineKept → ℕ → Option Forced
-planned_in settings v e m =
-    option_map (step_of v (slice_index e.upkeep.points v)) (step_end (is_inside (live_kept e.sessions)) settings.combine (map (λ (t : Task). t.commit) (filter (λ (t : Task). nat_le t.commit m) (tasks_kept e.upkeep.tasks v))))
+-- whether a live snapshot is at or above the one number and below the other
+abbrev pub inside_kept : EngineKept → ℕ → ℕ → Bool
+inside_kept e = is_inside (live_kept e.sessions)
 
 -- a mark
 abbrev pub engine_marked : ℕ → EngineKept → EngineKept
-engine_marked v e = record e {
-  upkeep = record e.upkeep { marks = slice_set e.upkeep.marks v (slice_index e.upkeep.points v) };
-  journal = journal_with (Mark v (slice_index e.upkeep.points v)) e.journal;
-}
+engine_marked v e = record e { upkeep = upkeep_marked v e.upkeep; journal = journal_with (Mark v (slice_index e.upkeep.points v)) e.journal }
 
 -- ---- what a step is computed from, told from what is kept: for each alias the rows at its beginning, and the net
 -- change to which the entries up to its end condense
@@ -295,9 +264,12 @@ engine_with_table def e = record e {
   journal = journal_with (Table (record def { no = 0 })) e.journal;
 }
 
--- CREATE VIEW: its rows are made at the last commit, with their groups
-abbrev pub view_made_kept : ℕ → List (List Value) → List SignedRow → ViewKept
-view_made_kept number rows groups = record { at = number; versions = map (new_version number) rows; groups = groups }
+-- CREATE VIEW: its rows, or the groups of a grouped view, are made at the last commit
+abbrev pub versions_made : ViewDef → List (List Value) → List SignedRow → List GroupVersion
+versions_made view rows groups = if view.grouped then map (version_from 0) groups else map (λ row. version_from 0 (one_row row)) (ascending row_cmp rows)
+
+abbrev pub view_made_kept : ViewDef → ℕ → List (List Value) → List SignedRow → ViewKept
+view_made_kept view number rows groups = record { at = number; versions = versions_made view rows groups }
 
 -- an engine that opens with an empty journal
 abbrev pub engine_empty : EngineKept
@@ -305,7 +277,7 @@ engine_empty = record {
   tables = [];
   views = [];
   base = record { tables = []; entries = []; number = 0; pruned = 0 };
-  upkeep = record { points = []; marks = []; tasks = []; claims = replicate 9 None };
+  upkeep = upkeep_empty;
   rows = [];
   sessions = replicate 17 None;
   journal = 9;
@@ -316,20 +288,15 @@ engine_with_view def rows groups e = record {
   tables = e.tables;
   views = e.views ++ record def { created = e.base.number } ∷ [];
   base = e.base;
-  upkeep = record {
-    points = e.upkeep.points ++ e.base.number ∷ [];
-    marks = e.upkeep.marks ++ e.base.number ∷ [];
-    tasks = e.upkeep.tasks ++ [] ∷ [];
-    claims = e.upkeep.claims;
-  };
-  rows = e.rows ++ view_made_kept e.base.number rows groups ∷ [];
+  upkeep = upkeep_with_view e.base.number e.upkeep;
+  rows = e.rows ++ view_made_kept def e.base.number rows groups ∷ [];
   sessions = e.sessions;
   journal = journal_with (View (record def { no = 0; created = e.base.number })) e.journal;
 }
 
 -- a worker fetches, told from what is kept
 abbrev pub view_chosen : ℕ → EngineKept → ℕ
-view_chosen kind e = (slice_index_or (unclaimed_in e) (chosen kind (unclaimed_in e)) no_pending).view
+view_chosen kind e = (slice_index_or (unclaimed_in e.upkeep) (chosen kind (unclaimed_in e.upkeep)) no_pending).view
 
 abbrev pub kept_fetched : Option Forced → ℕ → EngineKept → Fetched × EngineKept
 kept_fetched None worker e = (idle, e)
@@ -337,11 +304,11 @@ kept_fetched (Some f) worker e = (fetched f, engine_claimed worker (Some f) e)
 
 abbrev pub kept_among : List Pending → Settings → ℕ → EngineKept → Fetched × EngineKept
 kept_among [] settings worker e = (idle, e)
-kept_among (p ∷ ps) settings worker e = kept_fetched (planned_in settings (view_chosen settings.policy e) e e.base.number) worker e
+kept_among (p ∷ ps) settings worker e = kept_fetched (planned_in (inside_kept e) settings.combine e.upkeep (view_chosen settings.policy e) e.base.number) worker e
 
 abbrev pub kept_by : Option Forced → Settings → ℕ → EngineKept → Fetched × EngineKept
 kept_by (Some f) settings worker e = (busy, e)
-kept_by None settings worker e = kept_among (unclaimed_in e) settings worker e
+kept_by None settings worker e = kept_among (unclaimed_in e.upkeep) settings worker e
 
 abbrev pub engine_fetching : Settings → ℕ → EngineKept → Fetched × EngineKept
-engine_fetching settings worker e = kept_by (slice_index_or e.upkeep.claims worker None) settings worker e
+engine_fetching settings worker e = kept_by (claim_kept e.upkeep worker) settings worker e

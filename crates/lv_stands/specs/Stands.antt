@@ -1,5 +1,5 @@
 -- When what an engine keeps stands for a world.
-use Rattle.std.specs.Prelude.{◌≡◌, ℕ, ◌≤◌, ◌<◌, true, List, map, length, Option, Some, None}
+use Rattle.std.specs.Prelude.{◌≡◌, ℕ, ◌≤◌, ◌<◌, List, length, Option, Some, None}
 use Rattle.std.specs.List.{sum_by, AllZip}
 use Rattle.lv_schema.specs.declared.open.Open.{Open}
 use Rattle.lv_schema.specs.declared.view.ViewDef.{ViewDef}
@@ -9,10 +9,13 @@ use Rattle.lv_schema.specs.Differences.{groups_of}
 use Rattle.lv_schema.specs.Keys.{at_place}
 use Rattle.lv_schema.specs.Served.{IsServed}
 use Rattle.lv_schema.specs.Steady.{IsSteady}
-use Rattle.lv_schema.specs.Tasks.{actions_on, pending_now}
 use Rattle.lv_schema.specs.Versions.{kept_versions, kept_entries}
-use Rattle.lv_schema.specs.World.{Visible, World, last, snap, commit_at, table_at, view_at, point}
-use Rattle.lv_stands.specs.Kept.{TableKept, BaseKept, Task, UpkeepKept, ViewKept, TransactionKept, EngineKept, table_kept, view_kept, tasks_kept, shown, over}
+use Rattle.lv_schema.specs.World.{Visible, World, last, snap, table_at, view_at, point}
+use Rattle.lv_overlay.specs.Puts.{over}
+use Rattle.lv_txn.specs.Kept.{TransactionKept}
+use Rattle.lv_upkeep.specs.Stands.{UpkeepStands}
+use Rattle.lv_viewrows.specs.Kept.{groups_at}
+use Rattle.lv_stands.specs.Kept.{TableKept, BaseKept, ViewKept, EngineKept, table_kept, view_kept, shown, rows_shown}
 
 -- two lists have the same elements, each as often: whatever is added up over them, the sums are one
 abbrev pub HaveSame : {X : Type 0} → List X → List X → Type 0
@@ -34,23 +37,12 @@ pub record BaseStands (s : Visible) (pruned : ℕ) (b : BaseKept) : Type 0 where
   pub number_is : b.number ≡ last s
   pub pruned_is : b.pruned ≡ pruned
 
--- the task of a view for commit k
-abbrev pub task_of : Visible → ViewDef → ℕ → Task
-task_of s view k = record { commit = k; actions = actions_on view (commit_at s.commits k) }
-
-pub record UpkeepStands (w : World) (u : UpkeepKept) : Type 0 where
-  pub points_are : u.points ≡ w.upkeep.points
-  pub marks_are : u.marks ≡ w.upkeep.marks
-  pub claims_are : u.claims ≡ w.upkeep.claims
-  pub all : length u.tasks ≡ length w.visible.views
-  pub each : (v : ℕ) → v < length w.visible.views → tasks_kept u.tasks v ≡ map (task_of w.visible (view_at w.visible.views v)) (pending_now w v)
-
--- a view shows its rows over the state at its point, and below it to each live snapshot those over that state; a
--- grouped view keeps the groups of the state at its point
+-- a view shows its rows over the state at its point, and below it to each live snapshot those over that state; from its
+-- point on its groups are those of the state there, where each row of a join view is a group of one tuple
 pub record ViewStands (s : Visible) (view : ViewDef) (p : ℕ) (k : ViewKept) : Type 0 where
   pub at_is : k.at ≡ p
-  pub served : IsServed s view p (λ n. shown n k.versions)
-  pub groups_are : view.grouped ≡ true → k.groups ≡ groups_of view (snap s p)
+  pub served : IsServed s view p (λ n. rows_shown view n k)
+  pub groups_are : (n : ℕ) → p ≤ n → groups_at n k.versions ≡ groups_of view (snap s p)
 
 pub record ViewsStand (w : World) (rows : List ViewKept) : Type 0 where
   pub all : length rows ≡ length w.visible.views

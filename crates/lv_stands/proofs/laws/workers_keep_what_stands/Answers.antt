@@ -1,6 +1,6 @@
 use Rattle.lv_stands.proofs.Fetches.{fetch_stands}
 use Rattle.lv_stands.proofs.MadeViews.{marked_stands}
-use Rattle.lv_stands.proofs.Workers.{claimed_stands, released_stands, installed_stands, planned_is_told, unclaimed_is_told}
+use Rattle.lv_stands.proofs.Workers.{claimed_stands, released_stands, installed_stands, unclaimed_is_told}
 use Rattle.lv_stands.proofs.laws.workers_keep_what_stands.Goals as goal
 
 pub returns-clause-claim : goal.returns-clause-claim
@@ -11,9 +11,6 @@ returns-clause-release c = released_stands
 
 pub returns-clause-install : goal.returns-clause-install
 returns-clause-install c = installed_stands
-
-pub returns-clause-planned : goal.returns-clause-planned
-returns-clause-planned c = planned_is_told
 
 pub returns-clause-unclaimed : goal.returns-clause-unclaimed
 returns-clause-unclaimed c = unclaimed_is_told
