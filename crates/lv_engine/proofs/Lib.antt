@@ -1,0 +1,14 @@
+pub mod AddedTasks
+pub mod ChangedParts
+pub mod Commits
+pub mod EvaluatedViews
+pub mod FirstFull
+pub mod Forcing
+pub mod MadeTables
+pub mod MadeViews
+pub mod OwnReads
+pub mod Queries
+pub mod Rels
+pub mod Standing
+pub mod Steps
+pub mod Views

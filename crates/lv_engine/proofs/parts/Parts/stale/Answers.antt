@@ -1,0 +1,20 @@
+use Rattle.std.proofs.Common.{◌≡◌, map, sym, ap, ◌∙◌, subst}
+use Rattle.std.specs.Prelude.{IfOk}
+use Rattle.std.specs.List.{AllByRecursion}
+use Rattle.lv_engine.specs.Querying.{CanCompute, input_in}
+use Rattle.lv_engine.proofs.Forcing.{can_compute_all, inputs_told}
+use Rattle.lv_engine.proofs.parts.Parts.stale.Goals as goal
+
+pub inputs-requires-clause-can : goal.inputs-requires-clause-can
+inputs-requires-clause-can g c =
+    let whole = c.requires.whole in
+    subst (AllByRecursion (CanCompute c.args.self.now)) (sym (c.as_slice.ensures ∙ c.in_ok-forced.ensures))
+    (can_compute_all c.args.self.now whole.world whole.stands c.args.session c.args.query.now c.requires.bound)
+
+pub returns : goal.returns
+returns g c = record {
+  inputs = λ w settings same is.
+      subst (λ list. IfOk c.inputs.result (λ inputs. inputs ≡ list))
+      (ap (map (input_in c.args.self.now)) (c.as_slice.ensures ∙ c.in_ok-forced.ensures) ∙ inputs_told c.args.self.now w is c.args.session c.args.query.now c.requires.bound settings same)
+      c.inputs.ensures;
+}

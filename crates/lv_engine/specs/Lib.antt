@@ -1,0 +1,5 @@
+pub mod Answering
+pub mod Committing
+pub mod MadeViews
+pub mod Querying
+pub mod Store
