@@ -1,15 +1,14 @@
 -- Each turn of the schedule may come when it comes, and at its end every statement is answered.
-use Rattle.std.proofs.Common.{◌≡◌, ◌≢◌, ℕ, zero, suc, ◌+◌, ◌<◌, ◌≤◌, Bool, true, false, cond, not, ◌&&◌, ◌||◌, ◌==◌, nat_lt, List, [], ◌∷◌, ◌++◌, length, map, replicate, get_or, slice_index, slice_index_or, refl, ap, ◌∙◌, sym, append_assoc, arith}
+use Rattle.std.proofs.Common.{◌≡◌, ◌≢◌, ℕ, zero, suc, ◌+◌, ◌<◌, ◌≤◌, Bool, true, false, cond, not, ◌==◌, List, [], ◌∷◌, ◌++◌, length, map, replicate, slice_index, refl, ap, ◌∙◌, sym, append_assoc, arith}
 use Rattle.std.specs.List.{AllPass, count_by, flat_map, range_with_len}
-use Rattle.std.proofs.lemmas.Grind.{common_steps}
-use Rattle.std.proofs.lemmas.List.{get_or_past, get_or-replicate, length-replicate}
+use Rattle.std.proofs.lemmas.List.{get_or-replicate, length-replicate}
 use Rattle.std.proofs.lemmas.List.FromFn.{get_or-range_with_len, length-range_with_len}
 use Rattle.std.proofs.lemmas.List.Sums.{list_all-from_AllPass, sum_by-append, sum_by-cons}
 use Rattle.lv_plain.specs.declared.program.Program.{Program}
-use Rattle.lv_plain.specs.declared.program.Script.{Script}
 use Rattle.lv_plain.specs.Events.{Event, turn_of, item_events, left_over, rounds, schedule}
 use Rattle.lv_plain.specs.Following.{IsFollowable}
-use Rattle.lv_plain.specs.Programs.{no_script, lines_of, session_count, first_places, has_more, may_turn, all_answered}
+use Rattle.lv_plain.specs.Programs.{lines_of, session_count, first_places, has_more, may_turn, all_answered}
+use Rattle.lv_plain.proofs.NamedEntries.{is_there}
 use Rattle.lv_order.specs.Places.{places_after}
 use Rattle.lv_order.proofs.Counting.{is_session, shows, count_turns, counted, place_counts}
 
@@ -23,17 +22,6 @@ place_is p turns s there =
 -- turns that are the schedule have each session as often as it has statements
 session_count_is : (p : Program) (turns : List ℕ) → IsFollowable p → map turn_of turns ≡ schedule p → (s : ℕ) → count_by (is_session s) turns ≡ length (lines_of p s)
 session_count_is p turns followable all s = sym (count_turns s turns) ∙ (ap (count_by (shows s)) all ∙ counted p followable s)
-
--- a session with a statement is there
-is_there : (p : Program) (s : ℕ) → 0 < length (lines_of p s) → s < session_count p
-is_there p zero some = omega arith
-is_there p (suc i) some = by (nat_lt i (length p.sessions)) refl
-  where
-    by : (t : Bool) → nat_lt i (length p.sessions) ≡ t → suc i < session_count p
-    by true is = grind arith
-    by false is =
-        let none : length (lines_of p (suc i)) ≡ 0 = ap (λ (script : Script). length script.lines) (get_or_past p.sessions i no_script (grind arith)) in
-        absurd (omega (arith, none, some))
 
 -- before another session's turn all of the setup's have come
 setup_before : (n : ℕ) (before : List ℕ) (s : ℕ) (behind : List ℕ) (rest : List Event) → s ≢ 0 → map turn_of (before ++ s ∷ behind) ≡ replicate n (turn_of 0) ++ rest

@@ -1,10 +1,12 @@
 -- How often each session's turn stands in the schedule.
-use Rattle.std.proofs.Common.{◌≡◌, ◌≢◌, ℕ, zero, suc, ◌+◌, ◌-◌, ◌*◌, ◌<◌, ◌≤◌, min, Bool, true, false, cond, not, ◌&&◌, ◌||◌, ◌==◌, nat_lt, List, [], ◌∷◌, ◌++◌, length, map, replicate, slice_index, slice_index_or, refl, ap, ◌∙◌, sym, arith}
+use Rattle.std.proofs.Common.{◌≡◌, ◌≢◌, ℕ, zero, suc, ◌+◌, ◌-◌, ◌*◌, ◌<◌, ◌≤◌, min, Bool, true, false, cond, ◌==◌, nat_lt, List, [], ◌∷◌, ◌++◌, length, map, replicate, slice_index, refl, ap, ◌∙◌, arith}
+use Rattle.std.specs.Prelude.{Option, Some, None}
 use Rattle.std.specs.List.{All, count_by, filter, flat_map, fold, range_with_len}
 use Rattle.std.proofs.lemmas.Grind.{common_steps}
 use Rattle.std.proofs.lemmas.List.{get_or_past}
 use Rattle.std.proofs.lemmas.List.Folds.{sum_by-replicate}
 use Rattle.std.proofs.lemmas.List.Sums.{sum_by-append, sum_by-cons}
+use Rattle.lv_schema.specs.World.{Settings}
 use Rattle.lv_plain.specs.declared.entry.Entry.{Entry}
 use Rattle.lv_plain.specs.declared.program.OrderItem.{OrderItem}
 use Rattle.lv_plain.specs.declared.program.OrderItem.TheVariants as item
@@ -12,16 +14,40 @@ use Rattle.lv_plain.specs.declared.program.Program.{Program}
 use Rattle.lv_plain.specs.declared.program.Script.{Script}
 use Rattle.lv_plain.specs.Events.{Event, turn_of, fetch_of, install_of, release_of, mark_of, clean_up, item_events, is_turn_of, left_over, greatest, round, rounds, schedule}
 use Rattle.lv_plain.specs.Following.{IsItem, IsFollowable}
-use Rattle.lv_plain.specs.LegalTurns.{Turning, start, session_of, after_turn, after_turns}
+use Rattle.lv_plain.specs.Legal.{after, after_by, after_entry, event_of, events_by, events_of}
+use Rattle.lv_plain.specs.Machine.{State}
 use Rattle.lv_plain.specs.Programs.{Places, no_script, lines_of}
 use Rattle.lv_plain.specs.Turns.{Reading}
-use Rattle.lv_order.specs.Places.{one_more, places_after}
+use Rattle.lv_order.specs.Places.{one_more}
 
 -- places depend only on whose turns there were
-module _ (reading : Reading) (p : Program) where
-  pub places_from : (t : Turning) (es : List Entry) → (after_turns reading p t es).places ≡ fold one_more t.places (map session_of es)
-  places_from t [] = refl
-  places_from t (e ∷ es) = places_from (after_turn reading p t (session_of e)) es
+module _ (settings : Settings) (reading : Reading) (p : Program) where
+  pub places_from : (s : State) (es : List Entry) (turns : List ℕ) → events_of settings reading p s es ≡ map turn_of turns → (after settings reading p s es).places ≡ fold one_more s.places turns
+  places_from s [] [] same = refl
+  places_from s [] (t ∷ turns) same = cc
+  places_from s (e ∷ es) turns same = by (event_of s e) turns same (places_from (after_entry settings reading p s e) es)
+    where
+      Later : State → Type 0
+      Later next = (ts : List ℕ) → events_of settings reading p next es ≡ map turn_of ts → (after settings reading p next es).places ≡ fold one_more next.places ts
+
+      by : (x : Option Event) (ts : List ℕ) → events_by settings reading p x (events_of settings reading p (after_by settings reading p x s e) es) ≡ map turn_of ts
+          → Later (after_by settings reading p x s e) → (after settings reading p (after_by settings reading p x s e) es).places ≡ fold one_more s.places ts
+      by None ts same later = later ts same
+      by (Some (turn_of session)) [] same later = cc
+      by (Some (turn_of session)) (t ∷ ts) same later =
+          let now : session ≡ t = cc in
+          let rest : events_of settings reading p (after_by settings reading p (Some (turn_of session)) s e) es ≡ map turn_of ts = cc in
+          later ts rest ∙ ap (λ u. fold one_more (one_more s.places u) ts) now
+      by (Some (fetch_of worker)) [] same later = cc
+      by (Some (fetch_of worker)) (t ∷ ts) same later = absurd (cc)
+      by (Some (install_of worker)) [] same later = cc
+      by (Some (install_of worker)) (t ∷ ts) same later = absurd (cc)
+      by (Some (release_of worker)) [] same later = cc
+      by (Some (release_of worker)) (t ∷ ts) same later = absurd (cc)
+      by (Some (mark_of name)) [] same later = cc
+      by (Some (mark_of name)) (t ∷ ts) same later = absurd (cc)
+      by (Some clean_up) [] same later = cc
+      by (Some clean_up) (t ∷ ts) same later = absurd (cc)
 
 -- whether a turn is a session's
 abbrev pub is_session : ℕ → ℕ → Bool

@@ -1,6 +1,6 @@
 -- Rounds, over the sessions in order.
-use Rattle.std.proofs.Common.{◌≡◌, ℕ, zero, suc, ◌+◌, ◌-◌, ◌<◌, ◌≤◌, Bool, true, false, cond, nat_lt, max, List, [], ◌∷◌, ◌++◌, length, map, slice_index, refl, ap, ◌∙◌, sym, arith}
-use Rattle.std.specs.List.{flat_map, range_with_len, filter}
+use Rattle.std.proofs.Common.{◌≡◌, ℕ, zero, suc, ◌+◌, ◌-◌, ◌<◌, ◌≤◌, cond, nat_lt, List, [], ◌∷◌, ◌++◌, length, map, slice_index, refl, ap, arith}
+use Rattle.std.specs.List.{flat_map, range_with_len}
 use Rattle.std.proofs.lemmas.Grind.{common_steps, same_number_lists}
 use Rattle.std.proofs.lemmas.List.FromFn.{get_or-map-range_with_len, length-map-range_with_len}
 use Rattle.lv_plain.specs.Events.{Event, turn_of, greatest, round, rounds}

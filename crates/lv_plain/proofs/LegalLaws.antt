@@ -5,28 +5,9 @@ use Rattle.lv_plain.specs.declared.entry.Entry.{Entry}
 use Rattle.lv_plain.specs.declared.program.Program.{Program}
 use Rattle.lv_plain.specs.Events.{Event}
 use Rattle.lv_plain.specs.Legal.{MayCome, after_entry, Legal, after, events_by, event_of, events_of}
-use Rattle.lv_plain.specs.LegalTurns.{Turning, MayTurn, LegalTurns, after_turns, after_turn, session_of}
 use Rattle.lv_schema.specs.World.{Settings}
 use Rattle.lv_plain.specs.Machine.{State}
 use Rattle.lv_plain.specs.Turns.{Reading}
-
-module _ (reading : Reading) (p : Program) where
-  pub after_turns-append : (t : Turning) (es fs : List Entry) → after_turns reading p t (es ++ fs) ≡ after_turns reading p (after_turns reading p t es) fs
-  after_turns-append t [] fs = refl
-  after_turns-append t (e ∷ es) fs = after_turns-append (after_turn reading p t (session_of e)) es fs
-
-  -- legal turns, and then turns that are legal after them
-  pub LegalTurns-append : (t : Turning) (es fs : List Entry) → LegalTurns reading p t es → LegalTurns reading p (after_turns reading p t es) fs → LegalTurns reading p t (es ++ fs)
-  LegalTurns-append t [] fs a b = b
-  LegalTurns-append t (e ∷ es) fs a b = (a.0, LegalTurns-append (after_turn reading p t (session_of e)) es fs a.1 b)
-
-  -- legal turns, cut anywhere
-  pub LegalTurns-cut : (t : Turning) (es fs : List Entry) → LegalTurns reading p t (es ++ fs) → LegalTurns reading p t es × LegalTurns reading p (after_turns reading p t es) fs
-  LegalTurns-cut t [] fs a = (tt, a)
-  LegalTurns-cut t (e ∷ es) fs a = let rest = LegalTurns-cut (after_turn reading p t (session_of e)) es fs a.1 in ((a.0, rest.0), rest.1)
-
-  pub LegalTurns-snoc : (t : Turning) (es : List Entry) (e : Entry) → LegalTurns reading p t es → MayTurn reading p (after_turns reading p t es) e → LegalTurns reading p t (es ++ e ∷ [])
-  LegalTurns-snoc t es e a b = LegalTurns-append t es (e ∷ []) a (b, tt)
 
 module _ (settings : Settings) (reading : Reading) (p : Program) where
   pub after-append : (s : State) (es fs : List Entry) → after settings reading p s (es ++ fs) ≡ after settings reading p (after settings reading p s es) fs

@@ -1,7 +1,7 @@
 -- Which orders can be followed.
 use Rattle.std.specs.Prelude.{◌≡◌, ℕ, ◌≤◌, true, length}
 use Rattle.std.specs.List.{All, count_by}
-use Rattle.lv_schema.specs.Names.{is_lower_name}
+use Rattle.lv_values.specs.Names.{is_lower_name}
 use Rattle.lv_plain.specs.declared.program.OrderItem.{OrderItem}
 use Rattle.lv_plain.specs.declared.program.OrderItem.TheVariants.{Turn, Fetch, Install, Work, Mark, Clean}
 use Rattle.lv_plain.specs.declared.program.Program.{Program}

@@ -1,8 +1,8 @@
 -- Which lists of entries a program may give: each entry is that of its own event, with the outcome that it shows.
 use Rattle.std.specs.Prelude.{◌≡◌, ℕ, ◌≤◌, ◌<◌, Bool, true, false, List, [], ◌∷◌, length, nat_lt, if◌then◌else◌, Option, Some, None, IsSome}
+use Rattle.lv_values.specs.Names.{is_lower_name}
 use Rattle.lv_schema.specs.declared.fault.Fault.{Fault}
 use Rattle.lv_schema.specs.declared.fault.Fault.TheVariants.{Store}
-use Rattle.lv_schema.specs.Names.{is_lower_name}
 use Rattle.lv_schema.specs.UpkeepCases.{claim_of}
 use Rattle.lv_schema.specs.World.{World, view_at, Settings}
 use Rattle.lv_plain.specs.declared.entry.Entry.{Entry}

@@ -1,10 +1,11 @@
 pub mod Programs
 pub mod Turns
 pub mod Events
-pub mod LegalTurns
+pub mod Named
 pub mod Machine
 pub mod Legal
 pub mod Difference
 pub mod Following
 pub mod Limits
 pub mod SessionNames
+pub mod GivenEntries

@@ -2,7 +2,7 @@
 use Rattle.std.specs.Prelude.{◌≡◌, ◌≢◌, ℕ, Bool, true, not, ◌&&◌, ◌||◌, List, [], ◌∷◌, map, codes}
 use Rattle.std.specs.List.{All, AllPairs, list_any}
 use Rattle.std.specs.Str.{bytes_eq}
-use Rattle.lv_schema.specs.Names.{is_lower_name}
+use Rattle.lv_values.specs.Names.{is_lower_name}
 use Rattle.lv_plain.specs.declared.program.Program.{Program}
 
 -- the words of order lines and of transcripts, by which no session may be called, and the names of workers

@@ -1,7 +1,7 @@
-use Rattle.std.proofs.Common.{◌≡◌, ◌≤◌, length, take, rules, arith}
+use Rattle.std.proofs.Common.{◌≤◌, length, arith}
 use Rattle.std.proofs.lemmas.List.{take_all}
 use Rattle.std.proofs.lemmas.List.Elements.{All-more}
-use Rattle.lv_order.specs.Turns.{IsTurn, AreTurns}
+use Rattle.lv_order.specs.Turns.{IsTurn}
 use Rattle.lv_order.proofs.order.first_other.Goals as goal
 
 pub loop-i-preserved : goal.loop-i-preserved

@@ -1,0 +1,6 @@
+use Rattle.lv_plain.specs.Legal.{begun}
+use Rattle.lv_plain.proofs.NamedEntries.{entries_named}
+use Rattle.lv_plain.proofs.laws.entries_name_what_is_in_use.Goals as goal
+
+pub returns : goal.returns
+returns c = λ settings reading p w es binds names limits steady legal. entries_named settings reading p binds names limits (begun settings reading p w) es steady legal
