@@ -2,6 +2,5 @@
 use Rattle.lv_core.specs.declared.machine.Core.{Core}
 use Rattle.lv_core.specs.Run.{CoreView}
 
--- its program, what statements see, how many are answered, and the entries
 abbrev pub run_of : Core → CoreView
-run_of core = core.ledger
+run_of core = core.run

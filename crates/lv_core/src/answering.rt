@@ -1,206 +1,202 @@
-//! The reply to a bound statement: a method for each kind, and a dispatcher.
-ghost use Rattle.std.specs.Prelude.{◌≡◌, ◌<◌, ◌^◌, ◌-◌, true, [], IsSome, None, slice_index_or};
-ghost use Rattle.std.specs.List.{list_all};
+//! The answer to a line, and to each kind of bound statement.
+ghost use Rattle.std.specs.Prelude.{◌≡◌, ◌<◌, ◌==◌, ℕ, false, true, List, [], None, Ok, IfOk, map};
 ghost use Rattle.lv_schema.specs.declared.bound.Bound.TheVariants as bound;
-ghost use Rattle.lv_schema.specs.Bound.{IsBound, IsBoundTable, IsBoundView, rel_in_use};
-ghost use Rattle.lv_schema.specs.Cases.{table_made, view_made, began, changed, committed, alone, queried, rolled_back};
-ghost use Rattle.lv_schema.specs.World.{transaction};
+ghost use Rattle.lv_schema.specs.declared.query.Query.{Query as AQuery};
+ghost use Rattle.lv_schema.specs.declared.rec.Rec.{Rec};
+ghost use Rattle.lv_schema.specs.Bound.{IsBound, IsBoundTable, IsBoundView};
+ghost use Rattle.lv_schema.specs.Cases.{Outcome, began, committed, rolled_back, table_made, view_made};
+ghost use Rattle.lv_schema.specs.Tasks.{pending_tasks};
+ghost use Rattle.lv_schema.specs.UpkeepCases.{outcome_of};
+ghost use Rattle.lv_schema.specs.World.{Settings, World};
 ghost use Rattle.lv_plain.specs.declared.entry.Reply.TheVariants as reply;
-ghost use Rattle.lv_plain.specs.LegalTurns.{always_written};
-ghost use Rattle.lv_plain.specs.Turns.{bound_turn, turn_by, shown};
-ghost use Rattle.lv_core.specs.Answering.{Answers, IsRefusal};
-ghost use Rattle.lv_core.specs.KeyOrder.{AreKeyOrdered};
-ghost use Rattle.lv_core.specs.Seen.{visible, IsWhole, MayChange};
-ghost use Rattle.lv_core.specs.Small.{IsSmallDb};
+ghost use Rattle.lv_plain.specs.declared.program.Program.{Program};
+ghost use Rattle.lv_plain.specs.Limits.{IsStatementLine};
+ghost use Rattle.lv_plain.specs.Machine.{steps_of};
+ghost use Rattle.lv_plain.specs.Turns.{bound_line, bound_turn, read_turn, shown, turn_by};
+ghost use Rattle.lv_bind.specs.Reads.{reads};
+ghost use Rattle.lv_txn.specs.Kept.{IsLive, live_kept, transaction_at};
+ghost use Rattle.lv_engine.specs.Answering.{IsWritten, ReadsNoTable, input_between};
+ghost use Rattle.lv_engine.specs.Store.{Stands};
+ghost use Rattle.lv_core.specs.Answering.{Answers, GivesTurn, IsNext, IsReady};
 
-use crate::stop::Stop;
-use crate::whole::{SESSIONS, Whole};
-use lv_plain::{Reply, TaskList};
-use lv_schema::{Bound, Change, Query, TableDef, ViewDef};
-use lv_values::NoMemory;
+use crate::answered::{Answered, fault_of_commit, refusal, replied};
+use crate::changing::change;
+use crate::querying::query;
+use lv_bind::{BindFault, read_line};
+use lv_engine::Engine;
+use lv_maint::{JobInput, JobResult};
+use lv_plain::Reply;
+use lv_schema::{Bound, TableDef, ViewDef};
+use lv_values::{Items, NoMemory, Steps, Text};
 use std::alloc::Global;
+use std::sync::ledger::Ledger;
 
-/// The reply that tells a fault; want of memory tells none.
-fn refusal(stop: Stop) -> Result<Reply, NoMemory>
-    ensures { IsRefusal stop result }
+/// CREATE TABLE.
+fn create_table(engine: &mut Engine, alloc: Global, def: TableDef) -> Result<Answered, NoMemory>
+    requires bound { IsBoundTable engine.old.tables engine.old.views def }
+    ensures case { (w : World) (outcome : Rec → Outcome) → IsWritten outcome → Stands w engine.old
+        → Answers w engine.old engine.new result [] (turn_by (λ _. reply.Made) (table_made outcome def w.visible)) }
+    ensures settings { engine.new.settings ≡ engine.old.settings }
 {
-    match stop {
-        Stop::Refused(fault) => Ok(Reply::Refused(fault)),
-        Stop::NoMemory => Err(NoMemory),
+    engine.create_table(alloc, def)?;
+    Ok(replied(alloc, Reply::Made))
+}
+
+/// CREATE VIEW, where nobody is live.
+fn create_view<L: Ledger>(
+    engine: &mut Engine,
+    alloc: Global,
+    def: ViewDef,
+    steps: &mut Steps<L>,
+) -> Result<Answered, NoMemory>
+    requires bound { IsBoundView engine.old.tables engine.old.views def }
+    requires nobody { live_kept engine.old.sessions ≡ [] }
+    ensures case { (w : World) (outcome : Rec → Outcome) → IsWritten outcome → Stands w engine.old
+        → Answers w engine.old engine.new result [] (turn_by (λ _. reply.Made) (view_made outcome def w.visible)) }
+    ensures settings { engine.new.settings ≡ engine.old.settings }
+{
+    engine.create_view(alloc, def, steps)?;
+    Ok(replied(alloc, Reply::Made))
+}
+
+/// BEGIN.
+fn begin(engine: &mut Engine, alloc: Global, session: u32) -> Answered
+    requires session { session < 17 }
+    requires free { transaction_at engine.old.sessions session ≡ None }
+    ensures case { (w : World) → Stands w engine.old → GivesTurn w engine.new [] (turn_by reply.Began (began session w.visible)) result }
+    ensures settings { engine.new.settings ≡ engine.old.settings }
+{
+    let snapshot = engine.begin(session);
+    replied(alloc, Reply::Began { snapshot })
+}
+
+/// COMMIT.
+fn commit(engine: &mut Engine, alloc: Global, session: u32) -> Result<Answered, NoMemory>
+    requires session { session < 17 }
+    requires live { IsLive engine.old.sessions session }
+    ensures case { (w : World) (outcome : Rec → Outcome) → IsWritten outcome → Stands w engine.old
+        → Answers w engine.old engine.new result [] (turn_by reply.Committed (committed outcome session w.visible)) }
+    ensures settings { engine.new.settings ≡ engine.old.settings }
+{
+    match engine.commit(alloc, session) {
+        Ok(number) => Ok(replied(alloc, Reply::Committed { number })),
+        Err(fault) => refusal(alloc, fault_of_commit(fault)),
     }
 }
 
-impl Whole {
-    /// CREATE TABLE.
-    fn answer_table(&mut self, alloc: Global, def: TableDef) -> Result<Reply, NoMemory>
-        requires whole { IsWhole self.old }
-        requires bound { IsBoundTable (visible self.old).tables (visible self.old).views def }
-        ensures answer { Answers (visible self.old) (visible self.new) result (turn_by (λ _. reply.Made) (table_made always_written def (visible self.old))) }
-        ensures whole { IsWhole self.new }
-    {
-        self.create_table(alloc, def)?;
-        Ok(Reply::Made)
-    }
+/// ROLLBACK.
+fn roll_back(engine: &mut Engine, alloc: Global, session: u32) -> Answered
+    requires session { session < 17 }
+    requires live { IsLive engine.old.sessions session }
+    ensures case { (w : World) → Stands w engine.old → GivesTurn w engine.new [] (turn_by (λ _. reply.RolledBack) (rolled_back session w.visible)) result }
+    ensures settings { engine.new.settings ≡ engine.old.settings }
+{
+    engine.rollback(session);
+    replied(alloc, Reply::RolledBack)
+}
 
-    /// CREATE VIEW.
-    fn answer_view(&mut self, alloc: Global, def: ViewDef) -> Result<Reply, NoMemory>
-        requires whole { IsWhole self.old }
-        requires bound { IsBoundView (visible self.old).tables (visible self.old).views def }
-        ensures answer { Answers (visible self.old) (visible self.new) result (turn_by (λ _. reply.Made) (view_made always_written def (visible self.old))) }
-        ensures whole { IsWhole self.new }
-    {
-        self.create_view(alloc, def)?;
-        Ok(Reply::Made)
-    }
+/// SHOW TASKS.
+fn show_tasks(engine: &Engine, alloc: Global) -> Result<Answered, NoMemory>
+    ensures { (w : World) → Stands w engine.now → Answers w engine.now engine.now result [] (shown (reply.Tasks (pending_tasks w)) w.visible) }
+{
+    let tasks = engine.tasks(alloc)?;
+    Ok(replied(alloc, Reply::Tasks(tasks)))
+}
 
-    /// INSERT, UPDATE or DELETE in the session's transaction.
-    fn answer_change(
-        &mut self,
-        alloc: Global,
-        session: usize,
-        change: &Change,
-    ) -> Result<Reply, NoMemory>
-        requires whole { IsWhole self.old }
-        requires session { session < SESSIONS }
-        requires live { IsSome (slice_index_or self.old.sessions.items session None) }
-        requires may { MayChange (visible self.old) session change.now }
-        ensures answer { Answers (visible self.old) (visible self.new) result (turn_by reply.Changed (changed session change.now (visible self.old))) }
-        ensures whole { IsWhole self.new }
-    {
-        match self.change(alloc, session, change) {
-            Ok(count) => Ok(Reply::Changed { count }),
-            Err(stop) => refusal(stop),
-        }
+/// The answer to a bound statement. Want of memory leaves everything as it was. Cost: that of the engine's call.
+fn answer<L: Ledger>(
+    engine: &mut Engine,
+    alloc: Global,
+    session: u32,
+    statement: Bound,
+    offers: Items<JobResult>,
+    steps: &mut Steps<L>,
+) -> Result<Answered, NoMemory>
+    requires ready { IsReady engine.old session statement }
+    ensures case { (w : World) (settings : Settings) (p : Program) (outcome : Rec → Outcome) → settings.combine ≡ engine.old.settings.combine → IsWritten outcome → Stands w engine.old
+        → Answers w engine.old engine.new result (steps_of settings reads p false session (Ok statement) w) (bound_turn outcome (pending_tasks w) session statement w.visible) }
+    ensures settings { engine.new.settings ≡ engine.old.settings }
+    ensures fresh { (w : World) (query : AQuery) → Stands w engine.old → statement ≡ bound.Query query → ReadsNoTable session query w → steps.new ≡ steps.old }
+{
+    match statement {
+        Bound::Table(def) => create_table(engine, alloc, def),
+        Bound::View(def) => create_view(engine, alloc, def, steps),
+        Bound::Change(made) => change(engine, alloc, session, &made, steps),
+        Bound::Query(asked) => query(engine, alloc, session, &asked, offers, steps),
+        Bound::Begin => Ok(begin(engine, alloc, session)),
+        Bound::Commit => commit(engine, alloc, session),
+        Bound::Rollback => Ok(roll_back(engine, alloc, session)),
+        Bound::Tasks => show_tasks(engine, alloc),
     }
+}
 
-    /// INSERT, UPDATE or DELETE outside a transaction.
-    fn answer_alone(
-        &mut self,
-        alloc: Global,
-        session: usize,
-        change: &Change,
-    ) -> Result<Reply, NoMemory>
-        requires whole { IsWhole self.old }
-        requires session { session < SESSIONS }
-        requires idle { slice_index_or self.old.sessions.items session None ≡ None }
-        requires ordered { AreKeyOrdered (visible self.old) }
-        requires may { MayChange (visible self.old) session change.now }
-        ensures answer { Answers (visible self.old) (visible self.new) result (turn_by (λ done. reply.Alone done.0 done.1) (alone always_written session change.now (visible self.old))) }
-        ensures whole { IsWhole self.new }
-    {
-        match self.alone(alloc, session, change) {
-            Ok((count, number)) => Ok(Reply::Alone { count, number }),
-            Err(stop) => refusal(stop),
-        }
+/// The answer to a line of a session, the setup being session 0. Want of memory leaves everything as it was.
+/// Cost: linear in the line, that of binding, and that of the statement.
+pub fn answer_line<L: Ledger>(
+    engine: &mut Engine,
+    alloc: Global,
+    session: u32,
+    line: &Text,
+    offers: Items<JobResult>,
+    steps: &mut Steps<L>,
+) -> Result<Answered, NoMemory>
+    requires next { IsNext engine.old session }
+    requires line { IsStatementLine line.now }
+    ensures case { (w : World) (settings : Settings) (p : Program) (outcome : Rec → Outcome) → settings.combine ≡ engine.old.settings.combine → IsWritten outcome → Stands w engine.old
+        → Answers w engine.old engine.new result (steps_of settings reads p false session (bound_line reads session line.now w.visible) w) (read_turn outcome (pending_tasks w) session (bound_line reads session line.now w.visible) w.visible) }
+    ensures settings { engine.new.settings ≡ engine.old.settings }
+    ensures fresh { (w : World) (query : AQuery) → Stands w engine.old → bound_line reads session line.now w.visible ≡ Ok (bound.Query query) → ReadsNoTable session query w → steps.new ≡ steps.old }
+{
+    let live = engine.live(session).is_some();
+    match read_line(alloc, engine.schema(), session == 0, live, line) {
+        Ok(bound) => answer(engine, alloc, session, bound, offers, steps),
+        Err(BindFault::Stmt(fault)) => Ok(replied(alloc, Reply::Refused(fault))),
+        Err(BindFault::NoMemory) => Err(NoMemory),
     }
+}
 
-    /// SELECT.
-    fn answer_query(&self, alloc: Global, session: usize, query: &Query) -> Result<Reply, NoMemory>
-        requires whole { IsWhole self.now }
-        requires session { session < SESSIONS }
-        requires in_use { list_all (rel_in_use (visible self.now).tables (visible self.now).views) query.now.rels ≡ true }
-        requires small { IsSmallDb (transaction session (visible self.now)).own }
-        requires ordered { AreKeyOrdered (visible self.now) }
-        ensures { Answers (visible self.now) (visible self.now) result (shown (reply.Rows (queried session query.now (visible self.now))) (visible self.now)) }
-    {
-        Ok(Reply::Rows(self.query(alloc, session, query)?))
+/// What the steps are computed from that a bound statement would force now: a query alone forces any.
+fn stale_bound<L: Ledger>(
+    engine: &Engine,
+    alloc: Global,
+    session: u32,
+    statement: Bound,
+    steps: &mut Steps<L>,
+) -> Result<Items<JobInput>, NoMemory>
+    requires session { session < 17 }
+    requires bound { IsBound engine.now.tables engine.now.views statement }
+    ensures { (w : World) (settings : Settings) (p : Program) → settings.combine ≡ engine.now.settings.combine → Stands w engine.now
+        → IfOk result (λ inputs. inputs ≡ map (input_between w.visible) (steps_of settings reads p false session (Ok statement) w)) }
+{
+    match statement {
+        Bound::Query(query) => engine.stale(alloc, session, &query, steps),
+        Bound::Table(_)
+        | Bound::View(_)
+        | Bound::Change(_)
+        | Bound::Begin
+        | Bound::Commit
+        | Bound::Rollback
+        | Bound::Tasks => Ok(Items::new(alloc)),
     }
+}
 
-    /// BEGIN.
-    fn answer_begin(&mut self, alloc: Global, session: usize) -> Result<Reply, NoMemory>
-        requires whole { IsWhole self.old }
-        requires session { session < SESSIONS }
-        ensures answer { Answers (visible self.old) (visible self.new) result (turn_by reply.Began (began session (visible self.old))) }
-        ensures whole { IsWhole self.new }
-    {
-        let snapshot = self.begin(alloc, session)?;
-        Ok(Reply::Began { snapshot })
-    }
-
-    /// COMMIT of the session's transaction.
-    fn answer_live_commit(&mut self, alloc: Global, session: usize) -> Result<Reply, NoMemory>
-        requires whole { IsWhole self.old }
-        requires session { session < SESSIONS }
-        requires ordered { AreKeyOrdered (visible self.old) }
-        requires live { IsSome (slice_index_or self.old.sessions.items session None) }
-        ensures answer { Answers (visible self.old) (visible self.new) result (turn_by reply.Committed (committed always_written session (visible self.old))) }
-        ensures whole { IsWhole self.new }
-    {
-        match self.commit(alloc, session) {
-            Ok(number) => Ok(Reply::Committed { number }),
-            Err(stop) => refusal(stop),
-        }
-    }
-
-    /// COMMIT; where the session has no transaction nothing is committed.
-    #[tactic(auto, using(crate::proofs::Answered::idle_commit))]
-    fn answer_commit(&mut self, alloc: Global, session: usize) -> Result<Reply, NoMemory>
-        requires whole { IsWhole self.old }
-        requires session { session < SESSIONS }
-        requires ordered { AreKeyOrdered (visible self.old) }
-        ensures answer { Answers (visible self.old) (visible self.new) result (turn_by reply.Committed (committed always_written session (visible self.old))) }
-        ensures whole { IsWhole self.new }
-    {
-        if self.sessions[session].is_some() {
-            return self.answer_live_commit(alloc, session);
-        }
-        self.roll_back(session);
-        Ok(Reply::Committed { number: None })
-    }
-
-    /// ROLLBACK.
-    fn answer_rollback(&mut self, session: usize) -> Reply
-        requires whole { IsWhole self.old }
-        requires session { session < SESSIONS }
-        ensures reply { result ≡ reply.RolledBack }
-        ensures next { visible self.new ≡ (rolled_back session (visible self.old)).next }
-        ensures whole { IsWhole self.new }
-    {
-        self.roll_back(session);
-        Reply::RolledBack
-    }
-
-    /// INSERT, UPDATE or DELETE.
-    fn answer_any_change(
-        &mut self,
-        alloc: Global,
-        session: usize,
-        change: &Change,
-    ) -> Result<Reply, NoMemory>
-        requires whole { IsWhole self.old }
-        requires session { session < SESSIONS }
-        requires ordered { AreKeyOrdered (visible self.old) }
-        requires may { MayChange (visible self.old) session change.now }
-        ensures answer { Answers (visible self.old) (visible self.new) result (bound_turn always_written [] session (bound.Change change.now) (visible self.old)) }
-        ensures whole { IsWhole self.new }
-    {
-        if self.sessions[session].is_some() {
-            self.answer_change(alloc, session, change)
-        } else {
-            self.answer_alone(alloc, session, change)
-        }
-    }
-
-    /// The reply to a bound statement. Want of memory leaves everything as it was. Cost: that of the statement.
-    pub fn answer(&mut self, alloc: Global, session: usize, bound: Bound) -> Result<Reply, NoMemory>
-        requires whole { IsWhole self.old }
-        requires session { session < SESSIONS }
-        requires bound { IsBound (visible self.old).tables (visible self.old).views bound }
-        requires small { IsSmallDb (transaction session (visible self.old)).own }
-        requires ordered { AreKeyOrdered (visible self.old) }
-        requires changes { (transaction session (visible self.old)).changes < 2 ^ 32 - 1 }
-        ensures answer { Answers (visible self.old) (visible self.new) result (bound_turn always_written [] session bound (visible self.old)) }
-        ensures whole { IsWhole self.new }
-    {
-        match bound {
-            Bound::Table(def) => self.answer_table(alloc, def),
-            Bound::View(def) => self.answer_view(alloc, def),
-            Bound::Change(change) => self.answer_any_change(alloc, session, &change),
-            Bound::Query(query) => self.answer_query(alloc, session, &query),
-            Bound::Begin => self.answer_begin(alloc, session),
-            Bound::Commit => self.answer_commit(alloc, session),
-            Bound::Rollback => Ok(self.answer_rollback(session)),
-            Bound::Tasks => Ok(Reply::Tasks(TaskList::new(alloc))),
-        }
+/// The same of a line: of one that is refused there is nothing.
+pub fn stale_line<L: Ledger>(
+    engine: &Engine,
+    alloc: Global,
+    session: u32,
+    line: &Text,
+    steps: &mut Steps<L>,
+) -> Result<Items<JobInput>, NoMemory>
+    requires session { session < 17 }
+    requires line { IsStatementLine line.now }
+    ensures { (w : World) (settings : Settings) (p : Program) → settings.combine ≡ engine.now.settings.combine → Stands w engine.now
+        → IfOk result (λ inputs. inputs ≡ map (input_between w.visible) (steps_of settings reads p false session (bound_line reads session line.now w.visible) w)) }
+{
+    let live = engine.live(session).is_some();
+    match read_line(alloc, engine.schema(), session == 0, live, line) {
+        Ok(bound) => stale_bound(engine, alloc, session, bound, steps),
+        Err(BindFault::Stmt(_)) => Ok(Items::new(alloc)),
+        Err(BindFault::NoMemory) => Err(NoMemory),
     }
 }

@@ -1,188 +1,133 @@
-//! INSERT, UPDATE and DELETE in a transaction.
-ghost use Rattle.std.specs.Prelude.{◌≡◌, ◌<◌, ◌-◌, ◌^◌, ◌++◌, true, [], OnOk, OnErr, length, IsSome, None, slice_index_or, slice_set};
-ghost use Rattle.lv_schema.specs.Cases.{changed};
-ghost use Rattle.lv_core.specs.Seen.{visible, IsWhole, MayChange};
-ghost use Rattle.lv_core.specs.Stops.{Meets};
-ghost use Rattle.lv_schema.specs.Databases.{rows_of};
-ghost use Rattle.lv_schema.specs.Effects.{changed_table};
-ghost use Rattle.lv_schema.specs.World.{table_at};
-ghost use Rattle.lv_core.specs.Editing.{edited_rows, leaves_key, AreEditable};
-ghost use Rattle.lv_core.specs.KeyOrder.{AreInKeyOrder};
-ghost use Rattle.lv_core.specs.Preparing.{GivesPrepared, with_prepared};
-ghost use Rattle.lv_core.specs.Small.{AreSmallRows};
-ghost use Rattle.lv_core.specs.Sums.{has_short_amounts};
+//! INSERT, UPDATE and DELETE, in a transaction and outside one.
+ghost use Rattle.std.specs.Prelude.{◌≡◌, ◌<◌, ℕ, List, [], None};
+ghost use Rattle.lv_schema.specs.declared.bound.Bound.TheVariants as bound;
+ghost use Rattle.lv_schema.specs.declared.rec.Rec.{Rec};
+ghost use Rattle.lv_schema.specs.Bound.{IsBoundChange};
+ghost use Rattle.lv_schema.specs.Cases.{Outcome, alone, changed, committed};
+ghost use Rattle.lv_schema.specs.World.{World};
+ghost use Rattle.lv_plain.specs.declared.entry.Reply.TheVariants as reply;
+ghost use Rattle.lv_plain.specs.Turns.{bound_turn, turn_by};
+ghost use Rattle.lv_txn.specs.Kept.{IsLive, transaction_at, transaction_of};
+ghost use Rattle.lv_engine.specs.Answering.{IsWritten};
+ghost use Rattle.lv_engine.specs.Store.{Stands};
+ghost use Rattle.lv_core.specs.Answering.{Answers, CommitsAlone, EndsAlone};
 
-use crate::editing::{RowEdits, edit_rows, edits_of};
-use crate::effects::effect;
-use crate::merging::rows_of;
-use crate::stop::Stop;
-use crate::whole::{SESSIONS, Whole};
-use crate::written::key_positions;
-use lv_schema::{Action, Actions, Change, Database, Open, Schema};
-use lv_values::{Edit, NoMemory, Room, Row, Rows};
+use crate::answered::{Answered, fault_of_change, fault_of_commit, refusal, replied};
+use lv_engine::Engine;
+use lv_plain::Reply;
+use lv_schema::{Change, Fault};
+use lv_values::{NoMemory, Steps};
 use std::alloc::Global;
+use std::sync::ledger::Ledger;
 
-/// Gives an action the number of its statement.
-#[derive(Drop)]
-struct Numbering {
-    statement: u32,
-}
-
-impl Edit<Action> for Numbering {
-    ghost use Rattle.lv_schema.specs.Cases.{with_number};
-
-    ghost edited = { λ n a. with_number n.statement a };
-
-    fn edit(&self, action: &mut Action) {
-        action.statement = self.statement;
-    }
-}
-
-/// The table that a change is of.
-pub fn table_of(change: &Change) -> u32
-    ensures { result ≡ changed_table change.now }
-{
-    match change {
-        Change::Insert { table, .. }
-        | Change::Update { table, .. }
-        | Change::Delete { table, .. } => { *table }
-    }
-}
-
-/// A change that a transaction may keep: the number of rows, the edits of its table's rows, and its actions.
-#[derive(Drop)]
-pub struct Prepared {
-    pub count: u64,
-    table: u32,
-    edits: RowEdits,
-    actions: Actions,
-}
-
-/// What a change makes of a transaction, or why it is refused. Nothing is changed yet. Cost: as the change's effect, and
-/// a copy of each row that comes in.
-pub fn prepare(
+/// A change in a session's transaction.
+pub fn change_inside<L: Ledger>(
+    engine: &mut Engine,
     alloc: Global,
-    schema: &Schema,
-    transaction: &Open,
+    session: u32,
     change: &Change,
-) -> Result<Prepared, Stop>
-    requires table { changed_table change.now < length schema.now.tables }
-    requires key { leaves_key (table_at schema.now.tables (changed_table change.now)).key change.now ≡ true }
-    requires amounts { has_short_amounts change.now ≡ true }
-    requires rows { AreSmallRows (rows_of transaction.now.own (changed_table change.now)) }
-    requires order { AreInKeyOrder (table_at schema.now.tables (changed_table change.now)).key (rows_of transaction.now.own (changed_table change.now)) }
-    requires changes { transaction.now.changes < 2 ^ 32 - 1 }
-    ensures { GivesPrepared schema.now.tables change.now transaction.now result }
+    steps: &mut Steps<L>,
+) -> Result<Answered, NoMemory>
+    requires session { session < 17 }
+    requires live { IsLive engine.old.sessions session }
+    requires few { (transaction_of engine.old.sessions session).changes < 4294967295 }
+    requires bound { IsBoundChange engine.old.tables change.now }
+    ensures case { (w : World) → Stands w engine.old → Answers w engine.old engine.new result [] (turn_by reply.Changed (changed session change.now w.visible)) }
+    ensures settings { engine.new.settings ≡ engine.old.settings }
 {
-    let table = table_of(change);
-    let def = schema.table(table);
-    let rows = rows_of(&transaction.own, table);
-    let (count, mut actions) = effect(alloc, def, change, rows)?;
-    let edits = edits_of(alloc, change, actions.as_slice())?;
-    actions.edit_each(&Numbering {
-        statement: transaction.changes + 1,
-    });
-    Ok(Prepared {
-        count,
-        table,
-        edits,
-        actions,
-    })
-}
-
-/// Takes the rows of a table out of a database, with the room that they have. Cost: constant.
-fn take_rows(alloc: Global, database: &mut Database, table: u32) -> Room<Row>
-    ensures rows { result.list ≡ rows_of database.old table }
-    ensures rest { database.new ≡ slice_set database.old table [] }
-{
-    let table = table as usize;
-    if table < database.len() {
-        Room::from_items(database.replace(table, Rows::new(alloc)))
-    } else {
-        Room::new(alloc)
+    match engine.change(alloc, session, change, steps) {
+        Ok(count) => Ok(replied(alloc, Reply::Changed { count })),
+        Err(fault) => refusal(alloc, fault_of_change(fault)),
     }
 }
 
-/// Gives a table of a database its rows. Cost: constant.
-fn give_rows(database: &mut Database, table: u32, rows: Room<Row>)
-    ensures { database.new ≡ slice_set database.old table rows.list }
-{
-    let table = table as usize;
-    if table < database.len() {
-        database.set(table, rows.into_items());
-    }
-}
-
-/// Edits the rows of a table and keeps the actions behind the others. Want of memory changes nothing.
-fn edit_and_keep(
-    key: &[u8],
-    edits: RowEdits,
-    actions: Actions,
-    rows: &mut Room<Row>,
-    kept: &mut Actions,
-) -> Result<(), NoMemory>
-    requires order { AreInKeyOrder key.now rows.old.list }
-    requires editable { AreEditable key.now edits actions }
-    ensures edited { OnOk result (rows.new.list ≡ edited_rows key.now edits actions rows.old.list) }
-    ensures kept { OnOk result (kept.new ≡ kept.old ++ actions) }
-    ensures same_rows { OnErr result (rows.new.list ≡ rows.old.list) }
-    ensures same_actions { OnErr result (kept.new ≡ kept.old) }
-{
-    rows.reserve(edits.len() as u64)?;
-    let first = kept.len();
-    kept.append(actions)?;
-    edit_rows(key, edits, &kept.as_slice()[first..], rows);
-    Ok(())
-}
-
-/// Keeps a change in a transaction, whose table has this key: its rows are edited in place. Want of memory changes
-/// nothing. Cost: as `edit_rows`.
-pub fn keep(
+/// What a change outside a transaction is answered where its commit is not done: the fault, with which the transaction is
+/// over; or want of memory, where it is given up.
+fn not_committed(
+    engine: &mut Engine,
     alloc: Global,
-    key: &[u8],
-    transaction: &mut Open,
-    prepared: Prepared,
-) -> Result<(), NoMemory>
-    requires changes { transaction.old.changes < 2 ^ 32 - 1 }
-    requires order { AreInKeyOrder key.now (rows_of transaction.old.own prepared.table) }
-    requires editable { AreEditable key.now prepared.edits prepared.actions }
-    ensures ok { OnOk result (transaction.new ≡ with_prepared key.now prepared transaction.old) }
-    ensures err { OnErr result (transaction.new ≡ transaction.old) }
+    session: u32,
+    fault: Option<Fault>,
+) -> Result<Answered, NoMemory>
+    requires session { session < 17 }
+    requires live { fault ≡ None → IsLive engine.old.sessions session }
+    ensures ended { EndsAlone fault session engine.old engine.new result }
+    ensures settings { engine.new.settings ≡ engine.old.settings }
 {
-    let Prepared {
-        count: _,
-        table,
-        edits,
-        actions,
-    } = prepared;
-    let mut rows = take_rows(alloc, &mut transaction.own, table);
-    let kept = edit_and_keep(key, edits, actions, &mut rows, &mut transaction.actions);
-    give_rows(&mut transaction.own, table, rows);
-    kept?;
-    transaction.changes += 1;
-    Ok(())
+    match fault {
+        Some(fault) => Ok(replied(alloc, Reply::Refused(fault))),
+        None => {
+            engine.rollback(session);
+            Err(NoMemory)
+        }
+    }
 }
 
-impl Whole {
-    /// INSERT, UPDATE or DELETE in a live transaction. Answers the number of rows. Cost: as `prepare` and `keep`: where
-    /// the condition of an UPDATE or DELETE fixes the key, nothing that grows with the table but a move of the rows behind
-    /// one that goes.
-    pub fn change(&mut self, alloc: Global, session: usize, change: &Change) -> Result<u64, Stop>
-        requires whole { IsWhole self.old }
-        requires session { session < SESSIONS }
-        requires live { IsSome (slice_index_or self.old.sessions.items session None) }
-        requires may { MayChange (visible self.old) session change.now }
-        ensures case { Meets (visible self.old) (visible self.new) result (changed session change.now (visible self.old)) }
-        ensures whole { IsWhole self.new }
-        ensures live { IsSome (slice_index_or self.new.sessions.items session None) }
-    {
-        let Some(transaction) = &mut self.sessions[session] else {
-            unreachable!()
-        };
-        let prepared = prepare(alloc, &self.schema, transaction, change)?;
-        let count = prepared.count;
-        let key = key_positions(&self.schema, table_of(change));
-        keep(alloc, key, transaction, prepared)?;
-        Ok(count)
+/// COMMIT of a change that a transaction was opened for. Want of memory leaves the session without a transaction.
+fn commit_alone(
+    engine: &mut Engine,
+    alloc: Global,
+    session: u32,
+    count: u64,
+) -> Result<Answered, NoMemory>
+    requires session { session < 17 }
+    requires live { IsLive engine.old.sessions session }
+    ensures case { (w : World) (outcome : Rec → Outcome) → IsWritten outcome → Stands w engine.old
+        → CommitsAlone count session w engine.old engine.new result (committed outcome session w.visible) }
+    ensures settings { engine.new.settings ≡ engine.old.settings }
+{
+    engine.known();
+    match engine.commit(alloc, session) {
+        Ok(number) => Ok(replied(alloc, Reply::Alone { count, number })),
+        Err(fault) => not_committed(engine, alloc, session, fault_of_commit(fault)),
+    }
+}
+
+/// A change outside a transaction: BEGIN, the change and COMMIT, and ROLLBACK where the change is refused. After a
+/// refusal, and where memory is wanting, everything is as it was.
+pub fn change_alone<L: Ledger>(
+    engine: &mut Engine,
+    alloc: Global,
+    session: u32,
+    change: &Change,
+    steps: &mut Steps<L>,
+) -> Result<Answered, NoMemory>
+    requires session { session < 17 }
+    requires free { transaction_at engine.old.sessions session ≡ None }
+    requires bound { IsBoundChange engine.old.tables change.now }
+    ensures case { (w : World) (outcome : Rec → Outcome) → IsWritten outcome → Stands w engine.old
+        → Answers w engine.old engine.new result [] (turn_by (λ done. reply.Alone done.0 done.1) (alone outcome session change.now w.visible)) }
+    ensures settings { engine.new.settings ≡ engine.old.settings }
+{
+    engine.known();
+    engine.begin(session);
+    match engine.change(alloc, session, change, steps) {
+        Ok(count) => commit_alone(engine, alloc, session, count),
+        Err(fault) => {
+            engine.rollback(session);
+            refusal(alloc, fault_of_change(fault))
+        }
+    }
+}
+
+/// INSERT, UPDATE or DELETE, in the session's transaction or outside one.
+pub fn change<L: Ledger>(
+    engine: &mut Engine,
+    alloc: Global,
+    session: u32,
+    change: &Change,
+    steps: &mut Steps<L>,
+) -> Result<Answered, NoMemory>
+    requires session { session < 17 }
+    requires few { (transaction_of engine.old.sessions session).changes < 4294967295 }
+    requires bound { IsBoundChange engine.old.tables change.now }
+    ensures case { (w : World) (outcome : Rec → Outcome) (tasks : List (ℕ × ℕ)) → IsWritten outcome → Stands w engine.old
+        → Answers w engine.old engine.new result [] (bound_turn outcome tasks session (bound.Change change.now) w.visible) }
+    ensures settings { engine.new.settings ≡ engine.old.settings }
+{
+    if engine.live(session).is_some() {
+        change_inside(engine, alloc, session, change, steps)
+    } else {
+        change_alone(engine, alloc, session, change, steps)
     }
 }

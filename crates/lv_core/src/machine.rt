@@ -1,70 +1,70 @@
 //! The core of a run, as its caller holds it.
-ghost use Rattle.std.specs.Prelude.{◌≡◌, [], true, OnOk, OnErr, IfOk, map};
+ghost use Rattle.std.specs.Prelude.{◌≡◌, ◌-◌, ◌^◌, [], true, Ok, OnErr, OnOk, IfOk, map};
+ghost use Rattle.lv_schema.specs.declared.bound.Bound.TheVariants as bound;
+ghost use Rattle.lv_schema.specs.declared.query.Query.{Query as AQuery};
+ghost use Rattle.lv_schema.specs.World.{empty_world};
+ghost use Rattle.lv_plain.specs.Events.{turn_of};
 ghost use Rattle.lv_plain.specs.Limits.{IsWithinLimits};
-ghost use Rattle.lv_plain.specs.LegalTurns.{start};
 ghost use Rattle.lv_plain.specs.Programs.{may_turn};
+ghost use Rattle.lv_engine.specs.Answering.{ReadsNoTable, input_between};
+ghost use Rattle.lv_engine.specs.Store.{Stands};
 ghost use Rattle.lv_core.specs.Cores.{run_of};
-ghost use Rattle.lv_core.specs.NoTasks.{HasNoTasks};
-ghost use Rattle.lv_core.specs.Run.{turning, IsRun, TookTurn};
+ghost use Rattle.lv_core.specs.Run.{Gave, IsRun, next_bound, next_steps, settings_of, state_of};
 
-use crate::ledger::Ledger;
-use lv_plain::{Entry, Program, Texts};
-use lv_values::NoMemory;
+use crate::running::Run;
+use lv_engine::Engine;
+use lv_maint::{JobInput, JobResult};
+use lv_plain::{Entry, Program};
+use lv_values::{Items, NoMemory, Steps};
 use std::alloc::Global;
+use std::sync::ledger::Ledger;
 
-/// A program and its run. What a run uses besides, and no statement sees, lies beside the ledger.
+/// A program and its run. What a run uses besides, and no statement sees, is to lie beside the run.
 #[derive(Drop)]
 pub struct Core {
-    ledger: Ledger,
+    run: Run,
 }
 
 impl Core {
-    /// A program of which no statement is answered. None of them is SHOW TASKS, since no tasks are kept yet.
-    pub fn new(alloc: Global, program: Program) -> Result<Core, NoMemory>
+    /// A program of which no statement is answered, over an engine that stands for the empty world.
+    pub fn new(alloc: Global, engine: Engine, program: Program) -> Result<Core, NoMemory>
         requires within { IsWithinLimits program }
-        requires tasks { HasNoTasks program }
+        requires opened { Stands empty_world engine }
         ensures program { IfOk result (λ core. (run_of core).program ≡ program) }
-        ensures start { IfOk result (λ core. turning (run_of core) ≡ start program) }
+        ensures settings { IfOk result (λ core. (run_of core).settings ≡ settings_of engine.settings.combine) }
         ensures entries { IfOk result (λ core. (run_of core).entries ≡ []) }
     {
-        let ledger = Ledger::new(alloc, program)?;
-        Ok(Core { ledger })
+        let run = Run::new(alloc, engine, program)?;
+        Ok(Core { run })
     }
 
-    /// What the core keeps of its run: its entries are legal, from the first one to the last, and its state is the one
-    /// after them.
+    /// What the core keeps of its run: its entries are legal, and its engine stands for the world after them. It is a law,
+    /// and the call does nothing.
     pub fn known(&self)
         ensures { IsRun (run_of self.now) }
     {
-        self.ledger.known();
+        self.run.known();
     }
 
-    /// The names of the tables, by their numbers. Cost: a copy of them.
-    pub fn table_names(&self, alloc: Global) -> Result<Texts, NoMemory>
-        ensures { IfOk result (λ names. names ≡ map (λ t. t.name) (run_of self.now).seen.tables) }
+    /// The engine.
+    pub fn engine(&self) -> &Engine
+        ensures { result.now ≡ (run_of self.now).store }
     {
-        self.ledger.table_names(alloc)
-    }
-
-    /// The names of the views, by their numbers. Cost: a copy of them.
-    pub fn view_names(&self, alloc: Global) -> Result<Texts, NoMemory>
-        ensures { IfOk result (λ names. names ≡ map (λ v. v.name) (run_of self.now).seen.views) }
-    {
-        self.ledger.view_names(alloc)
+        self.run.engine()
     }
 
     /// The program.
     pub fn program(&self) -> &Program
         ensures { result.now ≡ (run_of self.now).program }
     {
-        self.ledger.program()
+        self.run.program()
     }
 
-    /// What the statements were answered, in order.
+    /// What the events have answered, in order.
     pub fn entries(&self) -> &[Entry]
         ensures { result.now ≡ (run_of self.now).entries }
     {
-        self.ledger.entries()
+        self.run.entries()
     }
 
     /// Whether a session has a statement to be answered now: one that is not answered and, where it is not the setup, the
@@ -72,16 +72,38 @@ impl Core {
     pub fn left(&self, session: u32) -> bool
         ensures { result ≡ may_turn (run_of self.now).program (run_of self.now).places session }
     {
-        self.ledger.left(session)
+        self.run.left(session)
     }
 
-    /// Answers the next statement of a session, and keeps the entry. Want of memory changes nothing.
-    /// Cost: that of the statement.
-    pub fn turn(&mut self, alloc: Global, session: u32) -> Result<(), NoMemory>
-        requires may { may_turn (run_of self.old).program (run_of self.old).places session ≡ true }
-        ensures done { OnOk result (TookTurn session (run_of self.old) (run_of self.new)) }
-        ensures kept { OnErr result (run_of self.new ≡ run_of self.old) }
+    /// What the steps are computed from that the next statement of a session would force now, where it binds to a query;
+    /// else nothing. Cost: that of binding, and of the engine's `stale`.
+    pub fn stale<L: Ledger>(
+        &self,
+        alloc: Global,
+        session: u32,
+        steps: &mut Steps<L>,
+    ) -> Result<Items<JobInput>, NoMemory>
+        requires may { may_turn (run_of self.now).program (run_of self.now).places session ≡ true }
+        ensures inputs { IfOk result (λ inputs. inputs ≡ map (input_between (state_of (run_of self.now)).world.visible) (next_steps (run_of self.now) session)) }
     {
-        self.ledger.turn(alloc, session)
+        self.run.stale(alloc, session, steps)
+    }
+
+    /// Answers the next statement of a session, and keeps the entry. An offer is used where it is a step's that the
+    /// statement forces. Want of memory changes nothing. A query of fresh views alone takes no step.
+    /// Cost: that of binding, and of the statement's call of the engine.
+    pub fn turn<L: Ledger>(
+        &mut self,
+        alloc: Global,
+        session: u32,
+        offers: Items<JobResult>,
+        steps: &mut Steps<L>,
+    ) -> Result<(), NoMemory>
+        requires may { may_turn (run_of self.old).program (run_of self.old).places session ≡ true }
+        ensures done { OnOk result (Gave (turn_of session) (run_of self.old) (run_of self.new)) }
+        ensures kept { OnErr result (run_of self.new ≡ run_of self.old) }
+        ensures fresh { (query : AQuery) → next_bound (run_of self.old) session ≡ Ok (bound.Query query) → ReadsNoTable session query (state_of (run_of self.old)).world → steps.new ≡ steps.old }
+    {
+        self.run.turn(alloc, session, offers, steps)
     }
 }

@@ -1,7 +1,0 @@
-use Rattle.std.proofs.Common.{◌≡◌, take}
-use Rattle.std.specs.Prelude.{map}
-use Rattle.lv_schema.specs.Effects.{inserts}
-use Rattle.lv_core.proofs.effects.inserts.Given as goal
-
-abbrev pub invariant-loop-row : goal.invariant-loop-row
-invariant-loop-row l = l.actions ≡ map (inserts l.table) (take l.row-index l.new)
