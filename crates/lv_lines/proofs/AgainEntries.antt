@@ -6,6 +6,7 @@ use Rattle.std.specs.List.{flat_map, list_all, prefix_len}
 use Rattle.std.proofs.lemmas.Fmt.{decimal_digit}
 use Rattle.std.proofs.lemmas.List.{append-nil, get_or-append-add, take-append-drop, drop_at}
 use Rattle.std.proofs.lemmas.Slice.Eq.{bytes_eq-Decides}
+use Rattle.lv_values.specs.Names.{begins_name, continues_name}
 use Rattle.lv_schema.specs.declared.forced.Forced.{Forced}
 use Rattle.lv_plain.specs.declared.entry.Reply.{Reply}
 use Rattle.lv_plain.specs.declared.entry.Reply.TheVariants.{Made, Changed, Alone, Began, Committed, RolledBack, Rows, Tasks, Refused}
@@ -18,7 +19,7 @@ use Rattle.lv_reading.proofs.Again.{IsRead, many_again, expect_again, prefix_len
 use Rattle.lv_reading.proofs.Decimals.{natural_again, decimal_digits, decimal_some}
 use Rattle.lv_lines.specs.declared.names.Names.{Names}
 use Rattle.lv_lines.specs.Transcript.{name_of, reply_text, step_text, forced_line, worker_text, outcome_text, entry_text, text_of}
-use Rattle.lv_lines.specs.Entries.{begins_word, continues_word, IsWord, IsNames, IsStep, IsWorker, IsOutcome, IsEntry, HasNames, AreEntries}
+use Rattle.lv_lines.specs.Entries.{IsWord, IsNames, IsStep, IsWorker, IsOutcome, IsEntry, HasNames, AreEntries}
 use Rattle.lv_lines.specs.Words.{word_len, is_numbered}
 use Rattle.lv_lines.specs.Readers.{step, step_line, forced, is_forced, statement, worker, fetched, installed, moved, idle, busy, empty, released, short_line, worker_line, of_worker, upto, already, mark_refused, any_outcome, marked, mark_unknown, of_mark, cleaned, is_cleaned, named_line, any_entry, goes_on, all_entries}
 use Rattle.lv_lines.proofs.TakesWords.{and_parts}
@@ -29,12 +30,12 @@ use Rattle.lv_lines.proofs.AgainReplies.{join, regroup3, regroup5, any_reply_aga
 -- ---- the second word
 
 -- the first byte of a word is no digit, and that of a number is one
-letter_first : (b : ℕ) → begins_word b ≡ true → is_ascii_digit b ≡ false
+letter_first : (b : ℕ) → begins_name b ≡ true → is_ascii_digit b ≡ false
 letter_first b h = grind arith
 
 word_first : (w rest : List ℕ) → IsWord w → is_ascii_digit (get_or (w ++ rest) 0 0) ≡ false
 word_first [] rest is = absurd cc
-word_first (b ∷ bytes) rest is = letter_first b (and_parts (begins_word b) (list_all continues_word bytes) is).0
+word_first (b ∷ bytes) rest is = letter_first b (and_parts (begins_name b) (list_all continues_name bytes) is).0
 
 number_first : (n : ℕ) (rest : List ℕ) → n < 2 ^ 128 → is_ascii_digit (get_or (decimal n ++ rest) 0 0) ≡ true
 number_first n rest fits = at (decimal n) (decimal_digits n fits) (decimal_some n fits) where
@@ -45,7 +46,7 @@ number_first n rest fits = at (decimal n) (decimal_digits n fits) (decimal_some 
 -- behind a word and a space
 behind_word : (w rest : List ℕ) → IsWord w → is_numbered (w ++ (32 ∷ rest)) ≡ is_ascii_digit (get_or rest 0 0)
 behind_word w rest is =
-    let len : word_len (w ++ (32 ∷ rest)) ≡ length w = prefix_len_again continues_word w (32 ∷ rest) (word_all w is) refl in
+    let len : word_len (w ++ (32 ∷ rest)) ≡ length w = prefix_len_again continues_name w (32 ∷ rest) (word_all w is) refl in
     let one : get_or (32 ∷ rest) 1 0 ≡ get_or rest 0 0 = refl in
     ap (λ (n : ℕ). is_ascii_digit (get_or (w ++ (32 ∷ rest)) (n + 1) 0)) len ∙ ap is_ascii_digit (get_or-append-add w (32 ∷ rest) 1 0 ∙ one)
 
@@ -87,7 +88,7 @@ statement_not_cleaned names w n r rest is fits = at (begins (codes "clean ") who
   at true e =
       let seen : whole ≡ codes "clean " ++ drop 6 whole = seen_text (codes "clean ") whole e in
       let five : word_len whole ≡ 5 = ap word_len seen in
-      let len : length w ≡ 5 = sym (prefix_len_again continues_word w (32 ∷ behind) (word_all w is) refl) ∙ five in
+      let len : length w ≡ 5 = sym (prefix_len_again continues_name w (32 ∷ behind) (word_all w is) refl) ∙ five in
       let after : drop 6 whole ≡ behind = ap (drop 6) (sym (append_assoc w (32 ∷ []) behind)) ∙ drop_at (w ++ 32 ∷ []) behind 6 (omega (arith, len, length-append w (32 ∷ []))) in
       let digits : prefix_len is_ascii_digit behind ≡ length (decimal n) = prefix_len_again is_ascii_digit (decimal n) (32 ∷ (reply_text names r ++ rest)) (decimal_digits n (omega arith)) refl in
       let left : drop (length (decimal n)) behind ≡ 32 ∷ (reply_text names r ++ rest) = drop_at (decimal n) (32 ∷ (reply_text names r ++ rest)) (length (decimal n)) refl in
@@ -189,7 +190,7 @@ module _ (names : Names) (are : IsNames names) where
   -- behind a worker comes a word
   worker_not_numbered : (k b : ℕ) (rest : List ℕ) → IsWorker k → is_ascii_digit b ≡ false → is_numbered (worker_text k ++ (32 ∷ b ∷ rest)) ≡ false
   worker_not_numbered k b rest is other =
-      let digit : continues_word (48 + k) ≡ true = grind (arith, is) in
+      let digit : continues_name (48 + k) ≡ true = grind (arith, is) in
       let word : IsWord (119 ∷ (48 + k) ∷ []) = rw digit refl in
       let text : worker_text k ≡ 119 ∷ (48 + k) ∷ [] = ap (λ (t : List ℕ). 119 ∷ t) (decimal_digit k (omega (arith, is.1))) in
       ap (λ (t : List ℕ). is_numbered (t ++ (32 ∷ b ∷ rest))) text ∙ behind_word (119 ∷ (48 + k) ∷ []) (b ∷ rest) word ∙ other

@@ -8,6 +8,7 @@ use Rattle.std.specs.Str.{bytes_eq, is_utf8, IsAscii}
 use Rattle.std.proofs.lemmas.Bool.{eqb-true}
 use Rattle.std.proofs.lemmas.Slice.Eq.{bytes_eq-Decides}
 use Rattle.std.proofs.lemmas.Str.{is_utf8-from_IsUtf8, IsUtf8-from_ascii}
+use Rattle.lv_values.specs.Names.{begins_name, continues_name}
 use Rattle.lv_values.specs.declared.value.Value.{Value}
 use Rattle.lv_values.specs.declared.value.Value.TheVariants.{Num, Text}
 use Rattle.lv_values.specs.Print.{value_text, values_text, row_line}
@@ -16,26 +17,26 @@ use Rattle.lv_reading.specs.Numbers.{IsWide}
 use Rattle.lv_reading.proofs.Again.{run_again, separated_again, until_again}
 use Rattle.lv_reading.proofs.Decimals.{number_again, decimal_digits, decimal_some}
 use Rattle.lv_lines.specs.Transcript.{name_of, key_text}
-use Rattle.lv_lines.specs.Entries.{begins_word, continues_word, IsWord, AreWords, IsValue, IsRow}
+use Rattle.lv_lines.specs.Entries.{IsWord, AreWords, IsValue, IsRow}
 use Rattle.lv_lines.specs.Words.{word, place_in, name_in, own, own_word, quoted_byte, text_of, quoted, text_value, value, row, key}
 use Rattle.lv_lines.proofs.TakesWords.{and_parts, byte_text, IsText, in_quotes, quoted_is, values_is}
 
 -- ---- words and names
 
-pub begins_continues : (b : ℕ) → begins_word b ≡ true → continues_word b ≡ true
+pub begins_continues : (b : ℕ) → begins_name b ≡ true → continues_name b ≡ true
 begins_continues b h = rw h refl
 
-pub word_all : (w : List ℕ) → IsWord w → list_all continues_word w ≡ true
+pub word_all : (w : List ℕ) → IsWord w → list_all continues_name w ≡ true
 word_all [] is = refl
-word_all (b ∷ bytes) is = let s = and_parts (begins_word b) (list_all continues_word bytes) is in rw (begins_continues b s.0) s.1
+word_all (b ∷ bytes) is = let s = and_parts (begins_name b) (list_all continues_name bytes) is in rw (begins_continues b s.0) s.1
 
 pub word_some : (w : List ℕ) → IsWord w → 0 < length w
 word_some [] is = absurd cc
 word_some (b ∷ bytes) is = omega arith
 
-pub word_again : (w rest : List ℕ) → IsWord w → stops continues_word rest ≡ true → word (w ++ rest) ≡ Some (w, rest)
+pub word_again : (w rest : List ℕ) → IsWord w → stops continues_name rest ≡ true → word (w ++ rest) ≡ Some (w, rest)
 unfolding word
-word_again w rest is e = run_again continues_word w rest (word_all w is) e
+word_again w rest is e = run_again continues_name w rest (word_all w is) e
 
 same_name : (w : List ℕ) → bytes_eq w w ≡ true
 same_name w = (bytes_eq-Decides w w).1 refl
@@ -67,18 +68,18 @@ place_again names i rest are lt fits =
     let small : nat_lt i (2 ^ 32) ≡ true = grind arith in
     rw (at, inside, small) refl
 
-pub name_again : (names : List (List ℕ)) (i : ℕ) (rest : List ℕ) → AreWords names → i < length names → i < 2 ^ 32 → stops continues_word rest ≡ true → name_in names (name_of names i ++ rest) ≡ Some (i, rest)
+pub name_again : (names : List (List ℕ)) (i : ℕ) (rest : List ℕ) → AreWords names → i < length names → i < 2 ^ 32 → stops continues_name rest ≡ true → name_in names (name_of names i ++ rest) ≡ Some (i, rest)
 unfolding name_in
 name_again names i rest are lt fits e = rw (word_again (name_of names i) rest (name_is_word names i are.0 lt) e) (place_again names i rest are lt fits)
 
 -- a word is ASCII
-continues_ascii : (b : ℕ) → continues_word b ≡ true → b < 128
+continues_ascii : (b : ℕ) → continues_name b ≡ true → b < 128
 continues_ascii b h = grind arith
 
-all_ascii : (w : List ℕ) → list_all continues_word w ≡ true → IsAscii w
+all_ascii : (w : List ℕ) → list_all continues_name w ≡ true → IsAscii w
 all_ascii [] h i = omega arith
-all_ascii (b ∷ bytes) h zero = continues_ascii b (and_parts (continues_word b) (list_all continues_word bytes) h).0
-all_ascii (b ∷ bytes) h (suc i) = all_ascii bytes (and_parts (continues_word b) (list_all continues_word bytes) h).1 i
+all_ascii (b ∷ bytes) h zero = continues_ascii b (and_parts (continues_name b) (list_all continues_name bytes) h).0
+all_ascii (b ∷ bytes) h (suc i) = all_ascii bytes (and_parts (continues_name b) (list_all continues_name bytes) h).1 i
 
 pub own_again : (w rest : List ℕ) → IsWord w → own w rest ≡ Some (w, rest)
 unfolding own
@@ -86,7 +87,7 @@ own_again w rest is =
     let text : is_utf8 w ≡ true = is_utf8-from_IsUtf8 w (IsUtf8-from_ascii w (all_ascii w (word_all w is))) in
     rw (is, text) refl
 
-pub own_word_again : (w rest : List ℕ) → IsWord w → stops continues_word rest ≡ true → own_word (w ++ rest) ≡ Some (w, rest)
+pub own_word_again : (w rest : List ℕ) → IsWord w → stops continues_name rest ≡ true → own_word (w ++ rest) ≡ Some (w, rest)
 unfolding own_word
 own_word_again w rest is e = rw (word_again w rest is e) (own_again w rest is)
 

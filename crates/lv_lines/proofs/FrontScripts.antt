@@ -1,7 +1,6 @@
 -- Where a whole script is read, so is each front of it; and what is true of its program, and of each program with a line
 -- less, is true of the programs of its fronts.
-use Rattle.std.proofs.Common.{◌≡◌, ℕ, zero, suc, ◌+◌, ◌≤◌, List, [], ◌∷◌, ◌++◌, take, Option, Some, None, Result, Ok, Err, refl, sym, ap, subst, ◌∙◌, arith}
-use Rattle.std.specs.List.{onto_first}
+use Rattle.std.proofs.Common.{◌≡◌, ℕ, zero, suc, ◌+◌, ◌≤◌, List, [], ◌∷◌, ◌++◌, take, Option, Some, None, Result, Ok, refl, sym, ap, subst, ◌∙◌, arith}
 use Rattle.lv_plain.specs.declared.program.OrderItem.{OrderItem}
 use Rattle.lv_plain.specs.declared.program.Program.{Program}
 use Rattle.lv_lines.specs.declared.script_fault.ScriptFault.{ScriptFault}
@@ -10,7 +9,7 @@ use Rattle.lv_lines.specs.declared.section.Section.{Section}
 use Rattle.lv_lines.specs.declared.section.Section.TheVariants as section
 use Rattle.lv_lines.specs.declared.section.Part.{Part}
 use Rattle.lv_lines.specs.OrderLine.{items_of, left_after}
-use Rattle.lv_lines.specs.Script.{after_line, fault_of, left_of, onto_last, script_from, session_called, start, unless, with_items, with_line, with_order, with_session, with_statement}
+use Rattle.lv_lines.specs.Script.{after_line, fault_of, left_of, onto_last, script_from, session_called, start, unless, with_items, with_line, with_order, with_statement}
 use Rattle.lv_lines.specs.ScriptLine.{Said, nothing, setup, session, order, wrong, statement, said}
 
 abbrev pub Read : Type 0

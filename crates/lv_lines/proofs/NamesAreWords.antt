@@ -1,18 +1,17 @@
 -- The names of programs and of the schema are words of transcripts.
 use Rattle.std.proofs.Common.{◌≡◌, ℕ, suc, Bool, true, false, List, [], ◌∷◌, length, refl, ap, ◌∙◌, arith}
 use Rattle.std.specs.Prelude.{◌≢◌, ◌&&◌, not, nat_le, codes}
-use Rattle.std.specs.List.{All, AllPairs, AllByRecursion, IsDistinct, list_all}
+use Rattle.std.specs.List.{All, AllPairs, AllByRecursion, IsDistinct}
 use Rattle.std.specs.Str.{bytes_eq}
 use Rattle.std.proofs.lemmas.List.Elements.{All-head, All-tail, All-weaker, recursion_from_All}
 use Rattle.std.proofs.lemmas.Slice.Eq.{bytes_eq-Decides}
 use Rattle.lv_plain.specs.SessionNames.{is_session_name, is_reserved, AreSessionNames}
-use Rattle.lv_schema.specs.Names.{begins_name, continues_name, is_lower_name, is_name, has_name, keywords}
+use Rattle.lv_values.specs.Names.{is_word, is_lower_name, is_name, has_name, keywords}
 use Rattle.lv_lines.specs.Entries.{IsWord, AreWords}
 use Rattle.lv_lines.proofs.TakesWords.{and_parts}
 
 pub program_word : (name : List ℕ) → is_lower_name name ≡ true → IsWord name
-program_word [] is = absurd cc
-program_word (b ∷ bytes) is = (and_parts (begins_name b && list_all continues_name bytes) (nat_le (length bytes) 31) is).0
+program_word name is = (and_parts (is_word name) (nat_le (length name) 32) is).0
 
 pub schema_word : (name : List ℕ) → is_name name ≡ true → IsWord name
 schema_word name is = program_word name (and_parts (is_lower_name name) (not (has_name name keywords)) is).0

@@ -3,6 +3,7 @@ use Rattle.std.proofs.Common.{◌≡◌, ℕ, ◌^◌, ◌<◌, true, ◌&&◌, 
 use Rattle.std.specs.Prelude.{codes, decimal}
 use Rattle.std.specs.List.{flat_map, AllByRecursion}
 use Rattle.std.proofs.lemmas.List.{append-nil}
+use Rattle.lv_values.specs.Names.{continues_name}
 use Rattle.lv_values.specs.Print.{row_line}
 use Rattle.lv_schema.specs.declared.fault.Fault.{Fault}
 use Rattle.lv_schema.specs.declared.fault.Fault.TheVariants.{Store, JournalFull}
@@ -15,7 +16,7 @@ use Rattle.lv_reading.proofs.Takes.{Takes, then_takes, pure_takes, choice_takes,
 use Rattle.lv_reading.proofs.Decimals.{natural_takes}
 use Rattle.lv_lines.specs.declared.names.Names.{Names}
 use Rattle.lv_lines.specs.Transcript.{name_of, commit_text, task_line, reply_text, step_text, forced_line, worker_text, outcome_text, entry_text, text_of}
-use Rattle.lv_lines.specs.Entries.{continues_word, IsNumber, IsTask, IsReply, ReplyHasNames, IsStep, IsWorker, IsOutcome, OutcomeHasNames, IsStoreFault, FaultHasNames, IsEntry, HasNames}
+use Rattle.lv_lines.specs.Entries.{IsNumber, IsTask, IsReply, ReplyHasNames, IsStep, IsWorker, IsOutcome, OutcomeHasNames, IsStoreFault, FaultHasNames, IsEntry, HasNames}
 use Rattle.lv_lines.specs.Words.{word, is_numbered}
 use Rattle.lv_lines.specs.Readers.{some_number, commit_number, made, alone, changed, counted, began, committed, rolled_back, rows, task, tasks, refused, answered, ended, any_reply, step, step_line, forced, statement, worker, fetched, installed, moved, idle, busy, empty, released, short_line, worker_line, of_worker, upto, already, mark_refused, any_outcome, marked, mark_unknown, of_mark, cleaned, is_cleaned, named_line, any_entry, goes_on, all_entries}
 use Rattle.lv_lines.proofs.TakesWords.{place_takes, name_takes, own_takes, row_takes}
@@ -218,7 +219,7 @@ module _ (names : Names) where
 
   of_mark_takes : Takes FitsEntry (entry_text names) [] (of_mark names)
   unfolding of_mark word
-  of_mark_takes = then_takes (expect_takes _) (λ _ _. then_takes (run_takes continues_word) (λ w _. then_takes (expect_takes _) (λ _ _. choice_takes _ (mark_unknown_takes w) (marked_takes w))))
+  of_mark_takes = then_takes (expect_takes _) (λ _ _. then_takes (run_takes continues_name) (λ w _. then_takes (expect_takes _) (λ _ _. choice_takes _ (mark_unknown_takes w) (marked_takes w))))
 
   cleaned_takes : Takes FitsEntry (entry_text names) [] cleaned
   unfolding cleaned

@@ -3,13 +3,14 @@ use Rattle.std.proofs.Common.{◌≡◌, ℕ, ◌^◌, ◌<◌, Bool, true, fals
 use Rattle.std.specs.Prelude.{codes, decimal, find}
 use Rattle.std.specs.Str.{bytes_eq}
 use Rattle.std.proofs.lemmas.Slice.Eq.{bytes_eq-Decides}
+use Rattle.lv_values.specs.Names.{continues_name}
 use Rattle.lv_values.specs.declared.value.Value.{Value}
 use Rattle.lv_schema.specs.declared.fault.Fault.{Fault}
 use Rattle.lv_reading.proofs.Takes.{Takes, then_takes, last_takes, pure_takes, choice_takes, given_takes, expect_takes, run_takes}
 use Rattle.lv_reading.proofs.Decimals.{natural_takes, number_takes}
 use Rattle.lv_lines.specs.declared.names.Names.{Names}
 use Rattle.lv_lines.specs.Transcript.{name_of, key_text, limit_word, rule_word, fault_text}
-use Rattle.lv_lines.specs.Entries.{continues_word, IsWord, IsRow, IsFault, FaultHasNames, IsStoreFault}
+use Rattle.lv_lines.specs.Entries.{IsWord, IsRow, IsFault, FaultHasNames, IsStoreFault}
 use Rattle.lv_lines.specs.Words.{word}
 use Rattle.lv_lines.specs.Readers.{at_byte, of_word, of_table, of_key, syntax_fault, unknown, ambiguous, in_use, kinds, limits, any_limit, limit_fault, rules, any_rule, profile, not_setup, in_transaction, no_transaction, key_assigned, range, duplicate, table_full, conflict, merged_full, journal_full, store_failed, store_fault, fault_from_16, fault_from_13, fault_from_10, fault_from_7, fault_from_4, any_fault}
 use Rattle.lv_lines.proofs.TakesWords.{IsPlace, name_takes, own_word_takes, key_takes}
@@ -47,12 +48,12 @@ find_passes {A} p (y ∷ ys) x e = at (p y) refl e (λ f. find_passes p ys x f) 
 
 any_limit_takes : Takes (λ _. Unit {0}) limit_word [] any_limit
 unfolding any_limit word
-any_limit_takes = then_takes (run_takes continues_word) (λ w _. given_takes (λ which e.
+any_limit_takes = then_takes (run_takes continues_name) (λ w _. given_takes (λ which e.
     (sym ((bytes_eq-Decides (limit_word which) w).0 (find_passes (λ k. bytes_eq (limit_word k) w) limits which e)), tt)))
 
 any_rule_takes : Takes (λ _. Unit {0}) rule_word [] any_rule
 unfolding any_rule word
-any_rule_takes = then_takes (run_takes continues_word) (λ w _. given_takes (λ which e.
+any_rule_takes = then_takes (run_takes continues_name) (λ w _. given_takes (λ which e.
     (sym ((bytes_eq-Decides (rule_word which) w).0 (find_passes (λ k. bytes_eq (rule_word k) w) rules which e)), tt)))
 
 module _ (names : Names) where

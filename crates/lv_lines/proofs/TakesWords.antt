@@ -8,12 +8,13 @@ use Rattle.std.proofs.lemmas.List.{append-nil}
 use Rattle.std.proofs.lemmas.List.Quantifiers.{position-Some}
 use Rattle.std.proofs.lemmas.Slice.Eq.{bytes_eq-Decides}
 use Rattle.std.proofs.lemmas.Str.{IsUtf8-from_is_utf8}
+use Rattle.lv_values.specs.Names.{continues_name}
 use Rattle.lv_values.specs.declared.value.Value.{Value}
 use Rattle.lv_values.specs.Print.{doubled, value_text, values_behind, values_text, row_line}
 use Rattle.lv_reading.proofs.Takes.{Takes, then_takes, last_takes, pure_takes, choice_takes, choose_takes, check_takes, below_takes, given_takes, expect_takes, byte_takes, run_takes, separated_takes, until_text, until_takes}
 use Rattle.lv_reading.proofs.Decimals.{number_takes}
 use Rattle.lv_lines.specs.Transcript.{name_of, key_text}
-use Rattle.lv_lines.specs.Entries.{continues_word, IsWord, IsValue, IsRow}
+use Rattle.lv_lines.specs.Entries.{IsWord, IsValue, IsRow}
 use Rattle.lv_lines.specs.Words.{word, place_in, name_in, own, own_word, quoted_byte, text_of, quoted, text_value, value, row, key}
 
 pub and_parts : (a b : Bool) → (a && b) ≡ true → (a ≡ true) × (b ≡ true)
@@ -41,7 +42,7 @@ IsPlace names i = (i < length names) × (i < 2 ^ 32)
 
 pub name_takes : (names : List (List ℕ)) → Takes (IsPlace names) (name_of names) [] (name_in names)
 unfolding name_in word
-name_takes names = then_takes (run_takes continues_word) (λ w _. last_takes (place_takes names w) (λ i place. (append-nil w ∙ place.is, (place.named, place.fits))))
+name_takes names = then_takes (run_takes continues_name) (λ w _. last_takes (place_takes names w) (λ i place. (append-nil w ∙ place.is, (place.named, place.fits))))
 
 -- a word that was read before: nothing more is taken
 pub own_takes : (w : List ℕ) → Takes (λ n. (w ≡ n) × IsWord n) (λ _. []) [] (own w)
@@ -50,7 +51,7 @@ own_takes w = check_takes w (λ h. (refl, (refl, (and_parts _ _ h).0)))
 
 pub own_word_takes : Takes IsWord (λ w. w) [] own_word
 unfolding own_word word
-own_word_takes = then_takes (run_takes continues_word) (λ w _. last_takes (own_takes w) (λ n is. (append-nil w ∙ is.0, is.1)))
+own_word_takes = then_takes (run_takes continues_name) (λ w _. last_takes (own_takes w) (λ n is. (append-nil w ∙ is.0, is.1)))
 
 -- ---- texts
 

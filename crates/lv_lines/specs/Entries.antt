@@ -1,8 +1,8 @@
 -- Which names and which entries a transcript can have.
-use Rattle.std.specs.Prelude.{◌≡◌, ℕ, ◌<◌, ◌≤◌, ◌^◌, Bool, true, false, not, ◌&&◌, ◌||◌, ◌==◌, List, [], ◌∷◌, length, Option, Some, None, IsUtf8}
+use Rattle.std.specs.Prelude.{◌≡◌, ℕ, ◌<◌, ◌≤◌, ◌^◌, Bool, true, not, ◌==◌, List, [], ◌∷◌, length, Option, Some, None, IsUtf8}
 use Rattle.std.specs.List.{AllByRecursion, IsDistinct, list_all}
-use Rattle.std.specs.Char.{is_ascii_lowercase, is_ascii_digit}
 use Rattle.std.specs.Str.{bytes_eq}
+use Rattle.lv_values.specs.Names.{is_word}
 use Rattle.lv_values.specs.declared.value.Value.{Value}
 use Rattle.lv_values.specs.declared.value.Value.TheVariants.{Num, Text}
 use Rattle.lv_reading.specs.Numbers.{IsWide}
@@ -14,22 +14,10 @@ use Rattle.lv_plain.specs.declared.entry.MarkOutcome.{MarkOutcome}
 use Rattle.lv_plain.specs.declared.entry.MarkOutcome.TheVariants as mark
 use Rattle.lv_plain.specs.declared.entry.Entry.{Entry}
 use Rattle.lv_plain.specs.declared.entry.Entry.TheVariants.{Session, Fetched, Idle, Busy, Installed, Moved, Empty, Released, Marked, MarkUnknown, Cleaned}
+use Rattle.lv_plain.specs.Named.{Counts, AreNamed, IsNamedEntry, IsNamedFault, IsNamedOutcome, IsNamedReply}
 use Rattle.lv_lines.specs.declared.names.Names.{Names}
 
 -- ---- names
-
--- a letter in lower case or _
-abbrev pub begins_word : ℕ → Bool
-begins_word b = is_ascii_lowercase b || (b == 95)
-
--- such a letter or a digit
-abbrev pub continues_word : ℕ → Bool
-continues_word b = begins_word b || is_ascii_digit b
-
--- a letter in lower case or _, and then letters, digits and _
-abbrev pub is_word : List ℕ → Bool
-is_word [] = false
-is_word (b ∷ bytes) = begins_word b && list_all continues_word bytes
 
 abbrev pub IsWord : List ℕ → Type 0
 IsWord w = is_word w ≡ true
@@ -45,33 +33,23 @@ pub record IsNames (names : Names) : Type 0 where
 
 -- ---- each number of a session, a table or a view has a name
 
+abbrev pub numbers_in_use : Names → Counts
+numbers_in_use names = record { sessions = length names.sessions; tables = length names.tables; views = length names.views }
+
 abbrev pub FaultHasNames : Names → Fault → Type 0
-FaultHasNames names (Duplicate table key) = table < length names.tables
-FaultHasNames names (TableFull table) = table < length names.tables
-FaultHasNames names (Conflict table key commit) = table < length names.tables
-FaultHasNames names (MergedFull table) = table < length names.tables
-FaultHasNames names _ = Unit {0}
+FaultHasNames names fault = IsNamedFault (numbers_in_use names) fault
 
 abbrev pub ReplyHasNames : Names → Reply → Type 0
-ReplyHasNames names (Tasks tasks) = AllByRecursion (λ task. task.0 < length names.views) tasks
-ReplyHasNames names (Refused fault) = FaultHasNames names fault
-ReplyHasNames names _ = Unit {0}
+ReplyHasNames names reply = IsNamedReply (numbers_in_use names) reply
 
 abbrev pub OutcomeHasNames : Names → MarkOutcome → Type 0
-OutcomeHasNames names (mark.Refused fault) = FaultHasNames names fault
-OutcomeHasNames names _ = Unit {0}
+OutcomeHasNames names outcome = IsNamedOutcome (numbers_in_use names) outcome
 
 abbrev pub HasNames : Names → Entry → Type 0
-HasNames names (Session session place forced reply) =
-    (session < length names.sessions) × AllByRecursion (λ f. f.view < length names.views) forced × ReplyHasNames names reply
-HasNames names (Fetched worker view lo hi) = view < length names.views
-HasNames names (Installed worker view lo hi) = view < length names.views
-HasNames names (Moved worker view lo hi point) = view < length names.views
-HasNames names (Marked view outcome) = (view < length names.views) × OutcomeHasNames names outcome
-HasNames names _ = Unit {0}
+HasNames names entry = IsNamedEntry (numbers_in_use names) entry
 
 abbrev pub HaveNames : Names → List Entry → Type 0
-HaveNames names entries = AllByRecursion (HasNames names) entries
+HaveNames names entries = AreNamed (numbers_in_use names) entries
 
 -- ---- what a text can give back
 

@@ -1,7 +1,8 @@
 -- The lines of a script, and what a line says.
-use Rattle.std.specs.Prelude.{ℕ, ◌-◌, Bool, true, false, ◌&&◌, ◌||◌, not, ◌==◌, if◌then◌else◌, List, [], ◌∷◌, map, filter, take, drop, length, codes, slice_index}
+use Rattle.std.specs.Prelude.{ℕ, ◌-◌, Bool, true, false, ◌&&◌, not, ◌==◌, if◌then◌else◌, List, [], ◌∷◌, map, filter, take, drop, length, codes, slice_index}
 use Rattle.std.specs.List.{slice_split, prefix_len, onto_first}
 use Rattle.std.specs.Str.{bytes_eq, str_to_ascii_lowercase}
+use Rattle.lv_values.specs.Names.{is_blank}
 
 -- ---- lines
 
@@ -24,10 +25,6 @@ piece_len bytes = prefix_len (λ b. not (b == 10)) bytes
 
 -- ---- words
 
--- a space or a tab
-abbrev pub is_blank : ℕ → Bool
-is_blank b = (b == 32) || (b == 9)
-
 abbrev pub indent_len : List ℕ → ℕ
 indent_len line = prefix_len is_blank line
 
@@ -44,13 +41,13 @@ first_word text = take (word_len text) text
 abbrev pub behind_word : List ℕ → List ℕ
 behind_word text = drop (word_len text) text
 
-abbrev pub is_word : List ℕ → Bool
-is_word [] = false
-is_word (b ∷ bytes) = true
+abbrev pub has_bytes : List ℕ → Bool
+has_bytes [] = false
+has_bytes (b ∷ bytes) = true
 
 -- what stands between blanks
 abbrev pub words_of : List ℕ → List (List ℕ)
-words_of text = filter is_word (slice_split is_blank text)
+words_of text = filter has_bytes (slice_split is_blank text)
 
 -- whether the word is this one, in any case
 abbrev pub reads : List ℕ → List ℕ → Bool

@@ -1,9 +1,8 @@
 -- Names as scripts spell them, and the numbers of sessions.
-use Rattle.std.specs.Prelude.{ℕ, ◌+◌, Bool, false, ◌&&◌, ◌||◌, ◌==◌, nat_le, if◌then◌else◌, List, [], ◌∷◌, length, Option, Some, None}
+use Rattle.std.specs.Prelude.{ℕ, ◌+◌, Bool, false, ◌&&◌, nat_le, if◌then◌else◌, List, [], ◌∷◌, length, Option, Some, None}
 use Rattle.std.specs.List.{list_all}
-use Rattle.std.specs.Char.{is_ascii_alphabetic, is_ascii_alphanumeric}
 use Rattle.std.specs.Str.{str_to_ascii_lowercase}
-use Rattle.lv_schema.specs.Names.{is_lower_name}
+use Rattle.lv_values.specs.Names.{is_letter, is_word_byte, is_lower_name}
 use Rattle.lv_plain.specs.declared.program.Script.{Script}
 use Rattle.lv_lines.specs.ScriptLine.{reads}
 
@@ -13,18 +12,10 @@ is_name word = is_lower_name (str_to_ascii_lowercase word)
 
 -- ---- the same by the bytes as they are spelled
 
--- a letter or _
-abbrev pub begins_name : ℕ → Bool
-begins_name b = is_ascii_alphabetic b || (b == 95)
-
--- a letter, a digit or _
-abbrev pub continues_name : ℕ → Bool
-continues_name b = is_ascii_alphanumeric b || (b == 95)
-
 -- a letter or _ followed by letters, digits and _, all ASCII, of 1 to 32 bytes
 abbrev pub is_spelled : List ℕ → Bool
 is_spelled [] = false
-is_spelled (b ∷ bytes) = begins_name b && (list_all continues_name bytes && nat_le (length bytes) 31)
+is_spelled (b ∷ bytes) = is_letter b && (list_all is_word_byte bytes && nat_le (length bytes) 31)
 
 -- ---- sessions
 

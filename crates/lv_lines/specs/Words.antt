@@ -3,21 +3,21 @@ use Rattle.std.specs.Prelude.{ℕ, ◌+◌, ◌^◌, Bool, not, ◌&&◌, ◌==�
 use Rattle.std.specs.Char.{is_ascii_digit}
 use Rattle.std.specs.List.{list_all, prefix_len}
 use Rattle.std.specs.Str.{bytes_eq, is_utf8}
+use Rattle.lv_values.specs.Names.{continues_name, is_word}
 use Rattle.lv_values.specs.declared.value.Value.{Value}
 use Rattle.lv_values.specs.declared.value.Value.TheVariants.{Num, Text}
 use Rattle.lv_reading.specs.Reading.{Reader, ◌>>=◌, ◌>>◌, pure, given, check, below, choose, choice, begins, expect, byte, run, separated, until}
 use Rattle.lv_reading.specs.Numbers.{number}
-use Rattle.lv_lines.specs.Entries.{continues_word, is_word}
 
 -- ---- words and names
 
 -- the letters, digits and _ that come next
 unfoldable pub word : Reader (List ℕ)
-word = run continues_word
+word = run continues_name
 
 -- how many of them come next
 abbrev pub word_len : List ℕ → ℕ
-word_len bytes = prefix_len continues_word bytes
+word_len bytes = prefix_len continues_name bytes
 
 -- whether a digit begins the second word: so only a statement's line begins, or that of a clean-up
 abbrev pub is_numbered : List ℕ → Bool

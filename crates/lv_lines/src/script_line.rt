@@ -2,6 +2,7 @@
 ghost use Rattle.std.specs.Prelude.{◌≡◌, ◌≢◌, ◌∷◌, ◌<◌, ◌≤◌, length, map, IfOk, MatchOption, true, false};
 ghost use Rattle.std.specs.Str.{is_utf8};
 ghost use Rattle.std.specs.List.{All, slice_split};
+ghost use Rattle.lv_values.specs.Names as names;
 ghost use Rattle.lv_lines.specs.ScriptLine as spec;
 
 use lv_values::NoMemory;
@@ -40,7 +41,7 @@ pub(crate) fn first_piece(bytes: &[u8]) -> (&[u8], &[u8])
 }
 
 fn is_blank(byte: u8) -> bool
-    ensures { result ≡ spec.is_blank byte }
+    ensures { result ≡ names.is_blank byte }
 {
     byte == b' ' || byte == b'\t'
 }
@@ -78,13 +79,13 @@ pub(crate) fn first_word(text: &[u8]) -> (&[u8], &[u8])
 
 /// The parts between blanks.
 fn blank_parts(alloc: Global, bytes: &[u8]) -> Result<Vec<&[u8]>, NoMemory>
-    ensures { IfOk result (λ parts. map (λ l. l.now) parts.items ≡ slice_split spec.is_blank bytes.now) }
+    ensures { IfOk result (λ parts. map (λ l. l.now) parts.items ≡ slice_split names.is_blank bytes.now) }
 {
     Ok(bytes.split(|byte| is_blank(*byte)).collect(alloc)?)
 }
 
-fn is_word(part: &[u8]) -> bool
-    ensures { result ≡ spec.is_word part.now }
+fn has_bytes(part: &[u8]) -> bool
+    ensures { result ≡ spec.has_bytes part.now }
 {
     !part.is_empty()
 }
@@ -96,7 +97,7 @@ pub(crate) fn words_of(alloc: Global, bytes: &[u8]) -> Result<Vec<&[u8]>, NoMemo
     let parts = blank_parts(alloc, bytes)?;
     let mut words = Vec::new(alloc);
     for part in &parts {
-        if is_word(*part) {
+        if has_bytes(*part) {
             words.push(*part)?;
         }
     }

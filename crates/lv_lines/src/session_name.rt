@@ -2,6 +2,7 @@
 ghost use Rattle.std.specs.Prelude.{◌≡◌, ◌≤◌, length, IfOk, true};
 ghost use Rattle.std.specs.Str.{bytes_eq, str_to_ascii_lowercase};
 ghost use Rattle.std.specs.List.{list_all, list_any};
+ghost use Rattle.lv_values.specs.Names as letters;
 ghost use Rattle.lv_plain.specs.SessionNames as names;
 ghost use Rattle.lv_lines.specs.SessionName as spec;
 
@@ -10,22 +11,22 @@ use lv_plain::Script;
 use lv_values::{NoMemory, Text};
 use std::alloc::Global;
 
-fn begins_name(byte: u8) -> bool
-    ensures { result ≡ spec.begins_name byte }
+fn is_letter(byte: u8) -> bool
+    ensures { result ≡ letters.is_letter byte }
 {
     byte.is_ascii_alphabetic() || byte == b'_'
 }
 
-fn continues_name(byte: u8) -> bool
-    ensures { result ≡ spec.continues_name byte }
+fn is_word_byte(byte: u8) -> bool
+    ensures { result ≡ letters.is_word_byte byte }
 {
-    byte.is_ascii_alphanumeric() || byte == b'_'
+    is_letter(byte) || byte.is_ascii_digit()
 }
 
 fn all_continue(bytes: &[u8]) -> bool
-    ensures { result ≡ list_all spec.continues_name bytes.now }
+    ensures { result ≡ list_all letters.is_word_byte bytes.now }
 {
-    bytes.iter().all(|byte| continues_name(*byte))
+    bytes.iter().all(|byte| is_word_byte(*byte))
 }
 
 fn is_spelled(word: &[u8]) -> bool
@@ -33,7 +34,7 @@ fn is_spelled(word: &[u8]) -> bool
 {
     match word {
         [] => false,
-        [first, others @ ..] => begins_name(*first) && all_continue(others) && others.len() <= 31,
+        [first, others @ ..] => is_letter(*first) && all_continue(others) && others.len() <= 31,
     }
 }
 

@@ -2,7 +2,7 @@
 ghost use Rattle.std.specs.Prelude.{◌≡◌, ◌==◌, ◌≤◌, ◌&&◌, position, not, true, false, List, ℕ, Some, IfOk, length};
 ghost use Rattle.std.specs.List.{list_all};
 ghost use Rattle.std.specs.Str.{bytes_eq, is_utf8};
-ghost use Rattle.lv_lines.specs.Entries as names;
+ghost use Rattle.lv_values.specs.Names as names;
 ghost use Rattle.lv_reading.specs.Reading.{Gives};
 ghost use Rattle.lv_lines.specs.Words as read;
 
@@ -11,16 +11,16 @@ use lv_reading::{Cursor, Part, Stop, read_separated, read_until};
 use lv_values::{Row, Text, TextFault, Value};
 use std::alloc::Global;
 
-fn begins_word(byte: u8) -> bool
-    ensures { result ≡ names.begins_word byte }
+fn begins_name(byte: u8) -> bool
+    ensures { result ≡ names.begins_name byte }
 {
     byte.is_ascii_lowercase() || byte == b'_'
 }
 
-fn continues_word(byte: u8) -> bool
-    ensures { result ≡ names.continues_word byte }
+fn continues_name(byte: u8) -> bool
+    ensures { result ≡ names.continues_name byte }
 {
-    begins_word(byte) || byte.is_ascii_digit()
+    begins_name(byte) || byte.is_ascii_digit()
 }
 
 /// The number of letters, digits and _ that come next.
@@ -30,15 +30,15 @@ fn word_len(bytes: &[u8]) -> usize
 {
     bytes
         .iter()
-        .take_while(|byte| continues_word(**byte))
+        .take_while(|byte| continues_name(**byte))
         .count()
 }
 
 /// Whether all bytes go on a name.
 fn all_continue(bytes: &[u8]) -> bool
-    ensures { result ≡ list_all names.continues_word bytes.now }
+    ensures { result ≡ list_all names.continues_name bytes.now }
 {
-    bytes.iter().all(|byte| continues_word(*byte))
+    bytes.iter().all(|byte| continues_name(*byte))
 }
 
 /// Whether it is a word.
@@ -47,7 +47,7 @@ fn is_word(word: &[u8]) -> bool
 {
     match word {
         [] => false,
-        [first, others @ ..] => begins_word(*first) && all_continue(others),
+        [first, others @ ..] => begins_name(*first) && all_continue(others),
     }
 }
 

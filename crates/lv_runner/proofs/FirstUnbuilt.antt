@@ -1,20 +1,17 @@
 -- Where a whole script is read, so is each front of it; and a front of one that is run is run.
-use Rattle.std.proofs.Common.{◌≡◌, ℕ, zero, suc, ◌+◌, ◌<◌, ◌≤◌, Bool, true, false, eqb, List, [], ◌∷◌, ◌++◌, length, map, take, drop, Option, Some, None, Result, Ok, Err, refl, sym, ap, subst, ◌∙◌, take-append-drop, arith}
+use Rattle.std.proofs.Common.{◌≡◌, ℕ, zero, suc, ◌+◌, ◌<◌, ◌≤◌, Bool, true, false, eqb, List, [], ◌∷◌, ◌++◌, length, map, take, drop, Ok, Err, refl, sym, ap, ◌∙◌, take-append-drop, arith}
 use Rattle.std.specs.Prelude.{nat_lt, if◌then◌else◌}
-use Rattle.std.specs.List.{All, onto_first, sum_by}
+use Rattle.std.specs.List.{All, onto_first}
 use Rattle.std.proofs.lemmas.Bool.Decides.{nat_tests}
 use Rattle.std.proofs.lemmas.List.{length-append, take-map}
 use Rattle.std.proofs.lemmas.List.Elements.{All-cons, All-head, All-nil, All-tail}
-use Rattle.std.proofs.lemmas.List.Sums.{sum_by-append, sum_by-cons}
 use Rattle.lv_plain.specs.declared.program.Program.{Program}
-use Rattle.lv_plain.specs.declared.program.Script.{Script}
 use Rattle.lv_lines.specs.declared.script_fault.ScriptFault.TheVariants.{Bad}
 use Rattle.lv_lines.specs.declared.script_fault.ScriptFaultKind.TheVariants.{ScriptTooLong}
-use Rattle.lv_lines.specs.Script.{onto_last, script_from, script_of, session_called, start}
+use Rattle.lv_lines.specs.Script.{script_from, script_of, start}
 use Rattle.lv_lines.specs.ScriptLine.{lines_of, piece_len, pieces_of, without_return}
 use Rattle.lv_lines.proofs.FrontScripts.{IsLess, fewer_lines}
 use Rattle.lv_order.specs.Turns.{IsTurn}
-use Rattle.lv_core.specs.NoTasks.{HasNoTasks, IsNoTasks}
 use Rattle.lv_runner.specs.Built.{IsBuilt, IsBuiltScript, front}
 
 -- ---- a program that is run was run with a line less
@@ -22,54 +19,12 @@ all_first : {X : Type 0} (P : X → Type 0) (xs ys : List X) → All P (xs ++ ys
 all_first P [] ys all = All-nil P
 all_first P (x ∷ xs) ys all = All-cons P x xs (All-head P x (xs ++ ys) all) (all_first P xs ys (All-tail P x (xs ++ ys) all))
 
-abbrev line_count : List Script → ℕ
-line_count sessions = sum_by (λ s. length s.lines) sessions
-
-abbrev AreQuiet : List Script → Type 0
-AreQuiet sessions = All (λ s. All IsNoTasks s.lines) sessions
-
-count_last : (sessions : List Script) (line : List ℕ) → line_count sessions ≤ line_count (onto_last sessions line)
-count_last [] line = omega arith
-count_last (s ∷ []) line =
-    let one = sum_by-cons (λ (t : Script). length t.lines) s [] in
-    let other = sum_by-cons (λ (t : Script). length t.lines) (record s { lines = s.lines ++ line ∷ [] }) [] in
-    omega (arith, one, other, length-append s.lines (line ∷ []))
-count_last (s ∷ t ∷ sessions) line =
-    let one = sum_by-cons (λ (t : Script). length t.lines) s (t ∷ sessions) in
-    let other = sum_by-cons (λ (t : Script). length t.lines) s (onto_last (t ∷ sessions) line) in
-    omega (arith, one, other, count_last (t ∷ sessions) line)
-
-quiet_last : (sessions : List Script) (line : List ℕ) → AreQuiet (onto_last sessions line) → AreQuiet sessions
-quiet_last [] line all = all
-quiet_last (s ∷ []) line all =
-    All-cons (λ t. All IsNoTasks t.lines) s [] (all_first IsNoTasks s.lines (line ∷ []) (All-head (λ t. All IsNoTasks t.lines) (record s { lines = s.lines ++ line ∷ [] }) [] all)) (All-nil (λ t. All IsNoTasks t.lines))
-quiet_last (s ∷ t ∷ sessions) line all =
-    All-cons (λ t. All IsNoTasks t.lines) s (t ∷ sessions) (All-head (λ t. All IsNoTasks t.lines) s (onto_last (t ∷ sessions) line) all)
-    (quiet_last (t ∷ sessions) line (All-tail (λ t. All IsNoTasks t.lines) s (onto_last (t ∷ sessions) line) all))
-
--- a program that is run was run with a line less
 less_built : IsLess IsBuilt
 less_built = record {
-  setup_line = λ p line built. record {
-    turns = built.turns;
-    few = built.few;
-    tasks = record { setup = all_first IsNoTasks p.setup (line ∷ []) built.tasks.setup; sessions = built.tasks.sessions };
-  };
-  session_line = λ p line built. record {
-    turns = built.turns;
-    few = omega (arith, built.few, count_last p.sessions line);
-    tasks = record { setup = built.tasks.setup; sessions = quiet_last p.sessions line built.tasks.sessions };
-  };
-  session_head = λ p name built. record {
-    turns = built.turns;
-    few = omega (arith, built.few, sum_by-append (λ (s : Script). length s.lines) p.sessions (session_called name ∷ []));
-    tasks = record { setup = built.tasks.setup; sessions = all_first (λ s. All IsNoTasks s.lines) p.sessions (session_called name ∷ []) built.tasks.sessions };
-  };
-  order_line = λ p items built. record {
-    turns = all_first IsTurn p.order items built.turns;
-    few = built.few;
-    tasks = record { setup = built.tasks.setup; sessions = built.tasks.sessions };
-  };
+  setup_line = λ p line built. built;
+  session_line = λ p line built. built;
+  session_head = λ p name built. built;
+  order_line = λ p items built. all_first IsTurn p.order items built;
 }
 
 -- ---- the bytes of the first lines say the first lines

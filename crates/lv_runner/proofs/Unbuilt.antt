@@ -1,28 +1,20 @@
 -- Programs that are run, and the front lines of a script.
-use Rattle.std.proofs.Common.{◌≡◌, ℕ, zero, suc, ◌+◌, ◌-◌, ◌<◌, ◌≤◌, Bool, true, false, List, [], ◌∷◌, ◌++◌, length, get_or, take, drop, Result, Ok, Err, MatchBool, refl, sym, ap, subst, ◌∙◌, append_assoc, take-append-drop, take-take, length-drop, drop-drop, arith}
-use Rattle.std.specs.List.{All}
-use Rattle.std.proofs.lemmas.List.{drop-take, take_all}
-use Rattle.std.proofs.lemmas.List.Elements.{All-get_or, All-more, All-nil}
-use Rattle.std.specs.Prelude.{IfOk}
-use Rattle.lv_values.specs.declared.memory.NoMemory.{NoMemory}
+use Rattle.std.proofs.Common.{◌≡◌, ℕ, zero, suc, ◌+◌, ◌-◌, ◌<◌, ◌≤◌, Bool, true, false, List, [], ◌∷◌, ◌++◌, length, take, drop, Result, Ok, Err, MatchBool, refl, sym, ap, subst, ◌∙◌, append_assoc, take-append-drop, take-take, length-drop, drop-drop, arith}
+use Rattle.std.proofs.lemmas.List.{drop-take}
+use Rattle.std.proofs.lemmas.List.Elements.{All-nil}
+use Rattle.lv_plain.specs.declared.program.OrderItem.{OrderItem}
+use Rattle.lv_plain.specs.declared.program.OrderItem.TheVariants as item
 use Rattle.lv_plain.specs.declared.program.Program.{Program}
 use Rattle.lv_lines.specs.declared.script_fault.ScriptFault.{ScriptFault}
 use Rattle.lv_lines.specs.Script.{script_of, start}
 use Rattle.lv_lines.specs.ScriptLine.{piece_len}
-use Rattle.lv_order.specs.Turns.{IsTurn}
-use Rattle.lv_core.specs.NoTasks.{IsNoTasks}
+use Rattle.lv_order.specs.Turns.{AreTurns, IsFirstOther, IsTurn}
 use Rattle.lv_runner.specs.Built.{IsBuilt, IsBuiltScript, IsFirstUnbuilt, front}
 use Rattle.lv_runner.proofs.FirstUnbuilt.{built_before}
 
--- one that fails
-pub not_all : {X : Type 0} (P : X → Type 0) (xs : List X) (i : ℕ) (x : X) → i < length xs → x ≡ get_or xs i x → (P x → ⊥) → All P xs → ⊥
-not_all P xs i x lt is fails all = fails (subst P (sym is) (All-get_or P xs i x lt all))
-
-pub all_more : {X : Type 0} (P : X → Type 0) (xs : List X) (i : ℕ) (x : X) → i < length xs → x ≡ get_or xs i x → P x → All P (take i xs) → All P (take (i + 1) xs)
-all_more P xs i x lt is p all = All-more P xs i x lt all (subst P is p)
-
-pub all_taken : {X : Type 0} (P : X → Type 0) (xs : List X) (i : ℕ) → length xs ≤ i → All P (take i xs) → All P xs
-all_taken P xs i le all = subst (All P) (take_all i xs le) all
+-- an item that is no turn
+pub other_item : (order : List OrderItem) (place : ℕ) → IsFirstOther order place → AreTurns order → ⊥
+other_item order place is turns = is.other item.Clean (turns place item.Clean is.there)
 
 pub yes_of : (b : Bool) (P : Type 0) → b ≡ true → MatchBool b P (P → ⊥) → P
 yes_of true P e h = h
@@ -33,10 +25,9 @@ no_of false P e h = h
 no_of true P e h = absurd cc
 
 -- what is left to be seen decides
-pub decided : (P Q : Type 0) (r : Result Bool NoMemory) → (P → Q) → (Q → P) → IfOk r (λ b. MatchBool b P (P → ⊥)) → IfOk r (λ b. MatchBool b Q (Q → ⊥))
-decided P Q (Ok true) there back h = there h
-decided P Q (Ok false) there back h = λ q. h (back q)
-decided P Q (Err e) there back h = h
+pub decided : (P Q : Type 0) (b : Bool) → (P → Q) → (Q → P) → MatchBool b P (P → ⊥) → MatchBool b Q (Q → ⊥)
+decided P Q true there back h = there h
+decided P Q false there back h = λ q. h (back q)
 
 -- ---- scripts
 
@@ -52,11 +43,7 @@ pub built_fault : (bytes : List ℕ) (fault : ScriptFault) → script_of bytes �
 built_fault bytes fault e q f = absurd cc
 
 pub built_none : IsBuiltScript []
-built_none = built_by [] start.program refl (record {
-  turns = All-nil IsTurn;
-  few = omega arith;
-  tasks = record { setup = All-nil IsNoTasks; sessions = All-nil (λ s. All IsNoTasks s.lines) };
-})
+built_none = built_by [] start.program refl (All-nil IsTurn)
 
 -- ---- the front lines
 

@@ -1,19 +1,12 @@
--- The programs that the command runs today: the order has turns of sessions alone, the sessions have at most 1,000
--- statements, and none of the statements is SHOW TASKS.
-use Rattle.std.specs.Prelude.{◌≡◌, ℕ, zero, suc, ◌+◌, ◌<◌, ◌≤◌, List, [], ◌++◌, length, take, drop, Bool, true, Result, Ok, Err}
-use Rattle.std.specs.List.{sum_by}
-use Rattle.lv_parser.specs.declared.stop.ParseFault.{ParseFault}
-use Rattle.lv_parser.specs.declared.stop.ParseFault.TheVariants.{Syntax, NoMemory}
-use Rattle.lv_core.specs.NoTasks.{HasNoTasks}
+-- The programs that the command runs today: the order has turns of sessions alone.
+use Rattle.std.specs.Prelude.{◌≡◌, ℕ, zero, suc, ◌+◌, ◌<◌, List, [], ◌++◌, take, drop, Ok}
 use Rattle.lv_order.specs.Turns.{AreTurns}
 use Rattle.lv_plain.specs.declared.program.Program.{Program}
 use Rattle.lv_lines.specs.Script.{script_of}
 use Rattle.lv_lines.specs.ScriptLine.{piece_len}
 
-pub record IsBuilt (p : Program) : Type 0 where
-  pub turns : AreTurns p.order
-  pub few : sum_by (λ s. length s.lines) p.sessions ≤ 1000
-  pub tasks : HasNoTasks p
+abbrev pub IsBuilt : Program → Type 0
+IsBuilt p = AreTurns p.order
 
 -- the bytes of the first lines, with their line feeds
 abbrev pub front : ℕ → List ℕ → List ℕ
@@ -31,9 +24,3 @@ pub record IsFirstUnbuilt (bytes : List ℕ) (line : ℕ) : Type 0 where
   pub script : script_of bytes ≡ Ok program
   pub before : (n : ℕ) → n < line → IsBuiltScript (front n bytes)
   pub here : IsBuiltScript (front line bytes) → ⊥
-
--- what is said of a line that is no statement: it is not SHOW TASKS
-abbrev pub IsUnread : {E : Type 0} → ParseFault → Result Bool E → Type 0
-IsUnread (Syntax byte) r = r ≡ Ok true
-IsUnread NoMemory (Ok quiet) = ⊥
-IsUnread NoMemory (Err e) = Unit {0}

@@ -1,5 +1,5 @@
 -- What a run does to its source and its sink, status by status.
-use Rattle.std.specs.Prelude.{◌≡◌, ◌<◌, ◌⊎◌, ℕ, List, length, take, Bool, IsTrue, Option}
+use Rattle.std.specs.Prelude.{◌<◌, ◌⊎◌, ℕ, List, length, take, Bool, IsTrue, Option}
 use Rattle.std.specs.Io.KnownBytes.{Consumes, IsAtEnd, Appends, Keeps}
 use Rattle.lv_outside.specs.Causes.{Rose}
 use Rattle.lv_runner.specs.declared.output.NoText.{NoText}

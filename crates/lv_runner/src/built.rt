@@ -1,129 +1,24 @@
 //! Which programs are run today, and the first line of a script up to which it says none of them.
-ghost use Rattle.std.specs.Prelude.{◌≡◌, ◌&&◌, ◌<◌, ◌≤◌, ◌+◌, length, take, drop, IfOk};
+ghost use Rattle.std.specs.Prelude.{◌≡◌, ◌<◌, ◌≤◌, ◌+◌, length, take, drop, IfOk};
 ghost use Rattle.std.specs.Bool.{MatchBool};
-ghost use Rattle.std.specs.List.{All, sum_by};
-ghost use Rattle.lv_plain.specs.Limits.{IsStatementLine, IsWithinLimits};
 ghost use Rattle.lv_lines.specs.ScriptLine.{piece_len};
-ghost use Rattle.lv_core.specs.NoTasks.{IsNoTasks};
-ghost use Rattle.lv_order.specs.Turns.{AreTurns};
 ghost use Rattle.lv_runner.specs.Built as spec;
 
 use lv_lines::{ScriptFault, read_script};
 use lv_order::first_other;
-use lv_parser::{ParseFault, Stmt, lines_are_parsed_by_the_grammar, parse};
-use lv_plain::{OrderItem, Program, Script};
-use lv_values::{NoMemory, Text};
+use lv_plain::Program;
+use lv_values::NoMemory;
 use std::alloc::Global;
 
-/// The most statements that the sessions have.
-const MOST_STATEMENTS: u64 = 1_000;
-
-/// Whether each item is a turn of a session.
-#[tactic(auto, using(crate::proofs::NoTasks::other_item))]
-fn are_turns(order: &[OrderItem]) -> bool
-    ensures { MatchBool result (AreTurns order.now) (AreTurns order.now → ⊥) }
+/// Whether the program is one that is run today: each item of the order is a turn of a session. Cost: linear in the order.
+#[tactic(auto, using(crate::proofs::Unbuilt::other_item))]
+pub(crate) fn is_built(program: &Program) -> bool
+    ensures { MatchBool result (spec.IsBuilt program.now) (spec.IsBuilt program.now → ⊥) }
 {
-    match first_other(order) {
+    match first_other(program.order.as_slice()) {
         None => true,
         Some(_) => false,
     }
-}
-
-/// How many statements the sessions have.
-fn statements(sessions: &[Script]) -> u64
-    requires { sum_by (λ s. length s.lines) sessions.now ≤ 100000 }
-    ensures { result ≡ sum_by (λ s. length s.lines) sessions.now }
-{
-    let mut count = 0;
-    for session in sessions {
-        count += session.lines.len() as u64;
-    }
-    count
-}
-
-/// Whether the sessions have at most 1,000 statements.
-fn are_few(sessions: &[Script]) -> bool
-    requires { sum_by (λ s. length s.lines) sessions.now ≤ 100000 }
-    ensures { MatchBool result (sum_by (λ s. length s.lines) sessions.now ≤ 1000) (sum_by (λ s. length s.lines) sessions.now ≤ 1000 → ⊥) }
-{
-    statements(sessions) <= MOST_STATEMENTS
-}
-
-/// Whether all of them are so.
-fn all_hold(first: bool, second: bool, third: bool, fourth: bool) -> bool
-    ensures { result ≡ (first && second && third && fourth) }
-{
-    first && second && third && fourth
-}
-
-/// Whether the statement is SHOW TASKS.
-fn is_show_tasks(stmt: &Stmt) -> bool
-    ensures { MatchBool result (stmt.now ≡ Stmt.ShowTasks) (stmt.now ≡ Stmt.ShowTasks → ⊥) }
-{
-    matches!(stmt, Stmt::ShowTasks)
-}
-
-/// A line that is no statement is not SHOW TASKS.
-fn unread(fault: ParseFault) -> Result<bool, NoMemory>
-    ensures { spec.IsUnread fault result }
-{
-    match fault {
-        ParseFault::Syntax { .. } => Ok(true),
-        ParseFault::NoMemory => Err(NoMemory),
-    }
-}
-
-/// Whether the line is not SHOW TASKS.
-fn is_no_tasks(alloc: Global, line: &Text) -> Result<bool, NoMemory>
-    requires { IsStatementLine line.now }
-    ensures { IfOk result (λ no. MatchBool no (IsNoTasks line.now) (IsNoTasks line.now → ⊥)) }
-{
-    lines_are_parsed_by_the_grammar();
-    match parse(alloc, line) {
-        Ok(stmt) => Ok(!is_show_tasks(&stmt)),
-        Err(fault) => unread(fault),
-    }
-}
-
-/// Whether none of the lines is SHOW TASKS.
-fn are_no_tasks(alloc: Global, lines: &[Text]) -> Result<bool, NoMemory>
-    requires { All IsStatementLine lines.now }
-    ensures { IfOk result (λ no. MatchBool no (All IsNoTasks lines.now) (All IsNoTasks lines.now → ⊥)) }
-{
-    for line in lines {
-        let quiet = is_no_tasks(alloc, line)?;
-        if !quiet {
-            return Ok(false);
-        }
-    }
-    Ok(true)
-}
-
-/// Whether none of the sessions' lines is SHOW TASKS.
-fn have_no_tasks(alloc: Global, sessions: &[Script]) -> Result<bool, NoMemory>
-    requires { All (λ s. All IsStatementLine s.lines) sessions.now }
-    ensures { IfOk result (λ no. MatchBool no (All (λ s. All IsNoTasks s.lines) sessions.now) (All (λ s. All IsNoTasks s.lines) sessions.now → ⊥)) }
-{
-    for session in sessions {
-        let quiet = are_no_tasks(alloc, session.lines.as_slice())?;
-        if !quiet {
-            return Ok(false);
-        }
-    }
-    Ok(true)
-}
-
-/// Whether the program is one that is run today: the order has turns of sessions alone, the sessions have at most
-/// 1,000 statements, and none of the statements is SHOW TASKS. Cost: linear in the program.
-pub(crate) fn is_built(alloc: Global, program: &Program) -> Result<bool, NoMemory>
-    requires { IsWithinLimits program.now }
-    ensures { IfOk result (λ built. MatchBool built (spec.IsBuilt program.now) (spec.IsBuilt program.now → ⊥)) }
-{
-    let turns = are_turns(program.order.as_slice());
-    let few = are_few(program.sessions.as_slice());
-    let setup = are_no_tasks(alloc, program.setup.as_slice())?;
-    let sessions = have_no_tasks(alloc, program.sessions.as_slice())?;
-    Ok(all_hold(turns, few, setup, sessions))
 }
 
 /// Whether the script says a program that is run, or none at all.
@@ -131,7 +26,7 @@ fn is_built_script(alloc: Global, bytes: &[u8]) -> Result<bool, NoMemory>
     ensures { IfOk result (λ built. MatchBool built (spec.IsBuiltScript bytes.now) (spec.IsBuiltScript bytes.now → ⊥)) }
 {
     match read_script(alloc, bytes) {
-        Ok(program) => is_built(alloc, &program),
+        Ok(program) => Ok(is_built(&program)),
         Err(ScriptFault::Bad { .. }) => Ok(true),
         Err(ScriptFault::NoMemory) => Err(NoMemory),
     }

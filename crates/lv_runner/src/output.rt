@@ -1,6 +1,7 @@
 //! What is written for the bytes of a script.
-ghost use Rattle.std.specs.Prelude.{◌≡◌, ◌≤◌, ℕ, Ok, IfOk, MatchResult, List, ◌∷◌, codes, length};
+ghost use Rattle.std.specs.Prelude.{◌≡◌, ◌≤◌, ℕ, Ok, IfOk, MatchResult, List, ◌∷◌, codes, length, map};
 ghost use Rattle.lv_core.specs.Cores.{run_of};
+ghost use Rattle.lv_core.specs.Run.{state_of};
 ghost use Rattle.lv_plain.specs.Following.{IsFollowable};
 ghost use Rattle.lv_plain.specs.Limits.{IsWithinLimits};
 ghost use Rattle.lv_lines.specs.Script.{script_of};
@@ -16,8 +17,11 @@ use lv_core::Core;
 use lv_lines::{Names, ScriptFault, print_entries, read_script};
 use lv_order::{all_is_answered, places_after_turns};
 use lv_plain::{Program, Texts};
+use lv_schema::Schema;
 use lv_values::{Bytes, Copying, NoMemory, Text};
 use std::alloc::Global;
+use std::marker::Brand;
+use std::sync::ledger::Blank;
 
 /// Why there is no text.
 #[derive(Clone, Copy, Debug, PartialEq, Eq)]
@@ -52,21 +56,44 @@ fn session_names(alloc: Global, program: &Program) -> Result<Texts, NoMemory>
     Ok(names)
 }
 
+/// The names of the tables, by their numbers. Cost: a copy of them.
+fn table_names(alloc: Global, schema: &Schema) -> Result<Texts, NoMemory>
+    ensures { IfOk result (λ names. names ≡ map (λ t. t.name) schema.now.tables) }
+{
+    let mut names = Texts::new(alloc);
+    for no in 0..schema.tables() {
+        names.push(schema.table(no).name.copy(alloc)?)?;
+    }
+    Ok(names)
+}
+
+/// The names of the views, by their numbers. Cost: a copy of them.
+fn view_names(alloc: Global, schema: &Schema) -> Result<Texts, NoMemory>
+    ensures { IfOk result (λ names. names ≡ map (λ v. v.name) schema.now.views) }
+{
+    let mut names = Texts::new(alloc);
+    for no in 0..schema.views() {
+        names.push(schema.view(no).name.copy(alloc)?)?;
+    }
+    Ok(names)
+}
+
 /// The names that a transcript uses.
 fn names_of(alloc: Global, core: &Core) -> Result<Names, NoMemory>
-    ensures { IfOk result (λ names. names ≡ names_of (run_of core.now).program (run_of core.now).seen) }
+    ensures { IfOk result (λ names. names ≡ names_of (run_of core.now).program (state_of (run_of core.now)).world.visible) }
 {
+    core.known();
+    let schema = core.engine().schema();
     Ok(Names {
         sessions: session_names(alloc, core.program())?,
-        tables: core.table_names(alloc)?,
-        views: core.view_names(alloc)?,
+        tables: table_names(alloc, schema)?,
+        views: view_names(alloc, schema)?,
     })
 }
 
 /// The text of a run's entries.
-#[tactic(auto, using(crate::proofs::Written::run_has_names))]
 fn text_of(alloc: Global, core: &Core) -> Result<Bytes, NoMemory>
-    ensures { IfOk result (λ text. text ≡ text_of (names_of (run_of core.now).program (run_of core.now).seen) (run_of core.now).entries) }
+    ensures { IfOk result (λ text. text ≡ text_of (names_of (run_of core.now).program (state_of (run_of core.now)).world.visible) (run_of core.now).entries) }
 {
     core.known();
     let names = names_of(alloc, core)?;
@@ -82,7 +109,7 @@ fn output_of(alloc: Global, program: Program) -> Result<Bytes, NoMemory>
 {
     places_after_turns();
     all_is_answered();
-    let core = run_program(alloc, program)?;
+    let core = run_program::<Brand>(alloc, program, Blank::new(1))?;
     core.known();
     text_of(alloc, &core)
 }
@@ -120,7 +147,7 @@ fn text_for(alloc: Global, bytes: &[u8], program: Program) -> Result<Bytes, NoTe
     requires followable { IsFollowable program }
     ensures { MatchResult result (IsOutput bytes.now) (IsCause bytes.now) }
 {
-    if is_built(alloc, &program)? {
+    if is_built(&program) {
         return Ok(output_of(alloc, program)?);
     }
     Err(unbuilt(alloc, bytes))

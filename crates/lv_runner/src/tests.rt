@@ -20,6 +20,7 @@ setup 2 ok
 a 1 ok 1 commit 1
 a 2 ok 1 commit 2
 a 3 fault 13 duplicate key item (1)
+force cheap 0 2
 a 4 rows 2
 | 5 | 2
 | 10 | 1
@@ -113,7 +114,7 @@ const CASES: &[Case] = &[
     },
     // what is not built yet, at its line, and a fault of the script before it
     Case {
-        script: "@setup\n@session a\nbegin\nshow tasks\n",
+        script: "@session a\nbegin\nshow tasks\n@order a clean\n",
         status: Status::Script { line: 4, kind: 0 },
         printed: "",
     },
@@ -181,33 +182,13 @@ setup 2 ok
 a 1 ok 1 commit 1
 a 2 ok 1 commit 2
 a 3 fault 13 duplicate key item (0)
+force cheap 0 2
 a 4 rows 2
 | 7 | 0
 | 9223372036854775807 | -9223372036854775808
 ";
     assert_eq!(rt; status, Status::Done);
     assert_eq!(rt; sink.written(), text.as_slice());
-    Ok(())
-}
-
-#[test]
-fn a_thousand_statements(rt: HostRuntime) -> Result<(), Fail> {
-    let mut script = script_with(&rt, 4, "")?;
-    for _ in 0..1000 {
-        script.extend_from_slice(b"select * from cheap\n")?;
-    }
-    let (status, sink) = run_on(&rt, script.as_slice(), &[], &[])?;
-    assert_eq!(rt; status, Status::Done);
-    assert!(rt; sink.written().ends_with(b"a 999 rows 0\na 1000 rows 0\n"));
-    script.extend_from_slice(b"select * from cheap\n")?;
-    let (status, _) = run_on(&rt, script.as_slice(), &[], &[])?;
-    assert_eq!(rt;
-        status,
-        Status::Script {
-            line: 1005,
-            kind: 0
-        }
-    );
     Ok(())
 }
 

@@ -82,9 +82,10 @@ fn answer<S: Source, K: Sink>(alloc: Global, source: &mut S, sink: &mut K) -> St
 /// Reads a script and writes its transcript.
 ///
 /// The statements of the setup and the sessions are answered in the order of the program's schedule, each transaction on
-/// the snapshot at its start with its own writes, and each view by its definition over the snapshot that a query reads.
-/// The whole text stands before the first write, so want of memory writes nothing. Cost: linear in the script, and what
-/// each statement takes.
+/// the snapshot at its start with its own writes, and each view as by its definition over the snapshot that a query reads.
+/// A query first brings the views that it reads up to its snapshot, and the transcript shows by which steps. The whole
+/// text stands before the first write, so want of memory writes nothing. Cost: linear in the script, and what each
+/// statement takes.
 #[tactic(auto, using(crate::proofs::Ends::is_done, crate::proofs::Ends::not_words, crate::proofs::Ends::is_script, crate::proofs::Ends::is_source, crate::proofs::Ends::is_sink, crate::proofs::Ends::kept_unless))]
 pub fn run<S: Source, K: Sink>(
     alloc: Global,

@@ -1,1 +1,2 @@
 mod Sample
+mod Two

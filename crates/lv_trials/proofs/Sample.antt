@@ -46,7 +46,8 @@ lines_bound = record {
   plain_in_range = refl;
   sums_are_ints = refl;
   groups_in_range = refl;
-  profile = record { no_groups = refl; plain = refl; keys_listed = refl };
+  few_groups = omega arith;
+  profile = record { grouped = refl; keeps = refl };
 }
 
 pairs_bound : IsBoundView tables [] pairs
@@ -67,7 +68,8 @@ pairs_bound = record {
   plain_in_range = refl;
   sums_are_ints = refl;
   groups_in_range = refl;
-  profile = record { no_groups = refl; plain = refl; keys_listed = refl };
+  few_groups = omega arith;
+  profile = record { grouped = refl; keeps = refl };
 }
 
 pub fits : Fit lines both_change

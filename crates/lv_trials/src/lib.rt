@@ -7,6 +7,8 @@ mod base;
 #[cfg(test)]
 mod lexer;
 #[cfg(test)]
+mod lines;
+#[cfg(test)]
 mod maint;
 #[cfg(test)]
 mod making;
@@ -20,5 +22,7 @@ mod reading;
 mod schema;
 #[cfg(test)]
 mod streams;
+#[cfg(test)]
+mod transactions;
 #[cfg(test)]
 mod values;

@@ -1,11 +1,11 @@
-use Rattle.std.proofs.Common.{◌≡◌, map, take}
-use Rattle.lv_order.specs.Places.{places_after}
-use Rattle.lv_plain.specs.LegalTurns.{session_of}
+use Rattle.std.proofs.Common.{◌≡◌, take}
+use Rattle.lv_core.specs.Cores.{run_of}
+use Rattle.lv_runner.specs.Following.{HasFollowed}
 use Rattle.lv_runner.proofs.following.follow.Given as goal
 
 abbrev pub invariant-loop-session : goal.invariant-loop-session
-invariant-loop-session l = record {
-  program : l.core.ledger.program ≡ l.initial.core.ledger.program;
-  places : l.core.ledger.places ≡ places_after l.core.ledger.program (take l.session-index l.turns);
-  sessions : map session_of l.core.ledger.entries ≡ take l.session-index l.turns;
+invariant-loop-session g l = record {
+  program : (run_of l.core).program ≡ (run_of l.initial.core).program;
+  settings : (run_of l.core).settings ≡ (run_of l.initial.core).settings;
+  followed : HasFollowed (run_of l.core) (take l.session-index l.turns);
 }
