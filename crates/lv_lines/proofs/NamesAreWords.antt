@@ -1,6 +1,6 @@
 -- The names of programs and of the schema are words of transcripts.
 use Rattle.std.proofs.Common.{◌≡◌, ℕ, suc, Bool, true, false, List, [], ◌∷◌, length, refl, ap, ◌∙◌, arith}
-use Rattle.std.specs.Prelude.{◌≢◌, ◌&&◌, not, nat_le, codes}
+use Rattle.std.specs.Prelude.{◌≢◌, not, nat_le, codes}
 use Rattle.std.specs.List.{All, AllPairs, AllByRecursion, IsDistinct}
 use Rattle.std.specs.Str.{bytes_eq}
 use Rattle.std.proofs.lemmas.List.Elements.{All-head, All-tail, All-weaker, recursion_from_All}

@@ -1,5 +1,5 @@
 -- Which names and which entries a transcript can have.
-use Rattle.std.specs.Prelude.{◌≡◌, ℕ, ◌<◌, ◌≤◌, ◌^◌, Bool, true, not, ◌==◌, List, [], ◌∷◌, length, Option, Some, None, IsUtf8}
+use Rattle.std.specs.Prelude.{◌≡◌, ℕ, ◌<◌, ◌≤◌, ◌^◌, true, not, ◌==◌, List, length, Option, Some, None, IsUtf8}
 use Rattle.std.specs.List.{AllByRecursion, IsDistinct, list_all}
 use Rattle.std.specs.Str.{bytes_eq}
 use Rattle.lv_values.specs.Names.{is_word}

@@ -31,13 +31,14 @@ use Rattle.lv_schema.specs.World.{Upkeep, Visible, Settings, last, no_view, poin
 use Rattle.lv_plain.specs.declared.entry.Entry.{Entry}
 use Rattle.lv_plain.specs.declared.entry.Reply.{Reply}
 use Rattle.lv_plain.specs.declared.entry.Reply.TheVariants as reply
-use Rattle.lv_plain.specs.declared.program.Program.{Program}
-use Rattle.lv_plain.specs.Events.{Event, turn_of, fetch_of, install_of, release_of, mark_of, clean_up}
+use Rattle.lv_plain.specs.declared.event.Event.{Event}
+use Rattle.lv_plain.specs.declared.event.Event.TheVariants.{Turn as turn_of, Fetch as fetch_of, Install as install_of, Release as release_of, Mark as mark_of, Clean as clean_up}
 use Rattle.lv_plain.specs.GivenEntries.{BlamesNoDisk}
 use Rattle.lv_plain.specs.Legal.{is_store, reply_fails, mark_fails, shows_failure, event_of, MayHappen, MayCome, MayComeBy, after_by, after_entry}
 use Rattle.lv_plain.specs.Machine.{Given, State, fetch_entry, give, install_entry, mark_by, mark_outcome}
 use Rattle.lv_plain.specs.Programs.{next_line}
-use Rattle.lv_plain.specs.Turns.{Reading, bound_line, bound_turn, is_open, read_turn, reply_or, turn_by}
+use Rattle.lv_plain.specs.Rules.{Rules}
+use Rattle.lv_plain.specs.Turns.{bound_line, bound_turn, is_open, read_turn, reply_or, turn_by}
 
 -- ---- faults that do not blame the disk
 abbrev IsFree : Option Fault → Type 0
@@ -166,15 +167,15 @@ named_view views name v e =
     (subst (λ n. v < n) (length-map views (λ (w : ViewDef). w.name)) found.0, sym (same ∙ get_or-map (λ (w : ViewDef). w.name) views v no_view))
 
 -- ---- what an event gives, where the disk does not fail
-module _ (settings : Settings) (reading : Reading) (p : Program) (free : BlamesNoDisk reading) where
+module _ (rules : Rules) (free : BlamesNoDisk rules.reading) where
   abbrev given : Event → State → Given
-  given event s = give settings reading p false event s
+  given event s = give rules false event s
 
-  line_free : (session : ℕ) (s : State) → (r : Result Bound Fault) → bound_line reading session (next_line p s.places session) s.world.visible ≡ r → AnswersFree r
+  line_free : (session : ℕ) (s : State) → (r : Result Bound Fault) → bound_line rules.reading session (next_line rules.program s.places session) s.world.visible ≡ r → AnswersFree r
   line_free session s (Ok b) e = tt
-  line_free session s (Err f) e = free s.world.visible.tables s.world.visible.views (session == 0) (is_open session s.world.visible) (next_line p s.places session) f e
+  line_free session s (Err f) e = free s.world.visible.tables s.world.visible.views (session == 0) (is_open session s.world.visible) (next_line rules.program s.places session) f e
 
-  mark_free : (v : ℕ) (name : List ℕ) (s : State) → shows_failure (mark_by settings reading p false (Some v) name s).entry ≡ false
+  mark_free : (v : ℕ) (name : List ℕ) (s : State) → shows_failure (mark_by rules false (Some v) name s).entry ≡ false
   mark_free v name s = by (slice_index s.world.upkeep.marks v == point s.world.upkeep v)
     where
       u : Upkeep
@@ -183,70 +184,70 @@ module _ (settings : Settings) (reading : Reading) (p : Program) (free : BlamesN
       rec : Rec
       rec = mark_record v u
 
-      kept : (b : Bool) → mark_fails (mark_outcome settings reading p false (marked_by (if b then full (need u rec) settings.limit else good) v u).answer) ≡ false
+      kept : (b : Bool) → mark_fails (mark_outcome rules false (marked_by (if b then full (need u rec) rules.settings.limit else good) v u).answer) ≡ false
       kept true = refl
       kept false = refl
 
-      by : (b : Bool) → mark_fails (mark_outcome settings reading p false (if b then record { answer = Ok None; next = u; attempted = None } else marked_by (outcome_of settings false u rec) v u).answer) ≡ false
+      by : (b : Bool) → mark_fails (mark_outcome rules false (if b then record { answer = Ok None; next = u; attempted = None } else marked_by (outcome_of rules.settings false u rec) v u).answer) ≡ false
       by true = refl
-      by false = kept (nat_lt settings.limit (need u rec))
+      by false = kept (nat_lt rules.settings.limit (need u rec))
 
   pub shown : (event : Event) (s : State) → shows_failure (given event s).entry ≡ false
   shown (turn_of session) s =
-      read_free settings s.world.upkeep (pending_tasks s.world) session (bound_line reading session (next_line p s.places session) s.world.visible) s.world.visible
-      (line_free session s (bound_line reading session (next_line p s.places session) s.world.visible) refl)
-  shown (fetch_of worker) s = by (fetching settings worker s.world).0
+      read_free rules.settings s.world.upkeep (pending_tasks s.world) session (bound_line rules.reading session (next_line rules.program s.places session) s.world.visible) s.world.visible
+      (line_free session s (bound_line rules.reading session (next_line rules.program s.places session) s.world.visible) refl)
+  shown (fetch_of worker) s = by (fetching rules.settings worker s.world).0
     where
-      by : (f : Fetched) → shows_failure (fetch_entry settings reading p false worker f) ≡ false
+      by : (f : Fetched) → shows_failure (fetch_entry rules false worker f) ≡ false
       by busy = refl
       by idle = refl
       by (fetched f) = refl
   shown (install_of worker) s = by (installing worker s.world.upkeep).0
     where
-      by : (i : Installed) → shows_failure (install_entry settings reading p false worker i) ≡ false
+      by : (i : Installed) → shows_failure (install_entry rules false worker i) ≡ false
       by empty = refl
       by (installed f) = refl
       by (moved f at) = refl
   shown (release_of worker) s = refl
   shown (mark_of name) s = by (view_named s.world.visible.views name)
     where
-      by : (v : Option ℕ) → shows_failure (mark_by settings reading p false v name s).entry ≡ false
+      by : (v : Option ℕ) → shows_failure (mark_by rules false v name s).entry ≡ false
       by None = refl
       by (Some v) = mark_free v name s
   shown clean_up s = refl
 
-  its_event : (event : Event) (s : State) → event_of s (given event s).entry ≡ Some event
+  pub its_event : (event : Event) (s : State) → event_of s (given event s).entry ≡ Some event
   its_event (turn_of session) s = refl
-  its_event (fetch_of worker) s = by (fetching settings worker s.world).0
+  its_event (fetch_of worker) s = by (fetching rules.settings worker s.world).0
     where
-      by : (f : Fetched) → event_of s (fetch_entry settings reading p false worker f) ≡ Some (fetch_of worker)
+      by : (f : Fetched) → event_of s (fetch_entry rules false worker f) ≡ Some (fetch_of worker)
       by busy = refl
       by idle = refl
       by (fetched f) = refl
   its_event (install_of worker) s = by (installing worker s.world.upkeep).0
     where
-      by : (i : Installed) → event_of s (install_entry settings reading p false worker i) ≡ Some (install_of worker)
+      by : (i : Installed) → event_of s (install_entry rules false worker i) ≡ Some (install_of worker)
       by empty = refl
       by (installed f) = refl
       by (moved f at) = refl
   its_event (release_of worker) s = refl
   its_event (mark_of name) s = by (view_named s.world.visible.views name) refl
     where
-      by : (v : Option ℕ) → view_named s.world.visible.views name ≡ v → event_of s (mark_by settings reading p false v name s).entry ≡ Some (mark_of name)
+      by : (v : Option ℕ) → view_named s.world.visible.views name ≡ v → event_of s (mark_by rules false v name s).entry ≡ Some (mark_of name)
       by None e = refl
       by (Some v) e =
           let is = named_view s.world.visible.views name v e in
           rw (lt-ltb v (length s.world.visible.views) is.0) (ap (λ n. Some (mark_of n)) is.1)
   its_event clean_up s = refl
 
-  came : (event : Event) (s : State) (o : Option Event) (fails : Bool) → o ≡ Some event → fails ≡ false → MayHappen p s event
-      → (entry : Entry) → entry ≡ (given event s).entry → shows_failure entry ≡ fails → MayComeBy settings reading p o s entry × (after_by settings reading p o s entry ≡ (given event s).next)
+  came : (event : Event) (s : State) (o : Option Event) (fails : Bool) → o ≡ Some event → fails ≡ false → MayHappen rules.program s event
+      → (entry : Entry) → entry ≡ (given event s).entry → shows_failure entry ≡ fails → MayComeBy rules o s entry × (after_by rules o s entry ≡ (given event s).next)
   came event s o fails is none may entry e shows =
-      subst (λ o. MayComeBy settings reading p o s entry × (after_by settings reading p o s entry ≡ (given event s).next)) (sym is)
-      (subst (λ b. (MayHappen p s event × ((give settings reading p b event s).entry ≡ entry)) × ((give settings reading p b event s).next ≡ (given event s).next)) (sym (shows ∙ none))
+      subst (λ o. MayComeBy rules o s entry × (after_by rules o s entry ≡ (given event s).next)) (sym is)
+      (subst (λ b. (MayHappen rules.program s event × ((give rules b event s).entry ≡ entry)) × ((give rules b event s).next ≡ (given event s).next)) (sym (shows ∙ none))
       ((may, sym e), refl))
 
-  pub given_comes : (event : Event) (s : State) → MayHappen p s event
-      → MayCome settings reading p s (give settings reading p false event s).entry × (after_entry settings reading p s (give settings reading p false event s).entry ≡ (give settings reading p false event s).next)
+  pub given_comes : (event : Event) (s : State) → MayHappen rules.program s event
+      → MayCome rules s (give rules false event s).entry × (after_entry rules s (give rules false event s).entry ≡ (give rules false event s).next)
   given_comes event s may =
       came event s (event_of s (given event s).entry) (shows_failure (given event s).entry) (its_event event s) (shown event s) may (given event s).entry refl refl

@@ -49,13 +49,15 @@ use Rattle.lv_plain.specs.declared.entry.Reply.{Reply}
 use Rattle.lv_plain.specs.declared.entry.Reply.TheVariants as reply
 use Rattle.lv_plain.specs.declared.program.Program.{Program}
 use Rattle.lv_plain.specs.declared.program.Script.{Script}
-use Rattle.lv_plain.specs.Events.{Event, turn_of, fetch_of, install_of, release_of, mark_of, clean_up}
+use Rattle.lv_plain.specs.declared.event.Event.{Event}
+use Rattle.lv_plain.specs.declared.event.Event.TheVariants.{Turn as turn_of, Fetch as fetch_of, Install as install_of, Release as release_of, Mark as mark_of, Clean as clean_up}
 use Rattle.lv_plain.specs.Legal.{Legal, MayCome, MayComeBy, MayHappen, after, after_by, after_entry, event_of, shows_failure}
 use Rattle.lv_plain.specs.Limits.{IsWithinLimits}
 use Rattle.lv_plain.specs.Machine.{State, fetch_entry, give, install_entry, mark_by, mark_outcome, steps_of}
 use Rattle.lv_plain.specs.Named.{Counts, in_use, nothing_in_use, AreNamed, IsNamedEntry, IsNamedFault, IsNamedOutcome, IsNamedReply, NamesNoTable}
 use Rattle.lv_plain.specs.Programs.{Places, has_more, lines_of, may_turn, next_line, no_script, session_count}
-use Rattle.lv_plain.specs.Turns.{IsBinding, Reading, bound_line, bound_turn, is_open, read_turn, reply_or, turn_by}
+use Rattle.lv_plain.specs.Rules.{Rules}
+use Rattle.lv_plain.specs.Turns.{IsBinding, bound_line, bound_turn, is_open, read_turn, reply_or, turn_by}
 use Rattle.lv_plain.proofs.NamedFaults.{IsNamedAnswer, alone_named, changed_named, committed_named, written_named}
 use Rattle.lv_plain.proofs.SoundTurns.{each_line}
 use Rattle.lv_plain.proofs.SteadyTurns.{given_steady}
@@ -287,16 +289,16 @@ turn_there p places session may = by (has_more p places session) refl may
     by true more may = is_there p session (let lt = is_below (slice_index places session) (length (lines_of p session)) more in omega (arith, lt))
     by false more may = absurd (cc)
 
-module _ (settings : Settings) (reading : Reading) (p : Program) (binds : IsBinding reading) (names : NamesNoTable reading) (limits : IsWithinLimits p) where
+module _ (rules : Rules) (binds : IsBinding rules.reading) (names : NamesNoTable rules.reading) (limits : IsWithinLimits rules.program) where
   -- ---- a turn
   steps_named : (fails : Bool) (session : ℕ) (r : Result Bound Fault) (w : World) → IsSteady w → ((b : Bound) → r ≡ Ok b → IsBound w.visible.tables w.visible.views b)
-      → AllByRecursion (λ (f : Forced). f.view < length w.visible.views) (steps_of settings reading p fails session r w)
+      → AllByRecursion (λ (f : Forced). f.view < length w.visible.views) (steps_of rules.settings session r w)
   steps_named fails session (Err f) w steady is = tt
   steps_named fails session (Ok (bound.Table def)) w steady is = tt
   steps_named fails session (Ok (bound.View def)) w steady is = tt
   steps_named fails session (Ok (bound.Change change)) w steady is = tt
   steps_named fails session (Ok (bound.Query query)) w steady is =
-      forced_named settings w (transaction session w.visible).snapshot (views_of query) steady
+      forced_named rules.settings w (transaction session w.visible).snapshot (views_of query) steady
       (all_once (λ v. v < length w.visible.views) (filter_map view_number query.rels) (views_named w.visible.tables w.visible.views query.rels (is (bound.Query query) refl).in_use))
   steps_named fails session (Ok (bound.Begin)) w steady is = tt
   steps_named fails session (Ok (bound.Commit)) w steady is = tt
@@ -304,78 +306,78 @@ module _ (settings : Settings) (reading : Reading) (p : Program) (binds : IsBind
   steps_named fails session (Ok (bound.Tasks)) w steady is = tt
 
   answer_named : (outcome : Rec → Outcome) (session : ℕ) (r : Result Bound Fault) (w : World) → IsSteady w → ((b : Bound) → r ≡ Ok b → IsBound w.visible.tables w.visible.views b)
-      → ((f : Fault) → r ≡ Err f → IsNamedFault nothing_in_use f) → IsNamedReply (in_use p w.visible) (read_turn outcome (pending_tasks w) session r w.visible).reply
-  answer_named outcome session (Ok b) w steady is none = turn_named (in_use p w.visible) outcome (pending_tasks w) session b w.visible (omega arith) steady.sound (is b refl) (tasks_named w)
-  answer_named outcome session (Err f) w steady is none = fault_more nothing_in_use (in_use p w.visible) f (record { sessions = omega arith; tables = omega arith; views = omega arith }) (none f refl)
+      → ((f : Fault) → r ≡ Err f → IsNamedFault nothing_in_use f) → IsNamedReply (in_use rules.program w.visible) (read_turn outcome (pending_tasks w) session r w.visible).reply
+  answer_named outcome session (Ok b) w steady is none = turn_named (in_use rules.program w.visible) outcome (pending_tasks w) session b w.visible (omega arith) steady.sound (is b refl) (tasks_named w)
+  answer_named outcome session (Err f) w steady is none = fault_more nothing_in_use (in_use rules.program w.visible) f (record { sessions = omega arith; tables = omega arith; views = omega arith }) (none f refl)
 
-  turn_entry_named : (fails : Bool) (session : ℕ) (s : State) → IsSteady s.world → may_turn p s.places session ≡ true → IsNamedEntry (in_use p s.world.visible) (give settings reading p fails (turn_of session) s).entry
+  turn_entry_named : (fails : Bool) (session : ℕ) (s : State) → IsSteady s.world → may_turn rules.program s.places session ≡ true → IsNamedEntry (in_use rules.program s.world.visible) (give rules fails (turn_of session) s).entry
   turn_entry_named fails session s steady may =
-      let line = next_line p s.places session in
-      let r = bound_line reading session line s.world.visible in
+      let line = next_line rules.program s.places session in
+      let r = bound_line rules.reading session line s.world.visible in
       let is : (b : Bound) → r ≡ Ok b → IsBound s.world.visible.tables s.world.visible.views b
-      = λ b e. binds s.world.visible.tables s.world.visible.views (session == 0) (is_open session s.world.visible) line b steady.sound.schema (each_line p s.places session limits) e in
+      = λ b e. binds s.world.visible.tables s.world.visible.views (session == 0) (is_open session s.world.visible) line b steady.sound.schema (each_line rules.program s.places session limits) e in
       let none : (f : Fault) → r ≡ Err f → IsNamedFault nothing_in_use f
       = λ f e. names s.world.visible.tables s.world.visible.views (session == 0) (is_open session s.world.visible) line f e in (
-        turn_there p s.places session may,
+        turn_there rules.program s.places session may,
         steps_named fails session r s.world steady is,
-        answer_named (outcome_of settings fails s.world.upkeep) session r s.world steady is none,
+        answer_named (outcome_of rules.settings fails s.world.upkeep) session r s.world steady is none,
       )
 
   -- ---- what maintenance does
-  fetch_named : (worker : ℕ) (w : World) → IsSteady w → IsNamedEntry (in_use p w.visible) (fetch_entry settings reading p false worker (fetching settings worker w).0)
+  fetch_named : (worker : ℕ) (w : World) → IsSteady w → IsNamedEntry (in_use rules.program w.visible) (fetch_entry rules false worker (fetching rules.settings worker w).0)
   fetch_named worker w steady = by (claim_of w.upkeep worker)
     where
-      step : IsCandidate w (slice_index_or (unclaimed w) (chosen settings.policy (unclaimed w)) no_pending) → (x : Option Forced) → planned settings (chosen_view settings.policy w) w (last w.visible) ≡ x
-          → IsNamedEntry (in_use p w.visible) (fetch_entry settings reading p false worker (fetched_step x worker w.upkeep).0)
+      step : IsCandidate w (slice_index_or (unclaimed w) (chosen rules.settings.policy (unclaimed w)) no_pending) → (x : Option Forced) → planned rules.settings (chosen_view rules.settings.policy w) w (last w.visible) ≡ x
+          → IsNamedEntry (in_use rules.program w.visible) (fetch_entry rules false worker (fetched_step x worker w.upkeep).0)
       step is None e = tt
       step is (Some f) e =
-          let at = planned_is settings w.visible (chosen_view settings.policy w) (last w.visible) (point w.upkeep (chosen_view settings.policy w)) f e in
+          let at = planned_is rules.settings w.visible (chosen_view rules.settings.policy w) (last w.visible) (point w.upkeep (chosen_view rules.settings.policy w)) f e in
           omega (arith, at.view, is.in_use)
 
-      among : (ps : List Pending) → unclaimed w ≡ ps → IsNamedEntry (in_use p w.visible) (fetch_entry settings reading p false worker (fetch_among ps settings worker w).0)
+      among : (ps : List Pending) → unclaimed w ≡ ps → IsNamedEntry (in_use rules.program w.visible) (fetch_entry rules false worker (fetch_among ps rules.settings worker w).0)
       among [] e = tt
-      among (q ∷ ps) e = step (chosen_is settings.policy w (omega (arith, ap (λ (l : List Pending). length l) e))) (planned settings (chosen_view settings.policy w) w (last w.visible)) refl
+      among (q ∷ ps) e = step (chosen_is rules.settings.policy w (omega (arith, ap (λ (l : List Pending). length l) e))) (planned rules.settings (chosen_view rules.settings.policy w) w (last w.visible)) refl
 
-      by : (x : Option Forced) → IsNamedEntry (in_use p w.visible) (fetch_entry settings reading p false worker (fetch_by x settings worker w).0)
+      by : (x : Option Forced) → IsNamedEntry (in_use rules.program w.visible) (fetch_entry rules false worker (fetch_by x rules.settings worker w).0)
       by None = among (unclaimed w) refl
       by (Some f) = tt
 
-  install_named : (worker : ℕ) (w : World) → IsSteady w → IsNamedEntry (in_use p w.visible) (install_entry settings reading p false worker (installing worker w.upkeep).0)
+  install_named : (worker : ℕ) (w : World) → IsSteady w → IsNamedEntry (in_use rules.program w.visible) (install_entry rules false worker (installing worker w.upkeep).0)
   install_named worker w steady = by (claim_of w.upkeep worker) refl
     where
-      by : (x : Option Forced) → claim_of w.upkeep worker ≡ x → IsNamedEntry (in_use p w.visible) (install_entry settings reading p false worker (install_by x worker w.upkeep).0)
+      by : (x : Option Forced) → claim_of w.upkeep worker ≡ x → IsNamedEntry (in_use rules.program w.visible) (install_entry rules false worker (install_by x worker w.upkeep).0)
       by None e = tt
       by (Some f) e = test (point w.upkeep f.view == f.lo)
         where
-          test : (t : Bool) → IsNamedEntry (in_use p w.visible)
-              (install_entry settings reading p false worker (cond {A = Installed × Upkeep} t (installed f, with_claim worker None (with_steps (f ∷ []) w.upkeep)) (moved f (point w.upkeep f.view), with_claim worker None w.upkeep)).0)
+          test : (t : Bool) → IsNamedEntry (in_use rules.program w.visible)
+              (install_entry rules false worker (cond {A = Installed × Upkeep} t (installed f, with_claim worker None (with_steps (f ∷ []) w.upkeep)) (moved f (point w.upkeep f.view), with_claim worker None w.upkeep)).0)
           test true = (steady.claims worker f e).step.in_use
           test false = (steady.claims worker f e).step.in_use
 
-  mark_named : (fails : Bool) (name : List ℕ) (s : State) → IsNamedEntry (in_use p s.world.visible) (mark_by settings reading p fails (view_named s.world.visible.views name) name s).entry
+  mark_named : (fails : Bool) (name : List ℕ) (s : State) → IsNamedEntry (in_use rules.program s.world.visible) (mark_by rules fails (view_named s.world.visible.views name) name s).entry
   mark_named fails name s = by (view_named s.world.visible.views name) refl
     where
-      outcome : (out : Outcome) (v : ℕ) → IsNamedOutcome (in_use p s.world.visible) (mark_outcome settings reading p fails (marked_by out v s.world.upkeep).answer)
+      outcome : (out : Outcome) (v : ℕ) → IsNamedOutcome (in_use rules.program s.world.visible) (mark_outcome rules fails (marked_by out v s.world.upkeep).answer)
       outcome good v = tt
       outcome failed v = tt
       outcome (full need limit) v = tt
 
-      marked : (v : ℕ) → IsNamedOutcome (in_use p s.world.visible) (mark_outcome settings reading p fails (marking (outcome_of settings fails s.world.upkeep) v s.world.upkeep).answer)
+      marked : (v : ℕ) → IsNamedOutcome (in_use rules.program s.world.visible) (mark_outcome rules fails (marking (outcome_of rules.settings fails s.world.upkeep) v s.world.upkeep).answer)
       marked v = test (slice_index s.world.upkeep.marks v == point s.world.upkeep v)
         where
-          test : (t : Bool) → IsNamedOutcome (in_use p s.world.visible)
-              (mark_outcome settings reading p fails (if t then record { answer = Ok None; next = s.world.upkeep; attempted = None } else marked_by (outcome_of settings fails s.world.upkeep (mark_record v s.world.upkeep)) v s.world.upkeep).answer)
+          test : (t : Bool) → IsNamedOutcome (in_use rules.program s.world.visible)
+              (mark_outcome rules fails (if t then record { answer = Ok None; next = s.world.upkeep; attempted = None } else marked_by (outcome_of rules.settings fails s.world.upkeep (mark_record v s.world.upkeep)) v s.world.upkeep).answer)
           test true = tt
-          test false = outcome (outcome_of settings fails s.world.upkeep (mark_record v s.world.upkeep)) v
+          test false = outcome (outcome_of rules.settings fails s.world.upkeep (mark_record v s.world.upkeep)) v
 
-      by : (x : Option ℕ) → view_named s.world.visible.views name ≡ x → IsNamedEntry (in_use p s.world.visible) (mark_by settings reading p fails x name s).entry
+      by : (x : Option ℕ) → view_named s.world.visible.views name ≡ x → IsNamedEntry (in_use rules.program s.world.visible) (mark_by rules fails x name s).entry
       by None e = tt
       by (Some v) e =
           let found = position-Some (bytes_eq name) (map (λ (d : ViewDef). d.name) s.world.visible.views) v [] e in
           (omega (arith, found.0, length-map s.world.visible.views (λ (d : ViewDef). d.name)), marked v)
 
   -- ---- any event, and any legal entries
-  given_named : (fails : Bool) (event : Event) (s : State) → IsSteady s.world → MayHappen p s event → IsNamedEntry (in_use p s.world.visible) (give settings reading p fails event s).entry
+  given_named : (fails : Bool) (event : Event) (s : State) → IsSteady s.world → MayHappen rules.program s event → IsNamedEntry (in_use rules.program s.world.visible) (give rules fails event s).entry
   given_named fails (turn_of session) s steady may = turn_entry_named fails session s steady may
   given_named fails (fetch_of worker) s steady may = fetch_named worker s.world steady
   given_named fails (install_of worker) s steady may = install_named worker s.world steady
@@ -383,55 +385,55 @@ module _ (settings : Settings) (reading : Reading) (p : Program) (binds : IsBind
   given_named fails (mark_of name) s steady may = mark_named fails name s
   given_named fails clean_up s steady may = tt
 
-  given_grows : (fails : Bool) (event : Event) (s : State) → Grows s.world.visible (give settings reading p fails event s).next.world.visible
-  given_grows fails (turn_of session) s = by (bound_line reading session (next_line p s.places session) s.world.visible)
+  given_grows : (fails : Bool) (event : Event) (s : State) → Grows s.world.visible (give rules fails event s).next.world.visible
+  given_grows fails (turn_of session) s = by (bound_line rules.reading session (next_line rules.program s.places session) s.world.visible)
     where
-      by : (r : Result Bound Fault) → Grows s.world.visible (read_turn (outcome_of settings fails s.world.upkeep) (pending_tasks s.world) session r s.world.visible).next
-      by (Ok b) = turn_grows (outcome_of settings fails s.world.upkeep) (pending_tasks s.world) session b s.world.visible
+      by : (r : Result Bound Fault) → Grows s.world.visible (read_turn (outcome_of rules.settings fails s.world.upkeep) (pending_tasks s.world) session r s.world.visible).next
+      by (Ok b) = turn_grows (outcome_of rules.settings fails s.world.upkeep) (pending_tasks s.world) session b s.world.visible
       by (Err f) = grown s.world.visible
   given_grows fails (fetch_of worker) s = grown s.world.visible
   given_grows fails (install_of worker) s = grown s.world.visible
   given_grows fails (release_of worker) s = grown s.world.visible
   given_grows fails (mark_of name) s = by (view_named s.world.visible.views name)
     where
-      by : (x : Option ℕ) → Grows s.world.visible (mark_by settings reading p fails x name s).next.world.visible
+      by : (x : Option ℕ) → Grows s.world.visible (mark_by rules fails x name s).next.world.visible
       by None = grown s.world.visible
       by (Some v) = grown s.world.visible
   given_grows fails clean_up s = grown s.world.visible
 
-  entry_grows : (s : State) (e : Entry) → Grows s.world.visible (after_entry settings reading p s e).world.visible
+  entry_grows : (s : State) (e : Entry) → Grows s.world.visible (after_entry rules s e).world.visible
   entry_grows s e = by (event_of s e)
     where
-      by : (x : Option Event) → Grows s.world.visible (after_by settings reading p x s e).world.visible
+      by : (x : Option Event) → Grows s.world.visible (after_by rules x s e).world.visible
       by None = grown s.world.visible
       by (Some event) = given_grows (shows_failure e) event s
 
-  after_grows : (s : State) (es : List Entry) → Grows s.world.visible (after settings reading p s es).world.visible
+  after_grows : (s : State) (es : List Entry) → Grows s.world.visible (after rules s es).world.visible
   after_grows s [] = grown s.world.visible
   after_grows s (e ∷ es) =
-      grows_on s.world.visible (after_entry settings reading p s e).world.visible (after settings reading p (after_entry settings reading p s e) es).world.visible (entry_grows s e)
-      (after_grows (after_entry settings reading p s e) es)
+      grows_on s.world.visible (after_entry rules s e).world.visible (after rules (after_entry rules s e) es).world.visible (entry_grows s e)
+      (after_grows (after_entry rules s e) es)
 
-  entry_named : (s : State) (e : Entry) → IsSteady s.world → MayCome settings reading p s e → IsNamedEntry (in_use p s.world.visible) e
+  entry_named : (s : State) (e : Entry) → IsSteady s.world → MayCome rules s e → IsNamedEntry (in_use rules.program s.world.visible) e
   entry_named s e steady may = by (event_of s e) may
     where
-      by : (x : Option Event) → MayComeBy settings reading p x s e → IsNamedEntry (in_use p s.world.visible) e
+      by : (x : Option Event) → MayComeBy rules x s e → IsNamedEntry (in_use rules.program s.world.visible) e
       by None h = absurd h
-      by (Some event) h = subst (IsNamedEntry (in_use p s.world.visible)) h.1 (given_named (shows_failure e) event s steady h.0)
+      by (Some event) h = subst (IsNamedEntry (in_use rules.program s.world.visible)) h.1 (given_named (shows_failure e) event s steady h.0)
 
-  entry_steady : (s : State) (e : Entry) → IsSteady s.world → IsSteady (after_entry settings reading p s e).world
+  entry_steady : (s : State) (e : Entry) → IsSteady s.world → IsSteady (after_entry rules s e).world
   entry_steady s e steady = by (event_of s e)
     where
-      by : (x : Option Event) → IsSteady (after_by settings reading p x s e).world
+      by : (x : Option Event) → IsSteady (after_by rules x s e).world
       by None = steady
-      by (Some event) = given_steady settings reading p (shows_failure e) event s binds limits steady
+      by (Some event) = given_steady rules (shows_failure e) event s binds limits steady
 
-  pub entries_named : (s : State) (es : List Entry) → IsSteady s.world → Legal settings reading p s es → AreNamed (in_use p (after settings reading p s es).world.visible) es
+  pub entries_named : (s : State) (es : List Entry) → IsSteady s.world → Legal rules s es → AreNamed (in_use rules.program (after rules s es).world.visible) es
   entries_named s [] steady legal = tt
   entries_named s (e ∷ es) steady legal =
-      let next = after_entry settings reading p s e in
-      let end = (after settings reading p next es).world.visible in
+      let next = after_entry rules s e in
+      let end = (after rules next es).world.visible in
       let more = grows_on s.world.visible next.world.visible end (entry_grows s e) (after_grows next es) in (
-        entry_more (in_use p s.world.visible) (in_use p end) e (record { sessions = omega arith; tables = more.tables; views = more.views }) (entry_named s e steady legal.0),
+        entry_more (in_use rules.program s.world.visible) (in_use rules.program end) e (record { sessions = omega arith; tables = more.tables; views = more.views }) (entry_named s e steady legal.0),
         entries_named next es (entry_steady s e steady) legal.1,
       )

@@ -20,17 +20,19 @@ use Rattle.lv_schema.specs.Effects.{Effect, effect_of, first_fault}
 use Rattle.lv_schema.specs.Records.{commit_record, table_record, view_record}
 use Rattle.lv_schema.specs.Tasks.{pending_tasks}
 use Rattle.lv_schema.specs.UpkeepCases.{outcome_of}
-use Rattle.lv_schema.specs.World.{Visible, Settings, empty_world, last, opened, transaction}
+use Rattle.lv_schema.specs.World.{Visible, empty_world, last, opened, transaction}
 use Rattle.lv_plain.specs.declared.entry.Entry.{Entry}
 use Rattle.lv_plain.specs.declared.entry.Reply.TheVariants.{Changed, Alone}
 use Rattle.lv_plain.specs.declared.program.Program.{Program}
 use Rattle.lv_plain.specs.declared.program.Script.{Script}
-use Rattle.lv_plain.specs.Events.{Event, turn_of, fetch_of, install_of, release_of, mark_of, clean_up}
+use Rattle.lv_plain.specs.declared.event.Event.{Event}
+use Rattle.lv_plain.specs.declared.event.Event.TheVariants.{Turn as turn_of, Fetch as fetch_of, Install as install_of, Release as release_of, Mark as mark_of, Clean as clean_up}
 use Rattle.lv_plain.specs.Legal.{Legal, MayComeBy, MayHappen, after, after_by, after_entry, begun, event_of, shows_failure}
 use Rattle.lv_plain.specs.Limits.{IsWithinLimits}
 use Rattle.lv_plain.specs.Machine.{State, give, mark_by}
 use Rattle.lv_plain.specs.Programs.{has_more, lines_of, may_turn, next_line, no_script, session_count, setup_answered}
-use Rattle.lv_plain.specs.Turns.{Reading, bound_line, bound_turn, is_open, read_turn, turn_by}
+use Rattle.lv_plain.specs.Rules.{Rules}
+use Rattle.lv_plain.specs.Turns.{bound_line, bound_turn, is_open, read_turn, turn_by}
 use Rattle.lv_plain.proofs.Outside.{set_twice}
 
 -- ---- what a statement does to the transactions: the others change as little as before, that of its session once more at most
@@ -256,8 +258,8 @@ first_place : (places : List ℕ) (n x : ℕ) → slice_index (slice_set places 
 first_place [] n x = refl
 first_place (p ∷ places) n x = refl
 
-module _ (settings : Settings) (reading : Reading) (p : Program) (fails : Bool) where
-  turn_keeps : (session : ℕ) (s : State) → may_turn p s.places session ≡ true → Kept p s → Kept p (give settings reading p fails (turn_of session) s).next
+module _ (rules : Rules) (fails : Bool) where
+  turn_keeps : (session : ℕ) (s : State) → may_turn rules.program s.places session ≡ true → Kept rules.program s → Kept rules.program (give rules fails (turn_of session) s).next
   turn_keeps session s may kept = record {
     count = length-set s.places session (place + 1) ∙ kept.count;
     few = λ k. few_at k (eq_cases k session);
@@ -268,13 +270,13 @@ module _ (settings : Settings) (reading : Reading) (p : Program) (fails : Bool) 
       place = slice_index s.places session
 
       next : State
-      next = (give settings reading p fails (turn_of session) s).next
+      next = (give rules fails (turn_of session) s).next
 
       moves : Moves session s.world.visible.sessions next.world.visible.sessions
-      moves = read_moves (outcome_of settings fails s.world.upkeep) session (pending_tasks s.world) (bound_line reading session (next_line p s.places session) s.world.visible) s.world.visible
+      moves = read_moves (outcome_of rules.settings fails s.world.upkeep) session (pending_tasks s.world) (bound_line rules.reading session (next_line rules.program s.places session) s.world.visible) s.world.visible
 
       there : session < length s.places
-      there = omega (arith, kept.count, session_in p s.places session may)
+      there = omega (arith, kept.count, session_in rules.program s.places session may)
 
       few_at : (k : ℕ) → (k ≡ session) ⊎ (k ≡ session → ⊥) → Few (get_or next.world.visible.sessions k None) (slice_index next.places k)
       few_at k (inr ne) =
@@ -285,26 +287,26 @@ module _ (settings : Settings) (reading : Reading) (p : Program) (fails : Bool) 
           (subst (Few (get_or next.world.visible.sessions session None)) (sym (get_or-set_same s.places session (place + 1) 0 there))
           (few_grown (get_or s.world.visible.sessions session None) (get_or next.world.visible.sessions session None) place moves.own (kept.few session)))
 
-      first_by : (n : ℕ) → n ≡ session → setup_answered p next.places ≡ false → (k : ℕ) → 0 < k → get_or next.world.visible.sessions k None ≡ None
+      first_by : (n : ℕ) → n ≡ session → setup_answered rules.program next.places ≡ false → (k : ℕ) → 0 < k → get_or next.world.visible.sessions k None ≡ None
       first_by zero e open_yet k pos =
-          let more : has_more p s.places 0 ≡ true = subst (λ n. has_more p s.places n ≡ true) (sym e) (and_first (has_more p s.places session) _ may) in
+          let more : has_more rules.program s.places 0 ≡ true = subst (λ n. has_more rules.program s.places n ≡ true) (sym e) (and_first (has_more rules.program s.places session) _ may) in
           none_same (get_or s.world.visible.sessions k None) (get_or next.world.visible.sessions k None) (moves.others k (λ same. omega (arith, same, e)))
-          (kept.first (not_answered (has_more p s.places 0) more) k pos)
+          (kept.first (not_answered (has_more rules.program s.places 0) more) k pos)
       first_by (suc n) e open_yet k pos =
-          let may_too : may_turn p s.places (suc n) ≡ true = subst (λ m. may_turn p s.places m ≡ true) (sym e) may in
-          let done : setup_answered p s.places ≡ true = or_second (suc n == 0) (setup_answered p s.places) (not_zero n) (and_second (has_more p s.places (suc n)) _ may_too) in
+          let may_too : may_turn rules.program s.places (suc n) ≡ true = subst (λ m. may_turn rules.program s.places m ≡ true) (sym e) may in
+          let done : setup_answered rules.program s.places ≡ true = or_second (suc n == 0) (setup_answered rules.program s.places) (not_zero n) (and_second (has_more rules.program s.places (suc n)) _ may_too) in
           let set_is : slice_index next.places 0 ≡ slice_index s.places 0 = subst (λ m. slice_index (slice_set s.places m (place + 1)) 0 ≡ slice_index s.places 0) e (first_place s.places n (place + 1)) in
-          let same : setup_answered p next.places ≡ setup_answered p s.places = ap (λ n. not (nat_lt n (length p.setup))) set_is in
+          let same : setup_answered rules.program next.places ≡ setup_answered rules.program s.places = ap (λ n. not (nat_lt n (length rules.program.setup))) set_is in
           absurd cc
 
-  given_keeps : (event : Event) (s : State) → MayHappen p s event → Kept p s → Kept p (give settings reading p fails event s).next
+  given_keeps : (event : Event) (s : State) → MayHappen rules.program s event → Kept rules.program s → Kept rules.program (give rules fails event s).next
   given_keeps (turn_of session) s may kept = turn_keeps session s may kept
   given_keeps (fetch_of worker) s may kept = record { count = kept.count; few = kept.few; first = kept.first }
   given_keeps (install_of worker) s may kept = record { count = kept.count; few = kept.few; first = kept.first }
   given_keeps (release_of worker) s may kept = record { count = kept.count; few = kept.few; first = kept.first }
   given_keeps (mark_of name) s may kept = by (view_named s.world.visible.views name)
     where
-      by : (v : Option ℕ) → Kept p (mark_by settings reading p fails v name s).next
+      by : (v : Option ℕ) → Kept rules.program (mark_by rules fails v name s).next
       by None = kept
       by (Some v) = record { count = kept.count; few = kept.few; first = kept.first }
   given_keeps clean_up s may kept = record { count = kept.count; few = kept.few; first = kept.first }
@@ -321,24 +323,24 @@ length_all : (n x : ℕ) → length (replicate n x) ≡ n
 length_all zero x = refl
 length_all (suc n) x = omega (arith, length_all n x)
 
-module _ (settings : Settings) (reading : Reading) (p : Program) where
-  entries_keep : (s : State) (es : List Entry) → Legal settings reading p s es → Kept p s → Kept p (after settings reading p s es)
+module _ (rules : Rules) where
+  entries_keep : (s : State) (es : List Entry) → Legal rules s es → Kept rules.program s → Kept rules.program (after rules s es)
   entries_keep s [] legal kept = kept
-  entries_keep s (e ∷ es) legal kept = entries_keep (after_entry settings reading p s e) es legal.1 (by (event_of s e) legal.0)
+  entries_keep s (e ∷ es) legal kept = entries_keep (after_entry rules s e) es legal.1 (by (event_of s e) legal.0)
     where
-      by : (event : Option Event) → MayComeBy settings reading p event s e → Kept p (after_by settings reading p event s e)
+      by : (event : Option Event) → MayComeBy rules event s e → Kept rules.program (after_by rules event s e)
       by None may = absurd may
-      by (Some event) may = given_keeps settings reading p (shows_failure e) event s may.0 kept
+      by (Some event) may = given_keeps rules (shows_failure e) event s may.0 kept
 
-  start_kept : Kept p (begun settings reading p empty_world)
+  start_kept : Kept rules.program (begun rules empty_world)
   start_kept = record {
-    count = length_all (session_count p) 0;
-    few = λ k. subst (λ o. Few o (slice_index (begun settings reading p empty_world).places k)) (sym (none_live 17 k)) tt;
+    count = length_all (session_count rules.program) 0;
+    few = λ k. subst (λ o. Few o (slice_index (begun rules empty_world).places k)) (sym (none_live 17 k)) tt;
     first = λ open_yet k pos. none_live 17 k;
   }
 
-  pub sessions_kept : (es : List Entry) → Legal settings reading p (begun settings reading p empty_world) es → Kept p (after settings reading p (begun settings reading p empty_world) es)
-  sessions_kept es legal = entries_keep (begun settings reading p empty_world) es legal start_kept
+  pub sessions_kept : (es : List Entry) → Legal rules (begun rules empty_world) es → Kept rules.program (after rules (begun rules empty_world) es)
+  sessions_kept es legal = entries_keep (begun rules empty_world) es legal start_kept
 
 few_changes : (p : Program) (s : State) (session : ℕ) → Kept p s → (transaction session s.world.visible).changes ≤ slice_index s.places session
 few_changes p s session kept = by (get_or s.world.visible.sessions session None) (kept.few session)
@@ -347,15 +349,15 @@ few_changes p s session kept = by (get_or s.world.visible.sessions session None)
     by None h = omega arith
     by (Some o) h = h
 
-pub runs_count : (settings : Settings) (reading : Reading) (p : Program) (es : List Entry) → Legal settings reading p (begun settings reading p empty_world) es
-    → length (after settings reading p (begun settings reading p empty_world) es).places ≡ session_count p
-runs_count settings reading p es legal = (sessions_kept settings reading p es legal).count
+pub runs_count : (rules : Rules) (es : List Entry) → Legal rules (begun rules empty_world) es
+    → length (after rules (begun rules empty_world) es).places ≡ session_count rules.program
+runs_count rules es legal = (sessions_kept rules es legal).count
 
-pub runs_change_little : (settings : Settings) (reading : Reading) (p : Program) (es : List Entry) (session : ℕ) → Legal settings reading p (begun settings reading p empty_world) es
-    → (transaction session (after settings reading p (begun settings reading p empty_world) es).world.visible).changes ≤ slice_index (after settings reading p (begun settings reading p empty_world) es).places session
-runs_change_little settings reading p es session legal = few_changes p (after settings reading p (begun settings reading p empty_world) es) session (sessions_kept settings reading p es legal)
+pub runs_change_little : (rules : Rules) (es : List Entry) (session : ℕ) → Legal rules (begun rules empty_world) es
+    → (transaction session (after rules (begun rules empty_world) es).world.visible).changes ≤ slice_index (after rules (begun rules empty_world) es).places session
+runs_change_little rules es session legal = few_changes rules.program (after rules (begun rules empty_world) es) session (sessions_kept rules es legal)
 
-pub setups_come_first : (settings : Settings) (reading : Reading) (p : Program) (es : List Entry) (session : ℕ) → Legal settings reading p (begun settings reading p empty_world) es
-    → setup_answered p (after settings reading p (begun settings reading p empty_world) es).places ≡ false → 0 < session
-    → slice_index_or (after settings reading p (begun settings reading p empty_world) es).world.visible.sessions session None ≡ None
-setups_come_first settings reading p es session legal open_yet pos = (sessions_kept settings reading p es legal).first open_yet session pos
+pub setups_come_first : (rules : Rules) (es : List Entry) (session : ℕ) → Legal rules (begun rules empty_world) es
+    → setup_answered rules.program (after rules (begun rules empty_world) es).places ≡ false → 0 < session
+    → slice_index_or (after rules (begun rules empty_world) es).world.visible.sessions session None ≡ None
+setups_come_first rules es session legal open_yet pos = (sessions_kept rules es legal).first open_yet session pos

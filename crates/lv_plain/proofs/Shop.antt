@@ -21,7 +21,8 @@ use Rattle.lv_schema.specs.World.{World, Settings}
 use Rattle.lv_plain.specs.declared.entry.Entry.{Entry}
 use Rattle.lv_plain.specs.declared.program.OrderItem.{OrderItem}
 use Rattle.lv_plain.specs.declared.program.Program.{Program}
-use Rattle.lv_plain.specs.Events.{Event, schedule}
+use Rattle.lv_plain.specs.declared.event.Event.{Event}
+use Rattle.lv_plain.specs.Events.{schedule}
 use Rattle.lv_plain.specs.Machine.{State, give}
 use Rattle.lv_plain.specs.Programs.{first_places}
 use Rattle.lv_plain.specs.Turns.{Reading}
@@ -95,7 +96,7 @@ line k = k ∷ []
 -- the entries of events, where no write fails
 abbrev pub run : Settings → List Bound → Program → State → List Event → List Entry
 run settings statements p s [] = []
-run settings statements p s (e ∷ es) = let given = give settings (reading statements) p false e s in given.entry ∷ run settings statements p given.next es
+run settings statements p s (e ∷ es) = let given = give (record { settings = settings; reading = reading statements; program = p }) false e s in given.entry ∷ run settings statements p given.next es
 
 -- two sessions, and an order
 abbrev pub program_of : List (List ℕ) → List (List ℕ) → List OrderItem → Program

@@ -1,19 +1,12 @@
 -- Events, and the order in which a program asks for them.
 use Rattle.std.specs.Prelude.{ℕ, ◌-◌, ◌==◌, nat_lt, max, Bool, false, List, [], ◌∷◌, ◌++◌, length, map, filter, replicate}
 use Rattle.std.specs.List.{flat_map, range_with_len, count_by}
+use Rattle.lv_plain.specs.declared.event.Event.{Event}
+use Rattle.lv_plain.specs.declared.event.Event.TheVariants.{Turn as turn_of, Fetch as fetch_of, Install as install_of, Mark as mark_of, Clean as clean_up}
 use Rattle.lv_plain.specs.declared.program.OrderItem.{OrderItem}
 use Rattle.lv_plain.specs.declared.program.OrderItem.TheVariants as item
 use Rattle.lv_plain.specs.declared.program.Program.{Program}
 use Rattle.lv_plain.specs.Programs.{lines_of}
-
--- what may happen: a session's next statement, what a worker does, a mark of the view with this name, a clean-up
-pub data Event : Type 0 where
-  turn_of : ℕ → Event
-  fetch_of : ℕ → Event
-  install_of : ℕ → Event
-  release_of : ℕ → Event
-  mark_of : List ℕ → Event
-  clean_up : Event
 
 -- the events of an item of the order
 abbrev pub item_events : OrderItem → List Event

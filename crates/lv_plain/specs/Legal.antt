@@ -4,7 +4,7 @@ use Rattle.lv_values.specs.Names.{is_lower_name}
 use Rattle.lv_schema.specs.declared.fault.Fault.{Fault}
 use Rattle.lv_schema.specs.declared.fault.Fault.TheVariants.{Store}
 use Rattle.lv_schema.specs.UpkeepCases.{claim_of}
-use Rattle.lv_schema.specs.World.{World, view_at, Settings}
+use Rattle.lv_schema.specs.World.{World, view_at}
 use Rattle.lv_plain.specs.declared.entry.Entry.{Entry}
 use Rattle.lv_plain.specs.declared.entry.Entry.TheVariants as entry
 use Rattle.lv_plain.specs.declared.entry.MarkOutcome.{MarkOutcome}
@@ -12,10 +12,11 @@ use Rattle.lv_plain.specs.declared.entry.MarkOutcome.TheVariants as outcome
 use Rattle.lv_plain.specs.declared.entry.Reply.{Reply}
 use Rattle.lv_plain.specs.declared.entry.Reply.TheVariants as reply
 use Rattle.lv_plain.specs.declared.program.Program.{Program}
-use Rattle.lv_plain.specs.Events.{Event, turn_of, fetch_of, install_of, release_of, mark_of, clean_up}
+use Rattle.lv_plain.specs.declared.event.Event.{Event}
+use Rattle.lv_plain.specs.declared.event.Event.TheVariants.{Turn as turn_of, Fetch as fetch_of, Install as install_of, Release as release_of, Mark as mark_of, Clean as clean_up}
 use Rattle.lv_plain.specs.Machine.{State, give}
+use Rattle.lv_plain.specs.Rules.{Rules}
 use Rattle.lv_plain.specs.Programs.{first_places, may_turn, setup_answered, all_answered}
-use Rattle.lv_plain.specs.Turns.{Reading}
 
 -- whether an entry shows that the disk failed
 abbrev pub is_store : Fault → Bool
@@ -64,18 +65,18 @@ MayHappen p s (release_of worker) = IsWorker worker × (setup_answered p s.place
 MayHappen p s (mark_of name) = (is_lower_name name ≡ true) × (setup_answered p s.places ≡ true)
 MayHappen p s clean_up = setup_answered p s.places ≡ true
 
-module _ (settings : Settings) (reading : Reading) (p : Program) where
+module _ (rules : Rules) where
   -- an entry may come: it is that of its event, which may happen, with the outcome that it shows
   abbrev pub MayComeBy : Option Event → State → Entry → Type 0
   MayComeBy None s e = ⊥
-  MayComeBy (Some event) s e = MayHappen p s event × ((give settings reading p (shows_failure e) event s).entry ≡ e)
+  MayComeBy (Some event) s e = MayHappen rules.program s event × ((give rules (shows_failure e) event s).entry ≡ e)
 
   abbrev pub MayCome : State → Entry → Type 0
   MayCome s e = MayComeBy (event_of s e) s e
 
   abbrev pub after_by : Option Event → State → Entry → State
   after_by None s e = s
-  after_by (Some event) s e = (give settings reading p (shows_failure e) event s).next
+  after_by (Some event) s e = (give rules (shows_failure e) event s).next
 
   abbrev pub after_entry : State → Entry → State
   after_entry s e = after_by (event_of s e) s e
@@ -99,9 +100,9 @@ module _ (settings : Settings) (reading : Reading) (p : Program) where
 
   -- a program begins in a world with each session at its first statement
   abbrev pub begun : World → State
-  begun w = record { world = w; places = first_places p }
+  begun w = record { world = w; places = first_places rules.program }
 
   -- entries of the whole program from a world: they are legal, and no statement is left
   pub record Whole (opened : World) (es : List Entry) : Type 0 where
     pub legal : Legal (begun opened) es
-    pub answered : all_answered p (after (begun opened) es).places ≡ true
+    pub answered : all_answered rules.program (after (begun opened) es).places ≡ true

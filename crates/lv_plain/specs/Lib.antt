@@ -1,5 +1,6 @@
 pub mod Programs
 pub mod Turns
+pub mod Rules
 pub mod Events
 pub mod Named
 pub mod Machine

@@ -12,10 +12,11 @@ use Rattle.lv_plain.specs.declared.entry.Entry.{Entry}
 use Rattle.lv_plain.specs.declared.entry.Entry.TheVariants as entry
 use Rattle.lv_plain.specs.declared.entry.MarkOutcome.{MarkOutcome}
 use Rattle.lv_plain.specs.declared.entry.MarkOutcome.TheVariants.{Upto, Already, Refused}
-use Rattle.lv_plain.specs.declared.program.Program.{Program}
-use Rattle.lv_plain.specs.Events.{Event, turn_of, fetch_of, install_of, release_of, mark_of, clean_up}
+use Rattle.lv_plain.specs.declared.event.Event.{Event}
+use Rattle.lv_plain.specs.declared.event.Event.TheVariants.{Turn as turn_of, Fetch as fetch_of, Install as install_of, Release as release_of, Mark as mark_of, Clean as clean_up}
 use Rattle.lv_plain.specs.Programs.{Places, next_line}
-use Rattle.lv_plain.specs.Turns.{Reading, bound_line, read_turn}
+use Rattle.lv_plain.specs.Rules.{Rules}
+use Rattle.lv_plain.specs.Turns.{bound_line, read_turn}
 
 -- the world, and how many statements of each session are answered
 pub record State : Type 0 where
@@ -30,27 +31,27 @@ pub record Given : Type 0 where
 abbrev pub with_upkeep : State → Upkeep → State
 with_upkeep s u = record s { world = record s.world { upkeep = u } }
 
-module _ (settings : Settings) (reading : Reading) (p : Program) (fails : Bool) where
-  -- the steps that a statement forces: those of a query, and of no other
-  abbrev pub steps_of : ℕ → Result Bound Fault → World → List Forced
-  steps_of session (Err fault) w = []
-  steps_of session (Ok (bound.Table def)) w = []
-  steps_of session (Ok (bound.View def)) w = []
-  steps_of session (Ok (bound.Change change)) w = []
-  steps_of session (Ok (bound.Query query)) w = forced_by settings session query w
-  steps_of session (Ok (bound.Begin)) w = []
-  steps_of session (Ok (bound.Commit)) w = []
-  steps_of session (Ok (bound.Rollback)) w = []
-  steps_of session (Ok (bound.Tasks)) w = []
+-- the steps that a statement forces: those of a query, and of no other
+abbrev pub steps_of : Settings → ℕ → Result Bound Fault → World → List Forced
+steps_of settings session (Err fault) w = []
+steps_of settings session (Ok (bound.Table def)) w = []
+steps_of settings session (Ok (bound.View def)) w = []
+steps_of settings session (Ok (bound.Change change)) w = []
+steps_of settings session (Ok (bound.Query query)) w = forced_by settings session query w
+steps_of settings session (Ok (bound.Begin)) w = []
+steps_of settings session (Ok (bound.Commit)) w = []
+steps_of settings session (Ok (bound.Rollback)) w = []
+steps_of settings session (Ok (bound.Tasks)) w = []
 
+module _ (rules : Rules) (fails : Bool) where
   -- a turn: the session's next statement is answered
   abbrev pub turn_given : ℕ → State → Given
   turn_given session s =
       let w = s.world in
       let place = slice_index s.places session in
-      let line = bound_line reading session (next_line p s.places session) w.visible in
-      let steps = steps_of session line w in
-      let turn = read_turn (outcome_of settings fails w.upkeep) (pending_tasks w) session line w.visible in
+      let line = bound_line rules.reading session (next_line rules.program s.places session) w.visible in
+      let steps = steps_of rules.settings session line w in
+      let turn = read_turn (outcome_of rules.settings fails w.upkeep) (pending_tasks w) session line w.visible in
       record {
         entry = entry.Session session (place + 1) steps turn.reply;
         next = record {
@@ -66,7 +67,7 @@ module _ (settings : Settings) (reading : Reading) (p : Program) (fails : Bool) 
   fetch_entry worker (fetched f) = entry.Fetched worker f.view f.lo f.hi
 
   abbrev pub fetch_given : ℕ → State → Given
-  fetch_given worker s = let done = fetching settings worker s.world in record { entry = fetch_entry worker done.0; next = with_upkeep s done.1 }
+  fetch_given worker s = let done = fetching rules.settings worker s.world in record { entry = fetch_entry worker done.0; next = with_upkeep s done.1 }
 
   -- an install
   abbrev pub install_entry : ℕ → Installed → Entry
@@ -86,7 +87,7 @@ module _ (settings : Settings) (reading : Reading) (p : Program) (fails : Bool) 
   abbrev pub mark_by : Option ℕ → List ℕ → State → Given
   mark_by None name s = record { entry = entry.MarkUnknown name; next = s }
   mark_by (Some v) name s =
-      let done = marking (outcome_of settings fails s.world.upkeep) v s.world.upkeep in
+      let done = marking (outcome_of rules.settings fails s.world.upkeep) v s.world.upkeep in
       record { entry = entry.Marked v (mark_outcome done.answer); next = with_upkeep s done.next }
 
   -- a clean-up
