@@ -6,51 +6,49 @@ use Rattle.std.proofs.lemmas.Grind.{common_steps}
 use Rattle.std.proofs.lemmas.List.{get_or_past}
 use Rattle.std.proofs.lemmas.List.Folds.{sum_by-replicate}
 use Rattle.std.proofs.lemmas.List.Sums.{sum_by-append, sum_by-cons}
-use Rattle.lv_schema.specs.World.{Settings}
+use Rattle.lv_schema.specs.Catalog.{view_named}
 use Rattle.lv_plain.specs.declared.entry.Entry.{Entry}
 use Rattle.lv_plain.specs.declared.program.OrderItem.{OrderItem}
 use Rattle.lv_plain.specs.declared.program.OrderItem.TheVariants as item
 use Rattle.lv_plain.specs.declared.program.Program.{Program}
 use Rattle.lv_plain.specs.declared.program.Script.{Script}
-use Rattle.lv_plain.specs.Events.{Event, turn_of, fetch_of, install_of, release_of, mark_of, clean_up, item_events, is_turn_of, left_over, greatest, round, rounds, schedule}
+use Rattle.lv_plain.specs.declared.event.Event.{Event}
+use Rattle.lv_plain.specs.declared.event.Event.TheVariants.{Turn as turn_of, Fetch as fetch_of, Install as install_of, Release as release_of, Mark as mark_of, Clean as clean_up}
+use Rattle.lv_plain.specs.Events.{item_events, is_turn_of, left_over, greatest, round, rounds, schedule}
 use Rattle.lv_plain.specs.Following.{IsItem, IsFollowable}
-use Rattle.lv_plain.specs.Legal.{after, after_by, after_entry, event_of, events_by, events_of}
-use Rattle.lv_plain.specs.Machine.{State}
+use Rattle.lv_plain.specs.Legal.{after, after_by, after_entry, event_of, events_by, events_of, shows_failure}
+use Rattle.lv_plain.specs.Machine.{State, give, mark_by}
 use Rattle.lv_plain.specs.Programs.{Places, no_script, lines_of}
-use Rattle.lv_plain.specs.Turns.{Reading}
-use Rattle.lv_order.specs.Places.{one_more}
+use Rattle.lv_plain.specs.Rules.{Rules}
+use Rattle.lv_order.specs.Places.{counted}
 
--- places depend only on whose turns there were
-module _ (settings : Settings) (reading : Reading) (p : Program) where
-  pub places_from : (s : State) (es : List Entry) (turns : List ℕ) → events_of settings reading p s es ≡ map turn_of turns → (after settings reading p s es).places ≡ fold one_more s.places turns
-  places_from s [] [] same = refl
-  places_from s [] (t ∷ turns) same = cc
-  places_from s (e ∷ es) turns same = by (event_of s e) turns same (places_from (after_entry settings reading p s e) es)
+-- places depend only on events
+mark_places : (rules : Rules) (fails : Bool) (v : Option ℕ) (name : List ℕ) (s : State) → (mark_by rules fails v name s).next.places ≡ s.places
+mark_places rules fails None name s = refl
+mark_places rules fails (Some v) name s = refl
+
+given_places : (rules : Rules) (fails : Bool) (event : Event) (s : State) → (give rules fails event s).next.places ≡ counted s.places event
+given_places rules fails (turn_of session) s = refl
+given_places rules fails (fetch_of worker) s = refl
+given_places rules fails (install_of worker) s = refl
+given_places rules fails (release_of worker) s = refl
+given_places rules fails (mark_of name) s = mark_places rules fails (view_named s.world.visible.views name) name s
+given_places rules fails clean_up s = refl
+
+module _ (rules : Rules) where
+  pub places_from : (s : State) (es : List Entry) → (after rules s es).places ≡ fold counted s.places (events_of rules s es)
+  places_from s [] = refl
+  places_from s (e ∷ es) = by (event_of s e) (places_from (after_entry rules s e) es)
     where
       Later : State → Type 0
-      Later next = (ts : List ℕ) → events_of settings reading p next es ≡ map turn_of ts → (after settings reading p next es).places ≡ fold one_more next.places ts
+      Later next = (after rules next es).places ≡ fold counted next.places (events_of rules next es)
 
-      by : (x : Option Event) (ts : List ℕ) → events_by settings reading p x (events_of settings reading p (after_by settings reading p x s e) es) ≡ map turn_of ts
-          → Later (after_by settings reading p x s e) → (after settings reading p (after_by settings reading p x s e) es).places ≡ fold one_more s.places ts
-      by None ts same later = later ts same
-      by (Some (turn_of session)) [] same later = cc
-      by (Some (turn_of session)) (t ∷ ts) same later =
-          let now : session ≡ t = cc in
-          let rest : events_of settings reading p (after_by settings reading p (Some (turn_of session)) s e) es ≡ map turn_of ts = cc in
-          later ts rest ∙ ap (λ u. fold one_more (one_more s.places u) ts) now
-      by (Some (fetch_of worker)) [] same later = cc
-      by (Some (fetch_of worker)) (t ∷ ts) same later = absurd (cc)
-      by (Some (install_of worker)) [] same later = cc
-      by (Some (install_of worker)) (t ∷ ts) same later = absurd (cc)
-      by (Some (release_of worker)) [] same later = cc
-      by (Some (release_of worker)) (t ∷ ts) same later = absurd (cc)
-      by (Some (mark_of name)) [] same later = cc
-      by (Some (mark_of name)) (t ∷ ts) same later = absurd (cc)
-      by (Some clean_up) [] same later = cc
-      by (Some clean_up) (t ∷ ts) same later = absurd (cc)
+      by : (x : Option Event) → Later (after_by rules x s e) → (after rules (after_by rules x s e) es).places ≡ fold counted s.places (events_by rules x (events_of rules (after_by rules x s e) es))
+      by None later = later
+      by (Some event) later = later ∙ ap (λ places. fold counted places (events_of rules (after_by rules (Some event) s e) es)) (given_places rules (shows_failure e) event s)
 
 -- whether a turn is a session's
-abbrev pub is_session : ℕ → ℕ → Bool
+abbrev is_session : ℕ → ℕ → Bool
 is_session s other = other == s
 
 -- whether an event is a turn of a session
@@ -63,21 +61,33 @@ shows s (mark_of view) = false
 shows s clean_up = false
 
 -- a session's place counts its turns
-pub length-places : (places : Places) (turns : List ℕ) → length (fold one_more places turns) ≡ length places
-length-places places [] = refl
-length-places places (x ∷ turns) = grind (arith, common_steps, length-places (one_more places x) turns)
+length-counted : (places : Places) (event : Event) → length (counted places event) ≡ length places
+length-counted places (turn_of session) = grind (arith, common_steps)
+length-counted places (fetch_of worker) = refl
+length-counted places (install_of worker) = refl
+length-counted places (release_of worker) = refl
+length-counted places (mark_of name) = refl
+length-counted places clean_up = refl
 
-one_more_at : (places : Places) (x s : ℕ) → s < length places → slice_index (one_more places x) s ≡ slice_index places s + cond (is_session s x) 1 0
-one_more_at places x s lt = grind (arith, common_steps)
+counted_at : (places : Places) (event : Event) (s : ℕ) → s < length places → slice_index (counted places event) s ≡ slice_index places s + cond (shows s event) 1 0
+counted_at places (turn_of session) s lt = grind (arith, common_steps)
+counted_at places (fetch_of worker) s lt = omega arith
+counted_at places (install_of worker) s lt = omega arith
+counted_at places (release_of worker) s lt = omega arith
+counted_at places (mark_of name) s lt = omega arith
+counted_at places clean_up s lt = omega arith
 
-pub place_counts : (places : Places) (turns : List ℕ) (s : ℕ) → s < length places → slice_index (fold one_more places turns) s ≡ slice_index places s + count_by (is_session s) turns
+pub place_counts : (places : Places) (events : List Event) (s : ℕ) → s < length places → slice_index (fold counted places events) s ≡ slice_index places s + count_by (shows s) events
 place_counts places [] s lt = grind (arith, common_steps)
-place_counts places (x ∷ turns) s lt =
-    let there : s < length (one_more places x) = grind (arith, common_steps) in
-    grind (arith, common_steps, place_counts (one_more places x) turns s there, one_more_at places x s lt)
+place_counts places (event ∷ events) s lt =
+    let there : s < length (counted places event) = omega (arith, lt, length-counted places event) in
+    let rest = place_counts (counted places event) events s there in
+    let first = counted_at places event s lt in
+    let more = sum_by-cons (λ e. cond (shows s e) 1 0) event events in
+    omega (arith, rest, first, more)
 
 -- turns, and the events that they are
-pub count_turns : (s : ℕ) (turns : List ℕ) → count_by (shows s) (map turn_of turns) ≡ count_by (is_session s) turns
+count_turns : (s : ℕ) (turns : List ℕ) → count_by (shows s) (map turn_of turns) ≡ count_by (is_session s) turns
 count_turns s [] = refl
 count_turns s (x ∷ turns) = grind (arith, common_steps, count_turns s turns)
 
@@ -188,13 +198,13 @@ by_parts p s =
     omega (arith, whole, parts, first, second)
 
 -- each session has as many turns as it has statements
-pub counted : (p : Program) → IsFollowable p → (s : ℕ) → count_by (shows s) (schedule p) ≡ length (lines_of p s)
-counted p followable zero =
+pub whole_count : (p : Program) → IsFollowable p → (s : ℕ) → count_by (shows s) (schedule p) ≡ length (lines_of p s)
+whole_count p followable zero =
     let parts = by_parts p 0 in
     let order = none_of_setup p.order followable.items in
     let last = rounds_of_setup (left_over p) (length p.sessions) in
     rw (parts, order, last) (omega arith)
-counted p followable (suc i) = by (nat_lt i (length p.sessions)) refl
+whole_count p followable (suc i) = by (nat_lt i (length p.sessions)) refl
   where
     most : count_by (is_turn_of (suc i)) p.order ≤ length (lines_of p (suc i))
     most = followable.turns (suc i) (omega arith)

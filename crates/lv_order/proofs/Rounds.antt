@@ -3,8 +3,10 @@ use Rattle.std.proofs.Common.{◌≡◌, ℕ, zero, suc, ◌+◌, ◌-◌, ◌<�
 use Rattle.std.specs.List.{flat_map, range_with_len}
 use Rattle.std.proofs.lemmas.Grind.{common_steps, same_number_lists}
 use Rattle.std.proofs.lemmas.List.FromFn.{get_or-map-range_with_len, length-map-range_with_len}
-use Rattle.lv_plain.specs.Events.{Event, turn_of, greatest, round, rounds}
-use Rattle.lv_order.specs.Turns.{left_in}
+use Rattle.lv_plain.specs.declared.event.Event.{Event}
+use Rattle.lv_plain.specs.declared.event.Event.TheVariants.{Turn as turn_of}
+use Rattle.lv_plain.specs.Events.{greatest, round, rounds}
+use Rattle.lv_order.specs.Left.{left_in}
 
 -- a round with one more session
 pub round_more : (left : ℕ → ℕ) (k a n : ℕ) → round (range_with_len a (n + 1)) left k ≡ round (range_with_len a n) left k ++ cond (nat_lt k (left (a + n))) (turn_of (a + n) ∷ []) []

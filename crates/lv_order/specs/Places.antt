@@ -1,6 +1,8 @@
--- How many statements of each session are answered after turns.
+-- How many statements of each session are answered after events.
 use Rattle.std.specs.Prelude.{ℕ, ◌+◌, List, slice_index, slice_set}
 use Rattle.std.specs.List.{fold}
+use Rattle.lv_plain.specs.declared.event.Event.{Event}
+use Rattle.lv_plain.specs.declared.event.Event.TheVariants.{Turn as turn_of, Fetch as fetch_of, Install as install_of, Release as release_of, Mark as mark_of, Clean as clean_up}
 use Rattle.lv_plain.specs.declared.program.Program.{Program}
 use Rattle.lv_plain.specs.Programs.{Places, first_places}
 
@@ -8,6 +10,15 @@ use Rattle.lv_plain.specs.Programs.{Places, first_places}
 abbrev pub one_more : Places → ℕ → Places
 one_more places session = slice_set places session (slice_index places session + 1)
 
--- from the beginning of a program, after turns of these sessions
-abbrev pub places_after : Program → List ℕ → Places
-places_after p turns = fold one_more (first_places p) turns
+-- a turn counts one more of its session, and every other event changes nothing
+abbrev pub counted : Places → Event → Places
+counted places (turn_of session) = one_more places session
+counted places (fetch_of worker) = places
+counted places (install_of worker) = places
+counted places (release_of worker) = places
+counted places (mark_of name) = places
+counted places clean_up = places
+
+-- from the beginning of a program, after these events
+abbrev pub places_after : Program → List Event → Places
+places_after p events = fold counted (first_places p) events

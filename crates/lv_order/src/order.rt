@@ -1,33 +1,17 @@
-//! Sessions' turns alone, in the order in which they come.
-ghost use Rattle.std.specs.Prelude.{◌≡◌, ℕ, ◌+◌, ◌-◌, ◌<◌, ◌≤◌, ◌++◌, ◌==◌, cond, map, length, replicate, slice_index, IfNone, IfOk, IfSome, OnOk};
+//! A program's events, in the order in which they come.
+ghost use Rattle.std.specs.Prelude.{◌≡◌, ℕ, ◌+◌, ◌-◌, ◌<◌, ◌≤◌, [], ◌∷◌, ◌++◌, ◌==◌, cond, map, length, replicate, slice_index, IfOk, OnOk};
 ghost use Rattle.std.specs.List.{range_with_len, flat_map};
-ghost use Rattle.lv_plain.specs.Events.{turn_of, item_events, is_turn_of, greatest, left_over, round, rounds, schedule};
+ghost use Rattle.lv_plain.specs.declared.event.Event.TheVariants.{Turn as turn_of, Fetch as fetch_of, Install as install_of};
+ghost use Rattle.lv_plain.specs.Events.{item_events, is_turn_of, greatest, left_over, round, rounds, schedule};
 ghost use Rattle.lv_plain.specs.Limits.{IsWithinLimits, statements_of};
-ghost use Rattle.lv_order.specs.Turns.{IsTurn, AreTurns, IsFirstOther, left_in};
+ghost use Rattle.lv_order.specs.Left.{left_in};
 
-use lv_plain::{OrderItem, Program, Script};
-use lv_values::{Items, NoMemory};
+use lv_plain::{Event, Events, OrderItem, Program, Script};
+use lv_values::{Copying, Items, NoMemory};
 use std::alloc::Global;
-
-/// Turns, each the number of its session.
-pub type Turns = Items<u32>;
 
 /// For each session, from session 1 on, a number of statements.
 type Counts = Items<usize>;
-
-/// The place of the first item that is no session's turn. Cost: one test for each item before it.
-pub fn first_other(order: &[OrderItem]) -> Option<usize>
-    ensures none { IfNone result (AreTurns order.now) }
-    ensures first { IfSome result (λ place. IsFirstOther order.now place) }
-{
-    for (i, item) in order.iter().enumerate() {
-        match item {
-            OrderItem::Turn { .. } => {}
-            _ => return Some(i),
-        }
-    }
-    None
-}
 
 /// How many statements each session has.
 fn statement_counts(alloc: Global, sessions: &[Script]) -> Result<Counts, NoMemory>
@@ -73,46 +57,66 @@ fn left_of_each(alloc: Global, program: &Program) -> Result<Counts, NoMemory>
     Ok(left)
 }
 
+/// A session's turn.
+fn push_turn(events: &mut Events, session: u32) -> Result<(), NoMemory>
+    ensures { OnOk result (events.new ≡ events.old ++ turn_of session ∷ []) }
+{
+    events.push(Event::Turn { session })
+}
+
 /// The setup's turns.
-fn push_setup(turns: &mut Turns, count: usize) -> Result<(), NoMemory>
-    ensures { OnOk result (map turn_of turns.new ≡ map turn_of turns.old ++ replicate count (turn_of 0)) }
+fn push_setup(events: &mut Events, count: usize) -> Result<(), NoMemory>
+    ensures { OnOk result (events.new ≡ events.old ++ replicate count (turn_of 0)) }
 {
     for _ in 0..count {
-        turns.push(0)?;
+        push_turn(events, 0)?;
     }
     Ok(())
 }
 
-/// The turn that an item is.
-fn push_item(turns: &mut Turns, item: &OrderItem) -> Result<(), NoMemory>
-    requires { IsTurn item.now }
-    ensures { OnOk result (map turn_of turns.new ≡ map turn_of turns.old ++ item_events item.now) }
+/// A worker's fetch, and then its install.
+fn push_work(events: &mut Events, worker: u32) -> Result<(), NoMemory>
+    ensures { OnOk result (events.new ≡ events.old ++ fetch_of worker ∷ install_of worker ∷ []) }
+{
+    events.push(Event::Fetch { worker })?;
+    events.push(Event::Install { worker })
+}
+
+/// The events that an item stands for.
+fn push_item(alloc: Global, events: &mut Events, item: &OrderItem) -> Result<(), NoMemory>
+    ensures { OnOk result (events.new ≡ events.old ++ item_events item.now) }
 {
     match item {
-        OrderItem::Turn { session } => turns.push(*session),
-        _ => Ok(()),
+        OrderItem::Turn { session } => push_turn(events, *session),
+        OrderItem::Fetch { worker } => events.push(Event::Fetch { worker: *worker }),
+        OrderItem::Install { worker } => events.push(Event::Install { worker: *worker }),
+        OrderItem::Work { worker } => push_work(events, *worker),
+        OrderItem::Mark { view } => {
+            let view = view.copy(alloc)?;
+            events.push(Event::Mark { view })
+        }
+        OrderItem::Clean => events.push(Event::Clean),
     }
 }
 
-/// The order's turns.
-fn push_order(turns: &mut Turns, order: &[OrderItem]) -> Result<(), NoMemory>
-    requires { AreTurns order.now }
-    ensures { OnOk result (map turn_of turns.new ≡ map turn_of turns.old ++ flat_map item_events order.now) }
+/// The order's events.
+fn push_order(alloc: Global, events: &mut Events, order: &[OrderItem]) -> Result<(), NoMemory>
+    ensures { OnOk result (events.new ≡ events.old ++ flat_map item_events order.now) }
 {
     for item in order {
-        push_item(turns, item)?;
+        push_item(alloc, events, item)?;
     }
     Ok(())
 }
 
 /// The turns of a round, of the sessions that have more than `done` statements left.
-fn push_round(turns: &mut Turns, left: &[usize], done: usize) -> Result<(), NoMemory>
+fn push_round(events: &mut Events, left: &[usize], done: usize) -> Result<(), NoMemory>
     requires { length left.now ≤ 16 }
-    ensures { OnOk result (map turn_of turns.new ≡ map turn_of turns.old ++ round (range_with_len 1 (length left.now)) (left_in left.now) done) }
+    ensures { OnOk result (events.new ≡ events.old ++ round (range_with_len 1 (length left.now)) (left_in left.now) done) }
 {
     for (i, count) in left.iter().enumerate() {
         if done < *count {
-            turns.push(i as u32 + 1)?;
+            push_turn(events, i as u32 + 1)?;
         }
     }
     Ok(())
@@ -130,30 +134,29 @@ fn greatest_of(counts: &[usize]) -> usize
 }
 
 /// The rounds, in which the sessions take turns until none has a statement left.
-fn push_rounds(turns: &mut Turns, left: &[usize]) -> Result<(), NoMemory>
+fn push_rounds(events: &mut Events, left: &[usize]) -> Result<(), NoMemory>
     requires { length left.now ≤ 16 }
-    ensures { OnOk result (map turn_of turns.new ≡ map turn_of turns.old ++ rounds (range_with_len 1 (length left.now)) (left_in left.now)) }
+    ensures { OnOk result (events.new ≡ events.old ++ rounds (range_with_len 1 (length left.now)) (left_in left.now)) }
 {
     for done in 0..greatest_of(left) {
-        push_round(turns, left, done)?;
+        push_round(events, left, done)?;
     }
     Ok(())
 }
 
-/// The turns of a program, each the number of its session, in the order in which they come: the setup's, which is
-/// session 0; those of the order; and what the order leaves, in rounds over the sessions as they are declared, in
-/// each one turn for each session that has a statement left.
+/// The events of a program in the order in which they come: the setup's turns, which is session 0; what the order's
+/// items stand for, of which `work` is a fetch and an install; and what the order leaves, in rounds over the sessions
+/// as they are declared, in each one turn for each session that has a statement left.
 ///
-/// Cost: one step for each turn and, in each round, for each session.
-pub fn turns_in_order(alloc: Global, program: &Program) -> Result<Turns, NoMemory>
+/// Cost: one step for each event and, in each round, for each session; a mark's name is copied.
+pub fn events_in_order(alloc: Global, program: &Program) -> Result<Events, NoMemory>
     requires within { IsWithinLimits program.now }
-    requires turns { AreTurns program.now.order }
-    ensures { IfOk result (λ turns. map turn_of turns ≡ schedule program.now) }
+    ensures { IfOk result (λ events. events ≡ schedule program.now) }
 {
     let left = left_of_each(alloc, program)?;
-    let mut turns = Turns::new(alloc);
-    push_setup(&mut turns, program.setup.len())?;
-    push_order(&mut turns, program.order.as_slice())?;
-    push_rounds(&mut turns, left.as_slice())?;
-    Ok(turns)
+    let mut events = Events::new(alloc);
+    push_setup(&mut events, program.setup.len())?;
+    push_order(alloc, &mut events, program.order.as_slice())?;
+    push_rounds(&mut events, left.as_slice())?;
+    Ok(events)
 }

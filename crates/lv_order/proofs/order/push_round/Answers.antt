@@ -1,7 +1,7 @@
 use Rattle.std.proofs.Common.{arith}
 use Rattle.std.proofs.lemmas.Grind.{common_steps}
 use Rattle.lv_order.proofs.Rounds.{next_round}
-use Rattle.lv_order.proofs.order.push_round.Goals.{then-done-count+in_ok-push, else-done-count}
+use Rattle.lv_order.proofs.order.push_round.Goals.{then-done-count+in_ok-push_turn, else-done-count}
 use Rattle.lv_order.proofs.order.push_round.Goals as goal
 
 pub loop-i-preserved : goal.loop-i-preserved

@@ -2,7 +2,7 @@ use Rattle.std.proofs.Common.{length, arith}
 use Rattle.std.specs.List.{range_with_len}
 use Rattle.std.proofs.lemmas.Grind.{common_steps}
 use Rattle.lv_plain.specs.Events.{round}
-use Rattle.lv_order.specs.Turns.{left_in}
+use Rattle.lv_order.specs.Left.{left_in}
 use Rattle.lv_order.proofs.Rounds.{rounds_more, left_in_each}
 use Rattle.lv_order.proofs.order.push_rounds.Goals as goal
 

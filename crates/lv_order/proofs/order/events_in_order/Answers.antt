@@ -3,7 +3,7 @@ use Rattle.std.proofs.lemmas.Grind.{common_steps}
 use Rattle.std.proofs.lemmas.List.FromFn.{length-map-range_with_len}
 use Rattle.lv_plain.specs.Events.{left_over}
 use Rattle.lv_order.proofs.Rounds.{rounds_of_list}
-use Rattle.lv_order.proofs.order.turns_in_order.Goals as goal
+use Rattle.lv_order.proofs.order.events_in_order.Goals as goal
 
 pub push_rounds-requires : goal.push_rounds-requires
 push_rounds-requires c =
