@@ -1,17 +1,17 @@
 //! Fault 11: SET names a key column.
-ghost use Rattle.std.specs.Prelude.{◌≡◌, map, nat_eq};
+ghost use Rattle.std.specs.Prelude.{◌≡◌, nat_eq};
 ghost use Rattle.std.specs.List.{list_any};
 ghost use Rattle.std.specs.Option.{option_copied};
 ghost use Rattle.lv_schema.specs.Catalog.{rel_named};
 ghost use Rattle.lv_schema.specs.World.{table_at};
 ghost use Rattle.lv_bind.specs.Assigned.{assigned_keys, assigned_among};
 ghost use Rattle.lv_bind.specs.Binding.{table_number};
-ghost use Rattle.lv_bind.specs.Seen.{alias_seen};
+ghost use Rattle.lv_bind.specs.Seen.{aliases, tables_of, views_of};
 ghost use Rattle.lv_bind.specs.Sources.{first};
 
 use crate::binding::table_number;
 use crate::pieces::Mention;
-use crate::sources::{Source, place_of};
+use crate::sources::{Scope, place_of};
 use lv_parser::{Assign, Named, Stmt};
 use lv_schema::Schema;
 use lv_values::Text;
@@ -34,17 +34,12 @@ fn is_key(key: &[u8], column: usize) -> bool
     false
 }
 
-fn assigned_key<'a>(
-    schema: &Schema,
-    sources: &[Source<'_>],
-    key: &[u8],
-    sets: &'a [Assign],
-) -> Option<&'a Text>
-    ensures { option_copied result ≡ first (assigned_keys (map (alias_seen schema.now.tables schema.now.views) sources.now) key.now sets.now) }
+fn assigned_key<'a>(scope: &Scope<'_>, key: &[u8], sets: &'a [Assign]) -> Option<&'a Text>
+    ensures { option_copied result ≡ first (assigned_keys (aliases scope.now) key.now sets.now) }
 {
     for assign in sets {
         let column = Mention::unqualified(&assign.column);
-        if is_key(key, place_of(schema, sources, column).column) {
+        if is_key(key, place_of(scope, column).column) {
             return Some(&assign.column.name);
         }
     }
@@ -52,16 +47,12 @@ fn assigned_key<'a>(
 }
 
 /// The first key column that a statement with these aliases sets.
-pub(crate) fn assigned<'a>(
-    schema: &Schema,
-    stmt: &'a Stmt,
-    sources: &[Source<'_>],
-) -> Option<&'a Text>
-    ensures { option_copied result ≡ first (assigned_among schema.now.tables schema.now.views (map (alias_seen schema.now.tables schema.now.views) sources.now) stmt.now) }
+pub(crate) fn assigned<'a>(scope: &Scope<'_>, stmt: &'a Stmt) -> Option<&'a Text>
+    ensures { option_copied result ≡ first (assigned_among (tables_of scope.now) (views_of scope.now) (aliases scope.now) stmt.now) }
 {
     match stmt {
         Stmt::Update { table, sets, .. } => {
-            assigned_key(schema, sources, key_named(schema, table), sets.as_slice())
+            assigned_key(scope, key_named(scope.schema, table), sets.as_slice())
         }
         _ => None,
     }

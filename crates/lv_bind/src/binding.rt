@@ -3,10 +3,10 @@ ghost use Rattle.std.specs.Prelude.{◌≡◌, ◌++◌, map, IfOk, OnOk};
 ghost use Rattle.lv_bind.specs.Binding.{IsNarrow, bound_col, bound_literal, bound_side, bound_op, bound_cond, bound_rows, bound_value, bound_set, bound_order, columns_from, bound_list, bound_rels, table_number};
 ghost use Rattle.std.specs.List.{range_with_len};
 ghost use Rattle.lv_schema.specs.Catalog.{rel_named};
-ghost use Rattle.lv_bind.specs.Seen.{alias_seen, column_seen};
+ghost use Rattle.lv_bind.specs.Seen.{aliases, column_seen};
 
 use crate::pieces::Mention;
-use crate::sources::{Source, place_of};
+use crate::sources::{Scope, place_of};
 use lv_parser::{
     Assign, AssignValue, ColName, ColNames, CondTree, Literal, Named, OperandTree, RefTree, Sign,
     Tuple,
@@ -20,11 +20,11 @@ use std::alloc::Global;
 
 /// The column that is named, among few aliases of few columns.
 #[tactic(auto, using(crate::proofs::NarrowLemmas::narrow_alias, crate::proofs::NarrowLemmas::narrow_column))]
-pub(crate) fn bound_col(schema: &Schema, sources: &[Source<'_>], column: Mention<'_>) -> Col
-    requires { IsNarrow (map (alias_seen schema.now.tables schema.now.views) sources.now) }
-    ensures { result ≡ bound_col (map (alias_seen schema.now.tables schema.now.views) sources.now) (column_seen column.entry) }
+pub(crate) fn bound_col(scope: &Scope<'_>, column: Mention<'_>) -> Col
+    requires { IsNarrow (aliases scope.now) }
+    ensures { result ≡ bound_col (aliases scope.now) (column_seen column.entry) }
 {
-    let place = place_of(schema, sources, column);
+    let place = place_of(scope, column);
     Col {
         alias: place.alias as u8,
         column: place.column as u8,
@@ -40,21 +40,12 @@ fn bound_literal(alloc: Global, value: &Value) -> Result<Operand, NoMemory>
     }
 }
 
-fn bound_side(
-    alloc: Global,
-    schema: &Schema,
-    sources: &[Source<'_>],
-    side: &OperandTree,
-) -> Result<Operand, NoMemory>
-    requires { IsNarrow (map (alias_seen schema.now.tables schema.now.views) sources.now) }
-    ensures { IfOk result (λ operand. operand ≡ bound_side (map (alias_seen schema.now.tables schema.now.views) sources.now) side.now) }
+fn bound_side(alloc: Global, scope: &Scope<'_>, side: &OperandTree) -> Result<Operand, NoMemory>
+    requires { IsNarrow (aliases scope.now) }
+    ensures { IfOk result (λ operand. operand ≡ bound_side (aliases scope.now) side.now) }
 {
     match side {
-        OperandTree::Column(column) => Ok(Operand::Column(bound_col(
-            schema,
-            sources,
-            Mention::of(column),
-        ))),
+        OperandTree::Column(column) => Ok(Operand::Column(bound_col(scope, Mention::of(column)))),
         OperandTree::Literal(literal) => bound_literal(alloc, &literal.value),
     }
 }
@@ -76,47 +67,36 @@ fn bound_op(sign: Sign) -> Op
 #[cycle(bound_cond)]
 pub(crate) fn bound_cond(
     alloc: Global,
-    schema: &Schema,
-    sources: &[Source<'_>],
+    scope: &Scope<'_>,
     cond: &CondTree,
 ) -> Result<Cond, NoMemory>
-    requires { IsNarrow (map (alias_seen schema.now.tables schema.now.views) sources.now) }
-    ensures { IfOk result (λ c. c ≡ bound_cond (map (alias_seen schema.now.tables schema.now.views) sources.now) cond.now) }
+    requires { IsNarrow (aliases scope.now) }
+    ensures { IfOk result (λ c. c ≡ bound_cond (aliases scope.now) cond.now) }
 {
     match cond {
         CondTree::True => Ok(Cond::True),
         CondTree::Cmp { op, left, right } => Ok(Cond::Cmp {
             op: bound_op(*op),
-            left: bound_side(alloc, schema, sources, left)?,
-            right: bound_side(alloc, schema, sources, right)?,
+            left: bound_side(alloc, scope, left)?,
+            right: bound_side(alloc, scope, right)?,
         }),
-        CondTree::And(parts) => Ok(Cond::And(bound_conds(
-            alloc,
-            schema,
-            sources,
-            parts.as_slice(),
-        )?)),
-        CondTree::Or(parts) => Ok(Cond::Or(bound_conds(alloc, schema, sources, parts.as_slice())?)),
+        CondTree::And(parts) => Ok(Cond::And(bound_conds(alloc, scope, parts.as_slice())?)),
+        CondTree::Or(parts) => Ok(Cond::Or(bound_conds(alloc, scope, parts.as_slice())?)),
         CondTree::Not(part) => Ok(Cond::Not(Boxed::new(
             alloc,
-            bound_cond(alloc, schema, sources, part.get())?,
+            bound_cond(alloc, scope, part.get())?,
         )?)),
     }
 }
 
 #[cycle(bound_cond)]
-fn bound_conds(
-    alloc: Global,
-    schema: &Schema,
-    sources: &[Source<'_>],
-    conds: &[CondTree],
-) -> Result<Conds, NoMemory>
-    requires { IsNarrow (map (alias_seen schema.now.tables schema.now.views) sources.now) }
-    ensures { IfOk result (λ cs. cs ≡ map (bound_cond (map (alias_seen schema.now.tables schema.now.views) sources.now)) conds.now) }
+fn bound_conds(alloc: Global, scope: &Scope<'_>, conds: &[CondTree]) -> Result<Conds, NoMemory>
+    requires { IsNarrow (aliases scope.now) }
+    ensures { IfOk result (λ cs. cs ≡ map (bound_cond (aliases scope.now)) conds.now) }
 {
     let mut out = Items::new(alloc);
     for cond in conds {
-        out.push(bound_cond(alloc, schema, sources, cond)?)?;
+        out.push(bound_cond(alloc, scope, cond)?)?;
     }
     Ok(out)
 }
@@ -143,22 +123,17 @@ pub(crate) fn bound_rows(alloc: Global, tuples: &[Tuple]) -> Result<Rows, NoMemo
     Ok(rows)
 }
 
-fn bound_value(
-    alloc: Global,
-    schema: &Schema,
-    sources: &[Source<'_>],
-    value: &AssignValue,
-) -> Result<SetValue, NoMemory>
-    requires { IsNarrow (map (alias_seen schema.now.tables schema.now.views) sources.now) }
-    ensures { IfOk result (λ v. v ≡ bound_value (map (alias_seen schema.now.tables schema.now.views) sources.now) value.now) }
+fn bound_value(alloc: Global, scope: &Scope<'_>, value: &AssignValue) -> Result<SetValue, NoMemory>
+    requires { IsNarrow (aliases scope.now) }
+    ensures { IfOk result (λ v. v ≡ bound_value (aliases scope.now) value.now) }
 {
     match value {
         AssignValue::Literal(literal) => Ok(SetValue::Literal(literal.value.copy(alloc)?)),
         AssignValue::Column(column) => {
-            Ok(SetValue::Column(bound_col(schema, sources, Mention::unqualified(column)).column))
+            Ok(SetValue::Column(bound_col(scope, Mention::unqualified(column)).column))
         }
         AssignValue::Plus { column, amount } => Ok(SetValue::Plus {
-            column: bound_col(schema, sources, Mention::unqualified(column)).column,
+            column: bound_col(scope, Mention::unqualified(column)).column,
             amount: *amount,
         }),
     }
@@ -167,18 +142,17 @@ fn bound_value(
 /// The columns that an UPDATE of this alias sets.
 pub(crate) fn bound_sets(
     alloc: Global,
-    schema: &Schema,
-    sources: &[Source<'_>],
+    scope: &Scope<'_>,
     sets: &[Assign],
 ) -> Result<Sets, NoMemory>
-    requires { IsNarrow (map (alias_seen schema.now.tables schema.now.views) sources.now) }
-    ensures { IfOk result (λ found. found ≡ map (bound_set (map (alias_seen schema.now.tables schema.now.views) sources.now)) sets.now) }
+    requires { IsNarrow (aliases scope.now) }
+    ensures { IfOk result (λ found. found ≡ map (bound_set (aliases scope.now)) sets.now) }
 {
     let mut out = Sets::new(alloc);
     for assign in sets {
         out.push(Set {
-            column: bound_col(schema, sources, Mention::unqualified(&assign.column)).column,
-            value: bound_value(alloc, schema, sources, &assign.value)?,
+            column: bound_col(scope, Mention::unqualified(&assign.column)).column,
+            value: bound_value(alloc, scope, &assign.value)?,
         })?;
     }
     Ok(out)
@@ -187,16 +161,15 @@ pub(crate) fn bound_sets(
 /// The columns that are listed.
 pub(crate) fn bound_cols(
     alloc: Global,
-    schema: &Schema,
-    sources: &[Source<'_>],
+    scope: &Scope<'_>,
     columns: &[ColName],
 ) -> Result<Cols, NoMemory>
-    requires { IsNarrow (map (alias_seen schema.now.tables schema.now.views) sources.now) }
-    ensures { IfOk result (λ cols. cols ≡ map (bound_col (map (alias_seen schema.now.tables schema.now.views) sources.now)) columns.now) }
+    requires { IsNarrow (aliases scope.now) }
+    ensures { IfOk result (λ cols. cols ≡ map (bound_col (aliases scope.now)) columns.now) }
 {
     let mut out = Cols::new(alloc);
     for column in columns {
-        out.push(bound_col(schema, sources, Mention::of(column)))?;
+        out.push(bound_col(scope, Mention::of(column)))?;
     }
     Ok(out)
 }
@@ -204,17 +177,16 @@ pub(crate) fn bound_cols(
 /// The columns of ORDER BY.
 pub(crate) fn bound_order(
     alloc: Global,
-    schema: &Schema,
-    sources: &[Source<'_>],
+    scope: &Scope<'_>,
     order: &[(ColName, bool)],
 ) -> Result<OrderCols, NoMemory>
-    requires { IsNarrow (map (alias_seen schema.now.tables schema.now.views) sources.now) }
-    ensures { IfOk result (λ cols. cols ≡ bound_order (map (alias_seen schema.now.tables schema.now.views) sources.now) order.now) }
+    requires { IsNarrow (aliases scope.now) }
+    ensures { IfOk result (λ cols. cols ≡ bound_order (aliases scope.now) order.now) }
 {
     let mut out = OrderCols::new(alloc);
     for (column, descending) in order {
         out.push(OrderCol {
-            col: bound_col(schema, sources, Mention::of(column)),
+            col: bound_col(scope, Mention::of(column)),
             descending: *descending,
         })?;
     }
@@ -233,13 +205,13 @@ fn push_each(alias: u8, width: u8, out: &mut Cols) -> Result<(), NoMemory>
 
 /// All columns of all aliases, which `*` lists.
 #[tactic(auto, using(crate::proofs::NarrowLemmas::narrow_width))]
-fn every_col(alloc: Global, schema: &Schema, sources: &[Source<'_>]) -> Result<Cols, NoMemory>
-    requires { IsNarrow (map (alias_seen schema.now.tables schema.now.views) sources.now) }
-    ensures { IfOk result (λ cols. cols ≡ columns_from 0 (map (alias_seen schema.now.tables schema.now.views) sources.now)) }
+fn every_col(alloc: Global, scope: &Scope<'_>) -> Result<Cols, NoMemory>
+    requires { IsNarrow (aliases scope.now) }
+    ensures { IfOk result (λ cols. cols ≡ columns_from 0 (aliases scope.now)) }
 {
     let mut out = Cols::new(alloc);
-    for (alias, source) in sources.iter().enumerate() {
-        push_each(alias as u8, source.width(schema) as u8, &mut out)?;
+    for (alias, source) in scope.sources.iter().enumerate() {
+        push_each(alias as u8, source.width(scope.schema) as u8, &mut out)?;
     }
     Ok(out)
 }
@@ -247,16 +219,15 @@ fn every_col(alloc: Global, schema: &Schema, sources: &[Source<'_>]) -> Result<C
 /// The list of a query.
 pub(crate) fn bound_list(
     alloc: Global,
-    schema: &Schema,
-    sources: &[Source<'_>],
+    scope: &Scope<'_>,
     list: &Option<ColNames>,
 ) -> Result<Cols, NoMemory>
-    requires { IsNarrow (map (alias_seen schema.now.tables schema.now.views) sources.now) }
-    ensures { IfOk result (λ cols. cols ≡ bound_list (map (alias_seen schema.now.tables schema.now.views) sources.now) list.now) }
+    requires { IsNarrow (aliases scope.now) }
+    ensures { IfOk result (λ cols. cols ≡ bound_list (aliases scope.now) list.now) }
 {
     match list {
-        None => every_col(alloc, schema, sources),
-        Some(columns) => bound_cols(alloc, schema, sources, columns.as_slice()),
+        None => every_col(alloc, scope),
+        Some(columns) => bound_cols(alloc, scope, columns.as_slice()),
     }
 }
 

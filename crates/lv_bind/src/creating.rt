@@ -2,11 +2,11 @@
 ghost use Rattle.std.specs.Prelude.{◌≡◌, ◌<◌, ◌≤◌, map, length, position, IfOk, IfSome};
 ghost use Rattle.std.specs.Str.{bytes_eq};
 ghost use Rattle.lv_bind.specs.Binding.{IsNarrow, bound_kind, bound_column, bound_table, key_place, bound_item, table_numbers, bound_view};
-ghost use Rattle.lv_bind.specs.Seen.{alias_seen};
+ghost use Rattle.lv_bind.specs.Seen.{aliases, tables_of, views_of};
 
 use crate::binding::{bound_col, bound_cols, bound_cond, table_number};
 use crate::pieces::Mention;
-use crate::sources::Source;
+use crate::sources::Scope;
 use lv_parser::{ColName, ColumnKind, ColumnTree, CondTree, ItemTree, Named, RefTree};
 use lv_schema::{
     Column, Columns, Item, Kind, Positions, Schema, TableDef, TableNumbers, ViewDef, ViewItems,
@@ -85,22 +85,17 @@ pub(crate) fn bound_table(
     })
 }
 
-fn bound_item(
-    alloc: Global,
-    schema: &Schema,
-    sources: &[Source<'_>],
-    item: &ItemTree,
-) -> Result<Item, NoMemory>
-    requires { IsNarrow (map (alias_seen schema.now.tables schema.now.views) sources.now) }
-    ensures { IfOk result (λ found. found ≡ bound_item (map (alias_seen schema.now.tables schema.now.views) sources.now) item.now) }
+fn bound_item(alloc: Global, scope: &Scope<'_>, item: &ItemTree) -> Result<Item, NoMemory>
+    requires { IsNarrow (aliases scope.now) }
+    ensures { IfOk result (λ found. found ≡ bound_item (aliases scope.now) item.now) }
 {
     match item {
         ItemTree::Plain { col, output } => Ok(Item::Plain {
-            col: bound_col(schema, sources, Mention::of(col)),
+            col: bound_col(scope, Mention::of(col)),
             name: output.as_ref().unwrap_or(&col.name).name.copy(alloc)?,
         }),
         ItemTree::Sum { col, output } => Ok(Item::Sum {
-            col: bound_col(schema, sources, Mention::of(col)),
+            col: bound_col(scope, Mention::of(col)),
             name: output.name.copy(alloc)?,
         }),
         ItemTree::Count { output } => Ok(Item::Count {
@@ -109,18 +104,13 @@ fn bound_item(
     }
 }
 
-fn bound_items(
-    alloc: Global,
-    schema: &Schema,
-    sources: &[Source<'_>],
-    items: &[ItemTree],
-) -> Result<ViewItems, NoMemory>
-    requires { IsNarrow (map (alias_seen schema.now.tables schema.now.views) sources.now) }
-    ensures { IfOk result (λ found. found ≡ map (bound_item (map (alias_seen schema.now.tables schema.now.views) sources.now)) items.now) }
+fn bound_items(alloc: Global, scope: &Scope<'_>, items: &[ItemTree]) -> Result<ViewItems, NoMemory>
+    requires { IsNarrow (aliases scope.now) }
+    ensures { IfOk result (λ found. found ≡ map (bound_item (aliases scope.now)) items.now) }
 {
     let mut out = ViewItems::new(alloc);
     for item in items {
-        out.push(bound_item(alloc, schema, sources, item)?)?;
+        out.push(bound_item(alloc, scope, item)?)?;
     }
     Ok(out)
 }
@@ -138,25 +128,24 @@ fn table_numbers(alloc: Global, schema: &Schema, refs: &[RefTree]) -> Result<Tab
 /// The view of a CREATE VIEW with these aliases. Cost: linear, with a look-up for each column.
 pub(crate) fn bound_view(
     alloc: Global,
-    schema: &Schema,
-    sources: &[Source<'_>],
+    scope: &Scope<'_>,
     name: &Named,
     items: &[ItemTree],
     refs: &[RefTree],
     cond: &CondTree,
     groups: &[ColName],
 ) -> Result<ViewDef, NoMemory>
-    requires { IsNarrow (map (alias_seen schema.now.tables schema.now.views) sources.now) }
-    ensures { IfOk result (λ def. def ≡ bound_view schema.now.tables schema.now.views (map (alias_seen schema.now.tables schema.now.views) sources.now) name.now items.now refs.now cond.now groups.now) }
+    requires { IsNarrow (aliases scope.now) }
+    ensures { IfOk result (λ def. def ≡ bound_view (tables_of scope.now) (views_of scope.now) (aliases scope.now) name.now items.now refs.now cond.now groups.now) }
 {
     Ok(ViewDef {
-        no: schema.views(),
+        no: scope.schema.views(),
         name: name.name.copy(alloc)?,
         created: 0,
-        tables: table_numbers(alloc, schema, refs)?,
-        cond: bound_cond(alloc, schema, sources, cond)?,
-        items: bound_items(alloc, schema, sources, items)?,
+        tables: table_numbers(alloc, scope.schema, refs)?,
+        cond: bound_cond(alloc, scope, cond)?,
+        items: bound_items(alloc, scope, items)?,
         grouped: !groups.is_empty(),
-        groups: bound_cols(alloc, schema, sources, groups)?,
+        groups: bound_cols(alloc, scope, groups)?,
     })
 }

@@ -4,12 +4,12 @@ ghost use Rattle.std.specs.List.{list_any};
 ghost use Rattle.std.specs.Option.{option_copied};
 ghost use Rattle.std.specs.Str.{bytes_eq};
 ghost use Rattle.lv_bind.specs.InUse.{repeated, same_column, regrouped, taken, repeated_columns, repeated_names, repeated_outputs, repeated_aliases, in_use};
-ghost use Rattle.lv_bind.specs.Seen.{alias_seen};
+ghost use Rattle.lv_bind.specs.Seen.{aliases, tables_of, views_of};
 ghost use Rattle.lv_bind.specs.Sources.{first, sources_of};
 
 use crate::entries::Entry;
 use crate::pieces::Mention;
-use crate::sources::{Place, Source, place_of};
+use crate::sources::{Place, Scope, place_of};
 use lv_parser::{ColName, ColumnTree, ItemTree, Named, RefTree, Stmt};
 use lv_schema::Schema;
 use lv_values::{Items, NoMemory, Text};
@@ -52,15 +52,14 @@ fn is_before(places: &[Place], place: Place) -> bool
 /// The first GROUP BY column that is one before.
 fn regrouped<'a>(
     alloc: Global,
-    schema: &Schema,
-    sources: &[Source<'_>],
+    scope: &Scope<'_>,
     columns: &'a [ColName],
 ) -> Result<Option<&'a Text>, NoMemory>
-    ensures { IfOk result (λ found. option_copied found ≡ first (regrouped (map (alias_seen schema.now.tables schema.now.views) sources.now) columns.now)) }
+    ensures { IfOk result (λ found. option_copied found ≡ first (regrouped (aliases scope.now) columns.now)) }
 {
     let mut before = Items::new(alloc);
     for column in columns {
-        let place = place_of(schema, sources, Mention::of(column));
+        let place = place_of(scope, Mention::of(column));
         if is_before(before.as_slice(), place) {
             return Ok(Some(&column.name.name));
         }
@@ -117,16 +116,15 @@ fn in_use_by_view<'a>(
 /// name with those before it in its list.
 pub(crate) fn in_use<'a>(
     alloc: Global,
-    schema: &Schema,
+    scope: &Scope<'_>,
     stmt: &'a Stmt,
-    sources: &[Source<'_>],
 ) -> Result<Option<&'a Text>, NoMemory>
-    requires { map (alias_seen schema.now.tables schema.now.views) sources.now ≡ sources_of schema.now.tables schema.now.views stmt.now }
-    ensures { IfOk result (λ found. option_copied found ≡ first (in_use schema.now.tables schema.now.views stmt.now)) }
+    requires { aliases scope.now ≡ sources_of (tables_of scope.now) (views_of scope.now) stmt.now }
+    ensures { IfOk result (λ found. option_copied found ≡ first (in_use (tables_of scope.now) (views_of scope.now) stmt.now)) }
 {
     match stmt {
         Stmt::CreateTable { name, columns, key } => Ok(in_use_by_table(
-            schema,
+            scope.schema,
             name,
             columns.as_slice(),
             key.as_slice(),
@@ -138,9 +136,9 @@ pub(crate) fn in_use<'a>(
             groups,
             ..
         } => {
-            match in_use_by_view(schema, name, items.as_slice(), refs.as_slice()) {
+            match in_use_by_view(scope.schema, name, items.as_slice(), refs.as_slice()) {
                 Some(name) => Ok(Some(name)),
-                None => regrouped(alloc, schema, sources, groups.as_slice()),
+                None => regrouped(alloc, scope, groups.as_slice()),
             }
         }
         Stmt::Update { sets, .. } => Ok(repeated(sets.as_slice())),

@@ -4,11 +4,11 @@ ghost use Rattle.std.specs.List.{flat_map};
 ghost use Rattle.lv_schema.specs.Bound.{is_text};
 ghost use Rattle.lv_schema.specs.Catalog.{rel_named};
 ghost use Rattle.lv_bind.specs.Kinds.{value_is_text, kind_of, column_byte, side_is_text, side_byte, compared_kinds, item_kinds, literal_fits, value_kinds, tuple_kinds, assign_fits, assign_byte, assign_kinds, insert_columns, kinds_among};
-ghost use Rattle.lv_bind.specs.Seen.{alias_seen, column_seen, sides_seen};
+ghost use Rattle.lv_bind.specs.Seen.{aliases, column_seen, sides_seen, tables_of, views_of};
 ghost use Rattle.lv_bind.specs.Sources.{first};
 
 use crate::pieces::{Mention, Sides};
-use crate::sources::{Source, kind_at, place_of};
+use crate::sources::{Scope, kind_at, place_of};
 use lv_parser::{Assign, AssignValue, ColName, ItemTree, Literal, Named, OperandTree, Stmt, Tuple};
 use lv_schema::{Column, Kind, Rel, Schema};
 use lv_values::Value;
@@ -32,10 +32,10 @@ fn value_is_text(value: &Value) -> bool
 }
 
 /// The kind of a column that a statement names.
-fn kind_of(schema: &Schema, sources: &[Source<'_>], column: Mention<'_>) -> Kind
-    ensures { result ≡ kind_of (map (alias_seen schema.now.tables schema.now.views) sources.now) (column_seen column.entry) }
+fn kind_of(scope: &Scope<'_>, column: Mention<'_>) -> Kind
+    ensures { result ≡ kind_of (aliases scope.now) (column_seen column.entry) }
 {
-    kind_at(schema, sources, place_of(schema, sources, column))
+    kind_at(scope, place_of(scope, column))
 }
 
 fn column_byte(column: &ColName) -> u32
@@ -47,11 +47,11 @@ fn column_byte(column: &ColName) -> u32
     }
 }
 
-fn side_is_text(schema: &Schema, sources: &[Source<'_>], side: &OperandTree) -> bool
-    ensures { result ≡ side_is_text (map (alias_seen schema.now.tables schema.now.views) sources.now) side.now }
+fn side_is_text(scope: &Scope<'_>, side: &OperandTree) -> bool
+    ensures { result ≡ side_is_text (aliases scope.now) side.now }
 {
     match side {
-        OperandTree::Column(column) => is_text(kind_of(schema, sources, Mention::of(column))),
+        OperandTree::Column(column) => is_text(kind_of(scope, Mention::of(column))),
         OperandTree::Literal(literal) => value_is_text(&literal.value),
     }
 }
@@ -66,22 +66,22 @@ fn side_byte(side: &OperandTree) -> u32
 }
 
 /// The first comparison of a number and a text.
-fn compared_kinds(schema: &Schema, sources: &[Source<'_>], comparisons: &[Sides<'_>]) -> Option<u32>
-    ensures { result ≡ first (compared_kinds (map (alias_seen schema.now.tables schema.now.views) sources.now) (map sides_seen comparisons.now)) }
+fn compared_kinds(scope: &Scope<'_>, comparisons: &[Sides<'_>]) -> Option<u32>
+    ensures { result ≡ first (compared_kinds (aliases scope.now) (map sides_seen comparisons.now)) }
 {
     for Sides { left, right } in comparisons {
-        if side_is_text(schema, sources, left) != side_is_text(schema, sources, right) {
+        if side_is_text(scope, left) != side_is_text(scope, right) {
             return Some(side_byte(right));
         }
     }
     None
 }
 
-fn item_kinds(schema: &Schema, sources: &[Source<'_>], item: &ItemTree) -> Option<u32>
-    ensures { result ≡ first (item_kinds (map (alias_seen schema.now.tables schema.now.views) sources.now) item.now) }
+fn item_kinds(scope: &Scope<'_>, item: &ItemTree) -> Option<u32>
+    ensures { result ≡ first (item_kinds (aliases scope.now) item.now) }
 {
     match item {
-        ItemTree::Sum { col, .. } if is_text(kind_of(schema, sources, Mention::of(col))) => {
+        ItemTree::Sum { col, .. } if is_text(kind_of(scope, Mention::of(col))) => {
             Some(column_byte(col))
         }
         _ => None,
@@ -89,11 +89,11 @@ fn item_kinds(schema: &Schema, sources: &[Source<'_>], item: &ItemTree) -> Optio
 }
 
 /// The first sum of a text.
-fn summed_kinds(schema: &Schema, sources: &[Source<'_>], items: &[ItemTree]) -> Option<u32>
-    ensures { result ≡ first (flat_map (item_kinds (map (alias_seen schema.now.tables schema.now.views) sources.now)) items.now) }
+fn summed_kinds(scope: &Scope<'_>, items: &[ItemTree]) -> Option<u32>
+    ensures { result ≡ first (flat_map (item_kinds (aliases scope.now)) items.now) }
 {
     for item in items {
-        if let Some(byte) = item_kinds(schema, sources, item) {
+        if let Some(byte) = item_kinds(scope, item) {
             return Some(byte);
         }
     }
@@ -144,15 +144,15 @@ fn inserted_kinds(columns: &[Column], tuples: &[Tuple]) -> Option<u32>
     None
 }
 
-fn assign_fits(schema: &Schema, sources: &[Source<'_>], kind: Kind, value: &AssignValue) -> bool
-    ensures { result ≡ assign_fits (map (alias_seen schema.now.tables schema.now.views) sources.now) kind value.now }
+fn assign_fits(scope: &Scope<'_>, kind: Kind, value: &AssignValue) -> bool
+    ensures { result ≡ assign_fits (aliases scope.now) kind value.now }
 {
     match value {
         AssignValue::Literal(literal) => literal_fits(kind, literal),
         AssignValue::Column(column) => is_text(kind)
-            == is_text(kind_of(schema, sources, Mention::unqualified(column))),
+            == is_text(kind_of(scope, Mention::unqualified(column))),
         AssignValue::Plus { column, .. } => !is_text(kind)
-            && !is_text(kind_of(schema, sources, Mention::unqualified(column))),
+            && !is_text(kind_of(scope, Mention::unqualified(column))),
     }
 }
 
@@ -166,12 +166,12 @@ fn assign_byte(value: &AssignValue) -> u32
 }
 
 /// The first value that the column to which it is assigned does not hold.
-fn assigned_kinds(schema: &Schema, sources: &[Source<'_>], sets: &[Assign]) -> Option<u32>
-    ensures { result ≡ first (flat_map (assign_kinds (map (alias_seen schema.now.tables schema.now.views) sources.now)) sets.now) }
+fn assigned_kinds(scope: &Scope<'_>, sets: &[Assign]) -> Option<u32>
+    ensures { result ≡ first (flat_map (assign_kinds (aliases scope.now)) sets.now) }
 {
     for assign in sets {
-        let kind = kind_of(schema, sources, Mention::unqualified(&assign.column));
-        if !assign_fits(schema, sources, kind, &assign.value) {
+        let kind = kind_of(scope, Mention::unqualified(&assign.column));
+        if !assign_fits(scope, kind, &assign.value) {
             return Some(assign_byte(&assign.value));
         }
     }
@@ -190,32 +190,27 @@ pub(crate) fn insert_columns<'a>(schema: &'a Schema, table: &Named) -> &'a [Colu
 
 /// The byte of the first value of a statement with these aliases and comparisons that is of another kind than it has
 /// to be.
-pub(crate) fn kinds(
-    schema: &Schema,
-    stmt: &Stmt,
-    sources: &[Source<'_>],
-    comparisons: &[Sides<'_>],
-) -> Option<u32>
-    ensures { result ≡ first (kinds_among schema.now.tables schema.now.views (map (alias_seen schema.now.tables schema.now.views) sources.now) (map sides_seen comparisons.now) stmt.now) }
+pub(crate) fn kinds(scope: &Scope<'_>, stmt: &Stmt, comparisons: &[Sides<'_>]) -> Option<u32>
+    ensures { result ≡ first (kinds_among (tables_of scope.now) (views_of scope.now) (aliases scope.now) (map sides_seen comparisons.now) stmt.now) }
 {
     match stmt {
         Stmt::Insert { table, tuples } => inserted_kinds(
-            insert_columns(schema, table),
+            insert_columns(scope.schema, table),
             tuples.as_slice(),
         ),
         Stmt::CreateView { items, .. } => {
-            if let Some(byte) = summed_kinds(schema, sources, items.as_slice()) {
+            if let Some(byte) = summed_kinds(scope, items.as_slice()) {
                 return Some(byte);
             }
-            compared_kinds(schema, sources, comparisons)
+            compared_kinds(scope, comparisons)
         }
         Stmt::Update { sets, .. } => {
-            if let Some(byte) = assigned_kinds(schema, sources, sets.as_slice()) {
+            if let Some(byte) = assigned_kinds(scope, sets.as_slice()) {
                 return Some(byte);
             }
-            compared_kinds(schema, sources, comparisons)
+            compared_kinds(scope, comparisons)
         }
-        Stmt::Delete { .. } | Stmt::Select { .. } => compared_kinds(schema, sources, comparisons),
+        Stmt::Delete { .. } | Stmt::Select { .. } => compared_kinds(scope, comparisons),
         _ => None,
     }
 }

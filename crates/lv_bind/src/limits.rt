@@ -2,12 +2,12 @@
 ghost use Rattle.std.specs.Prelude.{◌≡◌, ◌++◌, ◌∷◌, [], map, length, nat_lt, IfSome};
 ghost use Rattle.std.specs.List.{flat_map, list_any};
 ghost use Rattle.lv_bind.specs.Limits.{passed_limits, lengths, value_texts, tuple_texts, side_texts, compared_texts, assign_texts, column_total, list_length, table_measures, view_measures, query_measures, measures};
-ghost use Rattle.lv_bind.specs.Seen.{alias_seen, sides_seen};
+ghost use Rattle.lv_bind.specs.Seen.{aliases, sides_seen, tables_of, views_of};
 ghost use Rattle.lv_bind.specs.Sources.{first};
 
 use crate::entries::Entry;
 use crate::pieces::Sides;
-use crate::sources::Source;
+use crate::sources::Scope;
 use lv_parser::{
     Assign, AssignValue, ColName, ColNames, ColumnTree, ItemTree, Literal, Named, OperandTree,
     RefTree, Stmt, Tuple,
@@ -128,12 +128,12 @@ fn has_long_assign(sets: &[Assign]) -> bool
 }
 
 /// Whether `*` lists more than 64 columns.
-fn lists_more(schema: &Schema, sources: &[Source<'_>]) -> bool
-    ensures { result ≡ nat_lt 64 (column_total (map (alias_seen schema.now.tables schema.now.views) sources.now)) }
+fn lists_more(scope: &Scope<'_>) -> bool
+    ensures { result ≡ nat_lt 64 (column_total (aliases scope.now)) }
 {
     let mut left = 64;
-    for source in sources {
-        let columns = source.width(schema);
+    for source in scope.sources {
+        let columns = source.width(scope.schema);
         if columns > left {
             return true;
         }
@@ -184,52 +184,56 @@ fn view_limit(
 }
 
 /// Whether a query lists more than 64 columns.
-fn is_long_list(schema: &Schema, sources: &[Source<'_>], list: &Option<ColNames>) -> bool
-    ensures { result ≡ nat_lt 64 (list_length (map (alias_seen schema.now.tables schema.now.views) sources.now) list.now) }
+fn is_long_list(scope: &Scope<'_>, list: &Option<ColNames>) -> bool
+    ensures { result ≡ nat_lt 64 (list_length (aliases scope.now) list.now) }
 {
     match list {
-        None => lists_more(schema, sources),
+        None => lists_more(scope),
         Some(columns) => columns.len() > 64,
     }
 }
 
 fn query_limit(
-    schema: &Schema,
-    sources: &[Source<'_>],
+    scope: &Scope<'_>,
     comparisons: &[Sides<'_>],
     list: &Option<ColNames>,
     refs: &[RefTree],
     order: &[(ColName, bool)],
 ) -> Option<Fault>
-    ensures { result ≡ first (passed_limits (query_measures (map (alias_seen schema.now.tables schema.now.views) sources.now) (map sides_seen comparisons.now) list.now refs.now order.now)) }
+    ensures { result ≡ first (passed_limits (query_measures (aliases scope.now) (map sides_seen comparisons.now) list.now refs.now order.now)) }
 {
     first_passed(&[
         measured(LimitKind::Name, 32, has_longer(refs, 32)),
         measured(LimitKind::Aliases, 4, refs.len() > 4),
         measured(LimitKind::Comparisons, 16, comparisons.len() > 16),
         measured(LimitKind::Text, 256, has_long_side(comparisons)),
-        measured(LimitKind::List, 64, is_long_list(schema, sources, list)),
+        measured(LimitKind::List, 64, is_long_list(scope, list)),
         measured(LimitKind::Order, 16, order.len() > 16),
     ])
 }
 
 /// The first limit that a statement with these aliases and comparisons passes.
-pub(crate) fn limit(
-    schema: &Schema,
-    stmt: &Stmt,
-    sources: &[Source<'_>],
-    comparisons: &[Sides<'_>],
-) -> Option<Fault>
-    ensures { result ≡ first (passed_limits (measures (length schema.now.tables) (length schema.now.views) (map (alias_seen schema.now.tables schema.now.views) sources.now) (map sides_seen comparisons.now) stmt.now)) }
+pub(crate) fn limit(scope: &Scope<'_>, stmt: &Stmt, comparisons: &[Sides<'_>]) -> Option<Fault>
+    ensures { result ≡ first (passed_limits (measures (length (tables_of scope.now)) (length (views_of scope.now)) (aliases scope.now) (map sides_seen comparisons.now) stmt.now)) }
 {
     match stmt {
-        Stmt::CreateTable { name, columns, .. } => table_limit(schema, name, columns.as_slice()),
+        Stmt::CreateTable { name, columns, .. } => table_limit(
+            scope.schema,
+            name,
+            columns.as_slice(),
+        ),
         Stmt::CreateView {
             name,
             items,
             refs,
             ..
-        } => view_limit(schema, comparisons, name, items.as_slice(), refs.as_slice()),
+        } => view_limit(
+            scope.schema,
+            comparisons,
+            name,
+            items.as_slice(),
+            refs.as_slice(),
+        ),
         Stmt::Insert { tuples, .. } => first_passed(&[
             measured(LimitKind::Text, 256, has_long_tuple(tuples.as_slice())),
             measured(LimitKind::Tuples, 1000, tuples.len() > 1000),
@@ -251,14 +255,7 @@ pub(crate) fn limit(
             refs,
             order,
             ..
-        } => query_limit(
-            schema,
-            sources,
-            comparisons,
-            list,
-            refs.as_slice(),
-            order.as_slice(),
-        ),
+        } => query_limit(scope, comparisons, list, refs.as_slice(), order.as_slice()),
         _ => None,
     }
 }

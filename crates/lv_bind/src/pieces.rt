@@ -2,7 +2,7 @@
 ghost use Rattle.std.specs.Prelude.{◌≡◌, ◌++◌, map, OnOk, IfOk};
 ghost use Rattle.lv_bind.specs.Pieces.{comparisons_in, columns_in, sides_of, joined, side_columns, compared_columns, item_columns, assign_columns};
 ghost use Rattle.std.specs.List.{flat_map};
-ghost use Rattle.lv_bind.specs.Seen.{sides_seen, column_seen};
+ghost use Rattle.lv_bind.specs.Seen.{column_seen, sides_seen};
 
 use lv_parser::{Assign, AssignValue, ColName, CondTree, ItemTree, Named, OperandTree, Stmt};
 use lv_values::{Items, NoMemory};

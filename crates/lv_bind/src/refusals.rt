@@ -2,7 +2,7 @@
 ghost use Rattle.std.specs.Prelude.{◌≡◌, map, IfOk};
 ghost use Rattle.lv_bind.specs.Faults.{lowest, reading_faults, later_faults};
 ghost use Rattle.lv_bind.specs.Pieces.{columns_in, comparisons_in};
-ghost use Rattle.lv_bind.specs.Seen.{alias_seen, column_seen, sides_seen};
+ghost use Rattle.lv_bind.specs.Seen.{aliases, column_seen, sides_seen, tables_of, views_of};
 ghost use Rattle.lv_bind.specs.Sources.{sources_of};
 
 use crate::ambiguous::ambiguous;
@@ -13,10 +13,10 @@ use crate::limits::limit;
 use crate::pieces::{Mention, Sides};
 use crate::ranges::wide;
 use crate::rights::{in_transaction, no_transaction, outside_setup};
-use crate::sources::Source;
+use crate::sources::Scope;
 use crate::unknown::unknown;
 use lv_parser::Stmt;
-use lv_schema::{Fault, Schema};
+use lv_schema::Fault;
 use lv_values::{Copying, NoMemory};
 use std::alloc::Global;
 
@@ -24,49 +24,47 @@ use std::alloc::Global;
 /// and comparisons.
 pub(crate) fn reading_fault(
     alloc: Global,
-    schema: &Schema,
+    scope: &Scope<'_>,
     stmt: &Stmt,
-    sources: &[Source<'_>],
     columns: &[Mention<'_>],
     comparisons: &[Sides<'_>],
 ) -> Result<Option<Fault>, NoMemory>
-    requires sources { map (alias_seen schema.now.tables schema.now.views) sources.now ≡ sources_of schema.now.tables schema.now.views stmt.now }
+    requires sources { aliases scope.now ≡ sources_of (tables_of scope.now) (views_of scope.now) stmt.now }
     requires columns { map column_seen columns.now ≡ columns_in stmt.now }
     requires comparisons { map sides_seen comparisons.now ≡ comparisons_in stmt.now }
-    ensures { IfOk result (λ found. found ≡ lowest (reading_faults schema.now.tables schema.now.views stmt.now)) }
+    ensures { IfOk result (λ found. found ≡ lowest (reading_faults (tables_of scope.now) (views_of scope.now) stmt.now)) }
 {
-    if let Some(name) = unknown(schema, stmt, sources, columns) {
+    if let Some(name) = unknown(scope, stmt, columns) {
         return Ok(Some(Fault::Unknown {
             name: name.copy(alloc)?,
         }));
     }
-    if let Some(name) = ambiguous(schema, sources, columns) {
+    if let Some(name) = ambiguous(scope, columns) {
         return Ok(Some(Fault::Ambiguous {
             name: name.copy(alloc)?,
         }));
     }
-    if let Some(name) = in_use(alloc, schema, stmt, sources)? {
+    if let Some(name) = in_use(alloc, scope, stmt)? {
         return Ok(Some(Fault::InUse {
             name: name.copy(alloc)?,
         }));
     }
-    if let Some(byte) = kinds(schema, stmt, sources, comparisons) {
+    if let Some(byte) = kinds(scope, stmt, comparisons) {
         return Ok(Some(Fault::Kinds { byte }));
     }
-    Ok(limit(schema, stmt, sources, comparisons))
+    Ok(limit(scope, stmt, comparisons))
 }
 
 /// The lowest of the faults 8 to 12 of a statement with these aliases.
 pub(crate) fn later_fault(
     alloc: Global,
-    schema: &Schema,
+    scope: &Scope<'_>,
     setup: bool,
     live: bool,
     stmt: &Stmt,
-    sources: &[Source<'_>],
 ) -> Result<Option<Fault>, NoMemory>
-    requires { map (alias_seen schema.now.tables schema.now.views) sources.now ≡ sources_of schema.now.tables schema.now.views stmt.now }
-    ensures { IfOk result (λ found. found ≡ lowest (later_faults schema.now.tables schema.now.views setup live stmt.now)) }
+    requires { aliases scope.now ≡ sources_of (tables_of scope.now) (views_of scope.now) stmt.now }
+    ensures { IfOk result (λ found. found ≡ lowest (later_faults (tables_of scope.now) (views_of scope.now) setup live stmt.now)) }
 {
     if let Some(fault) = outside_setup(setup, stmt) {
         return Ok(Some(fault));
@@ -77,7 +75,7 @@ pub(crate) fn later_fault(
     if let Some(fault) = no_transaction(live, stmt) {
         return Ok(Some(fault));
     }
-    if let Some(name) = assigned(schema, stmt, sources) {
+    if let Some(name) = assigned(scope, stmt) {
         return Ok(Some(Fault::KeyAssigned {
             name: name.copy(alloc)?,
         }));

@@ -3,7 +3,7 @@ ghost use Rattle.std.specs.Prelude.{◌≡◌, ◌++◌, ◌∷◌, [], map, pos
 ghost use Rattle.std.specs.Str.{bytes_eq};
 ghost use Rattle.std.specs.Option.{option_copied};
 ghost use Rattle.lv_bind.specs.Sources.{AreNarrow, no_column, sources_of, source_of, alias_of, columns_of, places, place_of, fit_of, place_in, goes_by, kind_at, column_named};
-ghost use Rattle.lv_bind.specs.Seen.{alias_seen, column_seen};
+ghost use Rattle.lv_bind.specs.Seen.{alias_seen, aliases, column_seen};
 ghost use Rattle.lv_schema.specs.declared.table.Column.{Column};
 ghost use Rattle.lv_schema.specs.declared.table.Kind.TheVariants.{Big};
 ghost use Rattle.lv_schema.specs.Bound.{item_name, rel_columns, view_columns, listed_column, alias_columns};
@@ -21,6 +21,13 @@ use std::alloc::Global;
 pub(crate) struct Source<'a> {
     pub alias: &'a Text,
     pub rel: Option<Rel>,
+}
+
+/// The schema, and the aliases of a statement.
+#[derive(Clone, Copy)]
+pub(crate) struct Scope<'a> {
+    pub schema: &'a Schema,
+    pub sources: &'a [Source<'a>],
 }
 
 /// What an alias goes by: its own name, or that of its table or view.
@@ -224,12 +231,12 @@ impl Source<'_> {
 }
 
 /// The kind of a column of the aliases, that of sums where there is none.
-pub(crate) fn kind_at(schema: &Schema, sources: &[Source<'_>], place: Place) -> Kind
-    ensures { result ≡ kind_at (map (alias_seen schema.now.tables schema.now.views) sources.now) place }
+pub(crate) fn kind_at(scope: &Scope<'_>, place: Place) -> Kind
+    ensures { result ≡ kind_at (aliases scope.now) place }
 {
-    match sources.get(place.alias) {
+    match scope.sources.get(place.alias) {
         None => Kind::Big,
-        Some(source) => kind_in(schema, source.rel, place.column),
+        Some(source) => kind_in(scope.schema, source.rel, place.column),
     }
 }
 
@@ -263,12 +270,12 @@ fn place_in(
 }
 
 /// What a column fits among the aliases. Cost: a look-up among the columns of each.
-pub(crate) fn resolve(schema: &Schema, sources: &[Source<'_>], column: Mention<'_>) -> Fit
-    ensures { result ≡ fit_of (places (map (alias_seen schema.now.tables schema.now.views) sources.now) (column_seen column.entry)) }
+pub(crate) fn resolve(scope: &Scope<'_>, column: Mention<'_>) -> Fit
+    ensures { result ≡ fit_of (places (aliases scope.now) (column_seen column.entry)) }
 {
     let mut found = None;
-    for (number, source) in sources.iter().enumerate() {
-        let Some(place) = place_in(schema, number, source, column) else {
+    for (number, source) in scope.sources.iter().enumerate() {
+        let Some(place) = place_in(scope.schema, number, source, column) else {
             continue;
         };
         if let Some(first) = found {
@@ -283,10 +290,10 @@ pub(crate) fn resolve(schema: &Schema, sources: &[Source<'_>], column: Mention<'
 }
 
 /// Where a column is, once it fits one place; else where it fits first, or at the first place of all.
-pub(crate) fn place_of(schema: &Schema, sources: &[Source<'_>], column: Mention<'_>) -> Place
-    ensures { result ≡ place_of (map (alias_seen schema.now.tables schema.now.views) sources.now) (column_seen column.entry) }
+pub(crate) fn place_of(scope: &Scope<'_>, column: Mention<'_>) -> Place
+    ensures { result ≡ place_of (aliases scope.now) (column_seen column.entry) }
 {
-    match resolve(schema, sources, column) {
+    match resolve(scope, column) {
         Fit::Nothing => Place {
             alias: 0,
             column: 0,

@@ -1,8 +1,8 @@
 //! Binding of a statement.
-ghost use Rattle.std.specs.Prelude.{◌≡◌, ◌∷◌, map, IfOk, None, Ok, Err};
+ghost use Rattle.std.specs.Prelude.{◌≡◌, ◌∷◌, IfOk, None, Ok, Err};
 ghost use Rattle.lv_bind.specs.Binding.{IsNarrow, IsSmallTable, IsSmallView, bound_among};
 ghost use Rattle.lv_bind.specs.Faults.{lowest, reading_faults, profile_fault, later_faults, bound_of};
-ghost use Rattle.lv_bind.specs.Seen.{alias_seen};
+ghost use Rattle.lv_bind.specs.Seen.{aliases, tables_of, views_of};
 ghost use Rattle.lv_bind.specs.Spoken.{IsSpoken};
 ghost use Rattle.lv_schema.specs.Bound.{IsBound};
 ghost use Rattle.lv_bind.specs.Sources.{AreNarrow, sources_of};
@@ -15,7 +15,7 @@ use crate::creating::{bound_table, bound_view};
 use crate::pieces::{columns_in, comparisons_in};
 use crate::profile::profile;
 use crate::refusals::{later_fault, reading_fault};
-use crate::sources::{Source, sources};
+use crate::sources::{Scope, sources};
 use lv_parser::Stmt;
 use lv_schema::{Bound, Change, Fault, Query, Schema};
 use lv_values::NoMemory;
@@ -42,20 +42,15 @@ impl From<NoMemory> for BindFault {
 }
 
 /// What a statement with these aliases is bound to, once none of the faults 2 to 6 refuses it.
-fn bound_among(
-    alloc: Global,
-    schema: &Schema,
-    stmt: &Stmt,
-    sources: &[Source<'_>],
-) -> Result<Bound, NoMemory>
-    requires narrow { IsNarrow (map (alias_seen schema.now.tables schema.now.views) sources.now) }
+fn bound_among(alloc: Global, scope: &Scope<'_>, stmt: &Stmt) -> Result<Bound, NoMemory>
+    requires narrow { IsNarrow (aliases scope.now) }
     requires small { IsSmallTable stmt.now }
-    ensures { IfOk result (λ b. b ≡ bound_among schema.now.tables schema.now.views (map (alias_seen schema.now.tables schema.now.views) sources.now) stmt.now) }
+    ensures { IfOk result (λ b. b ≡ bound_among (tables_of scope.now) (views_of scope.now) (aliases scope.now) stmt.now) }
 {
     match stmt {
         Stmt::CreateTable { name, columns, key } => Ok(Bound::Table(bound_table(
             alloc,
-            schema,
+            scope.schema,
             name,
             columns.as_slice(),
             key.as_slice(),
@@ -68,8 +63,7 @@ fn bound_among(
             groups,
         } => Ok(Bound::View(bound_view(
             alloc,
-            schema,
-            sources,
+            scope,
             name,
             items.as_slice(),
             refs.as_slice(),
@@ -77,17 +71,17 @@ fn bound_among(
             groups.as_slice(),
         )?)),
         Stmt::Insert { table, tuples } => Ok(Bound::Change(Change::Insert {
-            table: table_number(schema, table),
+            table: table_number(scope.schema, table),
             rows: bound_rows(alloc, tuples.as_slice())?,
         })),
         Stmt::Update { table, sets, cond } => Ok(Bound::Change(Change::Update {
-            table: table_number(schema, table),
-            sets: bound_sets(alloc, schema, sources, sets.as_slice())?,
-            cond: bound_cond(alloc, schema, sources, cond)?,
+            table: table_number(scope.schema, table),
+            sets: bound_sets(alloc, scope, sets.as_slice())?,
+            cond: bound_cond(alloc, scope, cond)?,
         })),
         Stmt::Delete { table, cond } => Ok(Bound::Change(Change::Delete {
-            table: table_number(schema, table),
-            cond: bound_cond(alloc, schema, sources, cond)?,
+            table: table_number(scope.schema, table),
+            cond: bound_cond(alloc, scope, cond)?,
         })),
         Stmt::Select {
             list,
@@ -95,10 +89,10 @@ fn bound_among(
             cond,
             order,
         } => Ok(Bound::Query(Query {
-            rels: bound_rels(alloc, schema, refs.as_slice())?,
-            cond: bound_cond(alloc, schema, sources, cond)?,
-            list: bound_list(alloc, schema, sources, list)?,
-            order: bound_order(alloc, schema, sources, order.as_slice())?,
+            rels: bound_rels(alloc, scope.schema, refs.as_slice())?,
+            cond: bound_cond(alloc, scope, cond)?,
+            list: bound_list(alloc, scope, list)?,
+            order: bound_order(alloc, scope, order.as_slice())?,
         })),
         Stmt::Begin => Ok(Bound::Begin),
         Stmt::Commit => Ok(Bound::Commit),
@@ -108,22 +102,16 @@ fn bound_among(
 }
 
 /// The lowest of the faults 2 to 6 of a statement with these aliases.
-fn early_fault(
-    alloc: Global,
-    schema: &Schema,
-    stmt: &Stmt,
-    sources: &[Source<'_>],
-) -> Result<Option<Fault>, NoMemory>
-    requires { map (alias_seen schema.now.tables schema.now.views) sources.now ≡ sources_of schema.now.tables schema.now.views stmt.now }
-    ensures { IfOk result (λ found. found ≡ lowest (reading_faults schema.now.tables schema.now.views stmt.now)) }
+fn early_fault(alloc: Global, scope: &Scope<'_>, stmt: &Stmt) -> Result<Option<Fault>, NoMemory>
+    requires { aliases scope.now ≡ sources_of (tables_of scope.now) (views_of scope.now) stmt.now }
+    ensures { IfOk result (λ found. found ≡ lowest (reading_faults (tables_of scope.now) (views_of scope.now) stmt.now)) }
 {
     let comparisons = comparisons_in(alloc, stmt)?;
     let columns = columns_in(alloc, stmt, comparisons.as_slice())?;
     reading_fault(
         alloc,
-        schema,
+        scope,
         stmt,
-        sources,
         columns.as_slice(),
         comparisons.as_slice(),
     )
@@ -132,42 +120,40 @@ fn early_fault(
 /// The lowest of the faults 7 to 12 of a statement with these aliases, which is bound to this.
 fn late_fault(
     alloc: Global,
-    schema: &Schema,
+    scope: &Scope<'_>,
     setup: bool,
     live: bool,
     stmt: &Stmt,
-    sources: &[Source<'_>],
     bound: &Bound,
 ) -> Result<Option<Fault>, NoMemory>
-    requires sources { map (alias_seen schema.now.tables schema.now.views) sources.now ≡ sources_of schema.now.tables schema.now.views stmt.now }
+    requires sources { aliases scope.now ≡ sources_of (tables_of scope.now) (views_of scope.now) stmt.now }
     requires small { IsSmallView bound.now }
-    requires bound { bound.now ≡ bound_among schema.now.tables schema.now.views (sources_of schema.now.tables schema.now.views stmt.now) stmt.now }
-    ensures { IfOk result (λ found. found ≡ lowest (profile_fault schema.now.tables schema.now.views stmt.now ∷ later_faults schema.now.tables schema.now.views setup live stmt.now)) }
+    requires bound { bound.now ≡ bound_among (tables_of scope.now) (views_of scope.now) (sources_of (tables_of scope.now) (views_of scope.now) stmt.now) stmt.now }
+    ensures { IfOk result (λ found. found ≡ lowest (profile_fault (tables_of scope.now) (views_of scope.now) stmt.now ∷ later_faults (tables_of scope.now) (views_of scope.now) setup live stmt.now)) }
 {
-    if let Some(rule) = profile(schema, stmt, bound) {
+    if let Some(rule) = profile(scope.schema, stmt, bound) {
         return Ok(Some(Fault::Profile { rule }));
     }
-    later_fault(alloc, schema, setup, live, stmt, sources)
+    later_fault(alloc, scope, setup, live, stmt)
 }
 
 /// Binds a statement with these aliases, which none of the faults 2 to 6 refuses.
 #[tactic(auto, using(crate::proofs::FaultLemmas::small_table))]
 fn bind_readable(
     alloc: Global,
-    schema: &Schema,
+    scope: &Scope<'_>,
     setup: bool,
     live: bool,
     stmt: &Stmt,
-    sources: &[Source<'_>],
 ) -> Result<Bound, BindFault>
-    requires sources { map (alias_seen schema.now.tables schema.now.views) sources.now ≡ sources_of schema.now.tables schema.now.views stmt.now }
-    requires narrow { AreNarrow (map (alias_seen schema.now.tables schema.now.views) sources.now) }
-    requires readable { lowest (reading_faults schema.now.tables schema.now.views stmt.now) ≡ None }
-    ensures found { IfOk result (λ b. bound_of schema.now.tables schema.now.views setup live stmt.now ≡ Ok b) }
-    ensures refused { (fault : Fault) → result ≡ Err (BindFault.Stmt fault) → bound_of schema.now.tables schema.now.views setup live stmt.now ≡ Err fault }
+    requires sources { aliases scope.now ≡ sources_of (tables_of scope.now) (views_of scope.now) stmt.now }
+    requires narrow { AreNarrow (aliases scope.now) }
+    requires readable { lowest (reading_faults (tables_of scope.now) (views_of scope.now) stmt.now) ≡ None }
+    ensures found { IfOk result (λ b. bound_of (tables_of scope.now) (views_of scope.now) setup live stmt.now ≡ Ok b) }
+    ensures refused { (fault : Fault) → result ≡ Err (BindFault.Stmt fault) → bound_of (tables_of scope.now) (views_of scope.now) setup live stmt.now ≡ Err fault }
 {
-    let bound = bound_among(alloc, schema, stmt, sources)?;
-    match late_fault(alloc, schema, setup, live, stmt, sources, &bound)? {
+    let bound = bound_among(alloc, scope, stmt)?;
+    match late_fault(alloc, scope, setup, live, stmt, &bound)? {
         Some(fault) => Err(BindFault::Stmt(fault)),
         None => Ok(bound),
     }
@@ -198,8 +184,12 @@ pub fn bind(
 {
     let _tables = schema.tables();
     let found = sources(alloc, schema, stmt)?;
-    match early_fault(alloc, schema, stmt, found.as_slice())? {
+    let scope = Scope {
+        schema,
+        sources: found.as_slice(),
+    };
+    match early_fault(alloc, &scope, stmt)? {
         Some(fault) => Err(BindFault::Stmt(fault)),
-        None => bind_readable(alloc, schema, setup, live, stmt, found.as_slice()),
+        None => bind_readable(alloc, &scope, setup, live, stmt),
     }
 }

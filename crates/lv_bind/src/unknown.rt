@@ -2,12 +2,12 @@
 ghost use Rattle.std.specs.Prelude.{◌≡◌, map};
 ghost use Rattle.std.specs.Option.{option_copied};
 ghost use Rattle.lv_bind.specs.Pieces.{columns_in};
-ghost use Rattle.lv_bind.specs.Seen.{alias_seen, column_seen};
+ghost use Rattle.lv_bind.specs.Seen.{aliases, column_seen, tables_of, views_of};
 ghost use Rattle.lv_bind.specs.Sources.{first, sources_of};
 ghost use Rattle.lv_bind.specs.Unknown.{unknown_refs, unknown_table, unknown_rels, unknown_qualifier, unknown_in, unknown_columns, is_column, unknown_key, unknown_keys, unknown};
 
 use crate::pieces::Mention;
-use crate::sources::{Fit, Source, resolve};
+use crate::sources::{Fit, Scope, resolve};
 use lv_parser::{ColumnTree, Named, RefTree, Stmt};
 use lv_schema::{Rel, Schema};
 use lv_values::Text;
@@ -47,15 +47,11 @@ fn unknown_rel<'a>(schema: &Schema, stmt: &'a Stmt) -> Option<&'a Text>
     }
 }
 
-fn unknown_qualifier<'a>(
-    schema: &Schema,
-    sources: &[Source<'_>],
-    qualifier: Option<&'a Named>,
-) -> Option<&'a Text>
-    ensures { option_copied result ≡ first (unknown_qualifier (map (alias_seen schema.now.tables schema.now.views) sources.now) (option_copied qualifier.entry)) }
+fn unknown_qualifier<'a>(scope: &Scope<'_>, qualifier: Option<&'a Named>) -> Option<&'a Text>
+    ensures { option_copied result ≡ first (unknown_qualifier (aliases scope.now) (option_copied qualifier.entry)) }
 {
     let qualifier = qualifier?;
-    for source in sources {
+    for source in scope.sources {
         if qualifier.name == *source.alias {
             return None;
         }
@@ -64,27 +60,23 @@ fn unknown_qualifier<'a>(
 }
 
 /// What is unknown of a column: its qualifier, or the column itself.
-fn unknown_in<'a>(schema: &Schema, sources: &[Source<'_>], column: Mention<'a>) -> Option<&'a Text>
-    ensures { option_copied result ≡ first (unknown_in (map (alias_seen schema.now.tables schema.now.views) sources.now) (column_seen column.entry)) }
+fn unknown_in<'a>(scope: &Scope<'_>, column: Mention<'a>) -> Option<&'a Text>
+    ensures { option_copied result ≡ first (unknown_in (aliases scope.now) (column_seen column.entry)) }
 {
-    if let Some(name) = unknown_qualifier(schema, sources, column.qualifier) {
+    if let Some(name) = unknown_qualifier(scope, column.qualifier) {
         return Some(name);
     }
-    match resolve(schema, sources, column) {
+    match resolve(scope, column) {
         Fit::Nothing => Some(&column.name.name),
         Fit::One(_) | Fit::Several(_) => None,
     }
 }
 
-fn unknown_column<'a>(
-    schema: &Schema,
-    sources: &[Source<'_>],
-    columns: &[Mention<'a>],
-) -> Option<&'a Text>
-    ensures { option_copied result ≡ first (unknown_columns (map (alias_seen schema.now.tables schema.now.views) sources.now) (map column_seen columns.now)) }
+fn unknown_column<'a>(scope: &Scope<'_>, columns: &[Mention<'a>]) -> Option<&'a Text>
+    ensures { option_copied result ≡ first (unknown_columns (aliases scope.now) (map column_seen columns.now)) }
 {
     for column in columns {
-        if let Some(name) = unknown_in(schema, sources, *column) {
+        if let Some(name) = unknown_in(scope, *column) {
             return Some(name);
         }
     }
@@ -110,19 +102,18 @@ fn unknown_key<'a>(columns: &[ColumnTree], key: &'a [Named]) -> Option<&'a Text>
 
 /// The first unknown name of a statement with these aliases and columns.
 pub(crate) fn unknown<'a>(
-    schema: &Schema,
+    scope: &Scope<'_>,
     stmt: &'a Stmt,
-    sources: &[Source<'_>],
     columns: &[Mention<'a>],
 ) -> Option<&'a Text>
-    requires sources { map (alias_seen schema.now.tables schema.now.views) sources.now ≡ sources_of schema.now.tables schema.now.views stmt.now }
+    requires sources { aliases scope.now ≡ sources_of (tables_of scope.now) (views_of scope.now) stmt.now }
     requires columns { map column_seen columns.now ≡ columns_in stmt.now }
-    ensures { option_copied result ≡ first (unknown schema.now.tables schema.now.views stmt.now) }
+    ensures { option_copied result ≡ first (unknown (tables_of scope.now) (views_of scope.now) stmt.now) }
 {
-    if let Some(name) = unknown_rel(schema, stmt) {
+    if let Some(name) = unknown_rel(scope.schema, stmt) {
         return Some(name);
     }
-    if let Some(name) = unknown_column(schema, sources, columns) {
+    if let Some(name) = unknown_column(scope, columns) {
         return Some(name);
     }
     match stmt {

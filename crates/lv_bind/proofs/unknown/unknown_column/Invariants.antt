@@ -1,10 +1,10 @@
 use Rattle.std.proofs.Common.{◌≡◌, map, drop}
-use Rattle.lv_bind.specs.Seen.{alias_seen, column_seen}
+use Rattle.lv_bind.specs.Seen.{aliases, column_seen}
 use Rattle.lv_bind.specs.Sources.{first}
 use Rattle.lv_bind.specs.Unknown.{unknown_columns}
 use Rattle.lv_bind.proofs.unknown.unknown_column.Given as goal
 
 abbrev pub invariant-loop-column : goal.invariant-loop-column
 invariant-loop-column l =
-    first (unknown_columns (map (alias_seen l.schema.tables l.schema.views) l.sources) (map column_seen (drop l.column-index l.columns)))
-    ≡ first (unknown_columns (map (alias_seen l.schema.tables l.schema.views) l.sources) (map column_seen l.columns))
+    first (unknown_columns (aliases l.scope) (map column_seen (drop l.column-index l.columns)))
+    ≡ first (unknown_columns (aliases l.scope) (map column_seen l.columns))
