@@ -80,15 +80,15 @@ module _ (p : Parts) (w : World) (is : Stands w (store_of p)) where
   parts_told f can = (inputs_are_told w (kept w.upkeep.journal (store_of p)) f is can.step can.kept).0
 
   -- what a step is computed from, and the difference that it gives, are those of the world
-  input_told : (f : Forced) → IsKeptStep w f → input_in p f ≡ input_between w.visible f
+  pub input_told : (f : Forced) → IsKeptStep w f → input_in p f ≡ input_between w.visible f
   input_told f can = λ i. record { def = view_at (is.views_are i) f.view; lo = f.lo; hi = f.hi; parts = parts_told f can i }
 
-  changes_told : (f : Forced) → IsKeptStep w f → changes_in p f ≡ step_changes w.visible f
+  pub changes_told : (f : Forced) → IsKeptStep w f → changes_in p f ≡ step_changes w.visible f
   changes_told f can =
       ap (λ (vs : List ViewDef). difference (view_at vs f.view) (old_sides (parts_in p f)) (new_sides (parts_in p f))) is.views_are
       ∙ (inputs_are_told w (kept w.upkeep.journal (store_of p)) f is can.step can.kept).1
 
-  can_compute : (f : Forced) → IsKeptStep w f → CanCompute p f
+  pub can_compute : (f : Forced) → IsKeptStep w f → CanCompute p f
   can_compute f can =
       let step = can.step in
       let lt : f.view < length p.schema.views = subst (λ (vs : List ViewDef). f.view < length vs) (sym is.views_are) step.in_use in

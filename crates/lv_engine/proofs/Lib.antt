@@ -1,5 +1,6 @@
 pub mod AddedTasks
 pub mod ChangedParts
+pub mod CleanedParts
 pub mod Commits
 pub mod EvaluatedViews
 pub mod FirstFull
@@ -12,3 +13,5 @@ pub mod Rels
 pub mod Standing
 pub mod Steps
 pub mod Views
+pub mod WorkerSteps
+pub mod Written

@@ -119,7 +119,7 @@ pub rows_at : (rows : List ViewKept) (v : ℕ) → stands.view_kept (map rows_of
 rows_at rows v = get_or-map rows_of rows v no_rows
 
 -- what holds of each element holds of each where one is set
-each_set : (P : ℕ → ViewKept → Type 0) (rows : List ViewKept) (at : ℕ) (k : ViewKept) → P at k → ((v : ℕ) → v < length rows → P v (rows_in rows v))
+pub each_set : (P : ℕ → ViewKept → Type 0) (rows : List ViewKept) (at : ℕ) (k : ViewKept) → P at k → ((v : ℕ) → v < length rows → P v (rows_in rows v))
     → (v : ℕ) → v < length (slice_set rows at k) → P v (rows_in (slice_set rows at k) v)
 each_set P [] at k here all v lt = all v lt
 each_set P (r ∷ rows) zero k here all zero lt = here

@@ -90,10 +90,14 @@ pub record RowsInstall (hi : ℕ) (changes : List SignedRow) (old new : ViewKept
   pub from : (n : ℕ) → hi ≤ n → groups_at n new.versions ≡ groups_with changes (groups_at old.at old.versions)
   pub rows : old.def.grouped ≡ false → (n : ℕ) → hi ≤ n → shown n new ≡ with_changes changes (shown old.at old)
 
+-- one of the views takes a difference
+abbrev pub ViewInstalled : ℕ → List SignedRow → ℕ → List ViewKept → List ViewKept → Type 0
+ViewInstalled hi changes view rows last = (new : ViewKept) × RowsInstall hi changes (rows_in rows view) new × (last ≡ slice_set rows view new)
+
 -- a step with its difference, and steps, one after another
 module _ (changes : Forced → List SignedRow) where
   abbrev pub StepInstalls : Forced → List ViewKept → List ViewKept → Type 0
-  StepInstalls f rows last = (new : ViewKept) × RowsInstall f.hi (changes f) (rows_in rows f.view) new × (last ≡ slice_set rows f.view new)
+  StepInstalls f rows last = ViewInstalled f.hi (changes f) f.view rows last
 
   abbrev pub StepsInstall : List Forced → List ViewKept → List ViewKept → Type 0
   StepsInstall [] rows last = last ≡ rows

@@ -1,31 +1,37 @@
 //! The engine.
-ghost use Rattle.std.specs.Prelude.{◌≡◌, ℕ, ◌<◌, Ok, Some, None, map, length, slice_index, slice_set, option_map, [], IfOk, OnErr};
+ghost use Rattle.std.specs.Prelude.{◌≡◌, ℕ, ◌<◌, Ok, Some, None, true, is_some, map, length, slice_index, slice_set, option_map, [], IfOk, OnErr};
 ghost use Rattle.lv_schema.specs.declared.rec.Rec.{Rec};
 ghost use Rattle.lv_schema.specs.Bound.{IsBoundTable, IsBoundView, IsBoundChange, IsBoundQuery};
 ghost use Rattle.lv_schema.specs.Cases.{Outcome, table_made, view_made, began, rolled_back, changed, committed};
 ghost use Rattle.lv_schema.specs.Tasks.{pending_tasks};
-ghost use Rattle.lv_schema.specs.UpkeepCases.{forced_by};
-ghost use Rattle.lv_schema.specs.WholeWorld.{world_after, querying};
+ghost use Rattle.lv_schema.specs.UpkeepCases.{cleaning, fetching, forced_by, installing, released};
+ghost use Rattle.lv_schema.specs.WholeWorld.{maintained, querying, with_upkeep, world_after};
 ghost use Rattle.lv_schema.specs.World.{World, empty_world};
 ghost use Rattle.lv_schema.specs.World as schema;
 ghost use Rattle.lv_txn.specs.Kept.{IsLive, begun, live_kept, transaction_at, transaction_of};
 ghost use Rattle.lv_engine.specs.Answering.{IsWritten, Meets, GivesQuery, ReadsNoTable, StandsForSome, input_between, memory_fault, effect_fault, commit_fault};
-ghost use Rattle.lv_engine.specs.Store.{Stands};
+ghost use Rattle.lv_engine.specs.Maintaining.{GivesCleaned, GivesFetch, GivesInstall, KeepsNoneBelow};
+ghost use Rattle.lv_engine.specs.Store.{Stands, kept};
+ghost use Rattle.lv_stands.specs.Moves.{least_read};
+ghost use Rattle.lv_upkeep.specs.Kept.{claim_kept};
 
 use crate::answer::Answer;
+use crate::cleaned::Cleaned;
 use crate::fault::CommitFault;
+use crate::installed::Installed;
 use crate::parts::Parts;
 use crate::settings::Settings;
 use lv_effect::EffectFault;
 use lv_maint::{JobInput, JobResult};
-use lv_schema::{Change, Query, Schema, TableDef, ViewDef};
+use lv_picker::Picker;
+use lv_schema::{Change, Forced, Query, Schema, TableDef, ViewDef};
 use lv_values::{Items, NoMemory, Steps};
 use std::alloc::Global;
 use std::marker::Model;
 use std::sync::ledger::Ledger;
 
 /// Tables with their committed states, live transactions, and views whose rows are kept. Sessions are 0, the setup, to
-/// 16. Contracts see what is kept, and say of each call for which worlds the engine stands then, of those that it stood
+/// 16, and workers 1 to 8. Contracts see what is kept, and say of each call for which worlds the engine stands then, of those that it stood
 /// for before.
 #[derive(Drop)]
 pub struct Engine {
@@ -239,5 +245,80 @@ impl Engine {
         ensures fresh { (w : World) → Stands w self.old → ReadsNoTable session query.now w → steps.new ≡ steps.old }
     {
         self.parts.query(alloc, session, query, offers, steps)
+    }
+
+    /// The step that a worker, 1 to 8, has claimed; none exactly where it has no claim. Cost: constant.
+    pub fn claim(&self, worker: u32) -> Option<Forced>
+        requires { worker < 9 }
+        ensures { result ≡ claim_kept self.now.upkeep worker }
+    {
+        self.parts.claim(worker)
+    }
+
+    /// A worker, 1 to 8, that has no claim fetches a step: of the views that nobody has claimed and that have pending
+    /// tasks the policy chooses one, and the next step of this view becomes the worker's claim. It answers a copy of what
+    /// the step is computed from, none exactly where there is no such view. Want of memory changes nothing.
+    /// Cost: a look at each view, and for each alias of the chosen one a scan of its table and the condensing of the
+    /// entries between the step's commits.
+    pub fn fetch<L: Ledger>(
+        &mut self,
+        alloc: Global,
+        worker: u32,
+        picker: &Picker,
+        steps: &mut Steps<L>,
+    ) -> Result<Option<JobInput>, NoMemory>
+        requires worker { worker < 9 }
+        requires free { claim_kept self.old.upkeep worker ≡ None }
+        ensures done { (w : World) (settings : schema.Settings) → settings.combine ≡ self.old.settings.combine → settings.policy ≡ picker.now.kind → Stands w self.old
+            → IfOk result (λ input. GivesFetch w.visible (maintained (fetching settings worker w) w) input self.new) }
+        ensures refused { OnErr result (self.new ≡ self.old) }
+        ensures others { self.new ≡ record self.old { upkeep = self.new.upkeep } }
+    {
+        self.parts.fetch(alloc, worker, picker, steps)
+    }
+
+    /// A worker, 1 to 8, installs the step that it has claimed, where its view still stands where the step begins; where
+    /// the view has moved on, nothing is installed. The claim ends in both cases. The offer is used where its input is
+    /// the step's own; else the step is computed here, so the answer does not depend on it. Want of memory changes
+    /// nothing. Cost: that of the step's input, of its difference where it is computed here, and of the install, which is
+    /// linear in the rows that change.
+    pub fn install<L: Ledger>(
+        &mut self,
+        alloc: Global,
+        worker: u32,
+        offer: Option<JobResult>,
+        steps: &mut Steps<L>,
+    ) -> Result<Installed, NoMemory>
+        requires worker { worker < 9 }
+        requires claimed { is_some (claim_kept self.old.upkeep worker) ≡ true }
+        ensures done { (w : World) → Stands w self.old → IfOk result (λ answer. GivesInstall (maintained (installing worker w.upkeep) w) answer self.new) }
+        ensures refused { OnErr result (self.new ≡ self.old) }
+        ensures others { self.new ≡ record self.old { upkeep = self.new.upkeep; rows = self.new.rows } }
+    {
+        self.parts.install(alloc, worker, offer, steps)
+    }
+
+    /// A worker, 1 to 8, gives its claim up. It takes no memory. Cost: constant.
+    pub fn release(&mut self, worker: u32)
+        requires worker { worker < 9 }
+        requires claimed { is_some (claim_kept self.old.upkeep worker) ≡ true }
+        ensures case { (w : World) → Stands w self.old → Stands (with_upkeep (released worker w.upkeep) w) self.new }
+        ensures others { self.new ≡ record self.old { upkeep = self.new.upkeep } }
+        ensures free { claim_kept self.new.upkeep worker ≡ None }
+    {
+        self.parts.release(worker);
+    }
+
+    /// Drops what nobody needs: the row versions and delta entries below the floor, which is the least of the live
+    /// snapshots, the points of the views and the last commit; and the view rows that ended at or below the least live
+    /// snapshot, or the last commit where nobody is live. It answers the floor and what is kept. It takes no memory.
+    /// Cost: for each table and view from which something goes two passes over small numbers, and the entries that are
+    /// dropped, averaged over many calls.
+    pub fn clean(&mut self, alloc: Global) -> Cleaned
+        ensures case { (w : World) → Stands w self.old → GivesCleaned (maintained (cleaning w) w) result self.new }
+        ensures rows { KeepsNoneBelow (least_read (kept 0 self.old)) self.new.rows }
+        ensures others { self.new ≡ record self.old { base = self.new.base; rows = self.new.rows } }
+    {
+        self.parts.clean(alloc)
     }
 }

@@ -1,5 +1,5 @@
 //! Steps of views, which are installed ahead in copies of what is kept of the views.
-ghost use Rattle.std.specs.Prelude.{◌≡◌, ◌<◌, true, [], None, length, nat_lt, slice_set, replicate, slice_index_or, IfOk, IfSome, OnOk};
+ghost use Rattle.std.specs.Prelude.{◌≡◌, ◌<◌, true, [], None, length, nat_lt, slice_set, replicate, slice_index_or, IfOk, IfSome, OnErr, OnOk};
 ghost use Rattle.std.specs.List.{AllByRecursion, list_all};
 ghost use Rattle.lv_schema.specs.declared.forced.Forced.{Forced};
 ghost use Rattle.lv_schema.specs.Differences.{difference};
@@ -62,10 +62,11 @@ fn changes_of(
     }
 }
 
-/// Installs a difference in what is kept of a view.
-fn install(hi: u64, changes: Signed, rows: &mut ViewRows) -> Result<(), NoMemory>
+/// Installs a difference in what is kept of a view. Want of memory changes nothing but the room.
+pub(crate) fn install(hi: u64, changes: Signed, rows: &mut ViewRows) -> Result<(), NoMemory>
     requires { CanInstall rows.old hi changes }
-    ensures { OnOk result (RowsInstall hi changes rows.old rows.new) }
+    ensures done { OnOk result (RowsInstall hi changes rows.old rows.new) }
+    ensures refused { OnErr result (rows.new ≡ record rows.old { spare = rows.new.spare }) }
 {
     rows.reserve(changes.len() as u64)?;
     rows.install(hi, changes);

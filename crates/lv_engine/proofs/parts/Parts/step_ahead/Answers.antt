@@ -24,7 +24,7 @@ returns-clause-step g c =
     let new = c.install.new.rows in (
       new,
       subst (λ list. RowsInstall step.hi list old new) (gives_changes p step c.in_ok-input.input c.in_ok-changes.changes c.in_ok-changes.ensures c.in_ok-input.ensures)
-          (any_room_installs old c.in_ok-rows.rows new step.hi c.in_ok-changes.changes c.in_ok-rows.ensures.copy c.in_ok-install.ensures),
+          (any_room_installs old c.in_ok-rows.rows new step.hi c.in_ok-changes.changes c.in_ok-rows.ensures.copy c.in_ok-install.ensures.done),
       ap (λ (l : List (Option ViewKept)). installed l rows) (c.set.ensures ∙ ap (λ (l : List (Option ViewKept)). slice_set l step.view (Some new)) c.in_ok-rows.ensures.taken ∙ set-set c.args.ahead.now step.view None (Some new))
           ∙ installed_set c.args.ahead.now rows step.view new c.requires.all,
     )
