@@ -8,7 +8,9 @@ use Rattle.lv_schema.specs.Cases.{Case}
 use Rattle.lv_schema.specs.UpkeepCases.{with_record, with_steps}
 use Rattle.lv_schema.specs.World.{World}
 use Rattle.lv_bind.specs.Allowed.{IsAllowed}
+use Rattle.lv_plain.specs.declared.entry.Entry.{Entry}
 use Rattle.lv_plain.specs.declared.entry.Reply.TheVariants as reply
+use Rattle.lv_plain.specs.Machine.{Given}
 use Rattle.lv_plain.specs.Turns.{Turn, turn_by}
 use Rattle.lv_txn.specs.Kept.{transaction_at, transaction_of}
 use Rattle.lv_engine.specs.Store.{Store, Stands}
@@ -47,6 +49,11 @@ EndsAlone (Some fault) session old new (Ok a) = (a.forced ≡ []) × (a.reply �
 EndsAlone (Some fault) session old new (Err e) = ⊥
 EndsAlone None session old new (Ok a) = ⊥
 EndsAlone None session old new (Err e) = new ≡ record old { sessions = slice_set old.sessions session None }
+
+-- the entry of what an event gives that is no turn, and the world after it
+pub record GivesEntry (given : Given) (new : Store) (e : Entry) : Type 0 where
+  pub entry : e ≡ given.entry
+  pub stands : Stands given.next.world new
 
 -- whether a session's transaction is kept
 abbrev pub is_live : Store → ℕ → Bool

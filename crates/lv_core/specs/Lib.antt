@@ -1,3 +1,3 @@
 pub mod Answering
 pub mod Run
-pub mod Cores
+pub mod Slots

@@ -9,7 +9,6 @@ ghost use Rattle.lv_schema.specs.Tasks.{pending_tasks};
 ghost use Rattle.lv_schema.specs.UpkeepCases.{outcome_of};
 ghost use Rattle.lv_schema.specs.World.{Settings, World};
 ghost use Rattle.lv_plain.specs.declared.entry.Reply.TheVariants as reply;
-ghost use Rattle.lv_plain.specs.declared.program.Program.{Program};
 ghost use Rattle.lv_plain.specs.Limits.{IsStatementLine};
 ghost use Rattle.lv_plain.specs.Machine.{steps_of};
 ghost use Rattle.lv_plain.specs.Turns.{bound_line, bound_turn, read_turn, shown, turn_by};
@@ -113,8 +112,8 @@ fn answer<L: Ledger>(
     steps: &mut Steps<L>,
 ) -> Result<Answered, NoMemory>
     requires ready { IsReady engine.old session statement }
-    ensures case { (w : World) (settings : Settings) (p : Program) (outcome : Rec → Outcome) → settings.combine ≡ engine.old.settings.combine → IsWritten outcome → Stands w engine.old
-        → Answers w engine.old engine.new result (steps_of settings reads p false session (Ok statement) w) (bound_turn outcome (pending_tasks w) session statement w.visible) }
+    ensures case { (w : World) (settings : Settings) (outcome : Rec → Outcome) → settings.combine ≡ engine.old.settings.combine → IsWritten outcome → Stands w engine.old
+        → Answers w engine.old engine.new result (steps_of settings session (Ok statement) w) (bound_turn outcome (pending_tasks w) session statement w.visible) }
     ensures settings { engine.new.settings ≡ engine.old.settings }
     ensures fresh { (w : World) (query : AQuery) → Stands w engine.old → statement ≡ bound.Query query → ReadsNoTable session query w → steps.new ≡ steps.old }
 {
@@ -142,8 +141,8 @@ pub fn answer_line<L: Ledger>(
 ) -> Result<Answered, NoMemory>
     requires next { IsNext engine.old session }
     requires line { IsStatementLine line.now }
-    ensures case { (w : World) (settings : Settings) (p : Program) (outcome : Rec → Outcome) → settings.combine ≡ engine.old.settings.combine → IsWritten outcome → Stands w engine.old
-        → Answers w engine.old engine.new result (steps_of settings reads p false session (bound_line reads session line.now w.visible) w) (read_turn outcome (pending_tasks w) session (bound_line reads session line.now w.visible) w.visible) }
+    ensures case { (w : World) (settings : Settings) (outcome : Rec → Outcome) → settings.combine ≡ engine.old.settings.combine → IsWritten outcome → Stands w engine.old
+        → Answers w engine.old engine.new result (steps_of settings session (bound_line reads session line.now w.visible) w) (read_turn outcome (pending_tasks w) session (bound_line reads session line.now w.visible) w.visible) }
     ensures settings { engine.new.settings ≡ engine.old.settings }
     ensures fresh { (w : World) (query : AQuery) → Stands w engine.old → bound_line reads session line.now w.visible ≡ Ok (bound.Query query) → ReadsNoTable session query w → steps.new ≡ steps.old }
 {
@@ -165,8 +164,8 @@ fn stale_bound<L: Ledger>(
 ) -> Result<Items<JobInput>, NoMemory>
     requires session { session < 17 }
     requires bound { IsBound engine.now.tables engine.now.views statement }
-    ensures { (w : World) (settings : Settings) (p : Program) → settings.combine ≡ engine.now.settings.combine → Stands w engine.now
-        → IfOk result (λ inputs. inputs ≡ map (input_between w.visible) (steps_of settings reads p false session (Ok statement) w)) }
+    ensures { (w : World) (settings : Settings) → settings.combine ≡ engine.now.settings.combine → Stands w engine.now
+        → IfOk result (λ inputs. inputs ≡ map (input_between w.visible) (steps_of settings session (Ok statement) w)) }
 {
     match statement {
         Bound::Query(query) => engine.stale(alloc, session, &query, steps),
@@ -190,8 +189,8 @@ pub fn stale_line<L: Ledger>(
 ) -> Result<Items<JobInput>, NoMemory>
     requires session { session < 17 }
     requires line { IsStatementLine line.now }
-    ensures { (w : World) (settings : Settings) (p : Program) → settings.combine ≡ engine.now.settings.combine → Stands w engine.now
-        → IfOk result (λ inputs. inputs ≡ map (input_between w.visible) (steps_of settings reads p false session (bound_line reads session line.now w.visible) w)) }
+    ensures { (w : World) (settings : Settings) → settings.combine ≡ engine.now.settings.combine → Stands w engine.now
+        → IfOk result (λ inputs. inputs ≡ map (input_between w.visible) (steps_of settings session (bound_line reads session line.now w.visible) w)) }
 {
     let live = engine.live(session).is_some();
     match read_line(alloc, engine.schema(), session == 0, live, line) {

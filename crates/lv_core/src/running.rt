@@ -1,37 +1,44 @@
-//! The run of a program over an engine.
-ghost use Rattle.std.specs.Prelude.{◌≡◌, ◌<◌, ◌-◌, ◌^◌, [], true, Ok, OnErr, OnOk, IfOk, length, map, slice_index};
+//! The run of a program over an engine. Each event adds its entry; once it has come nothing takes memory.
+ghost use Rattle.std.specs.Prelude.{◌≡◌, ◌<◌, ◌≤◌, [], true, is_some, Ok, OnErr, OnOk, IfOk, length, map, slice_index};
 ghost use Rattle.lv_schema.specs.declared.bound.Bound.TheVariants as bound;
 ghost use Rattle.lv_schema.specs.declared.query.Query.{Query as AQuery};
 ghost use Rattle.lv_schema.specs.World.{empty_world};
-ghost use Rattle.lv_plain.specs.Events.{turn_of};
+ghost use Rattle.lv_plain.specs.declared.event.Event.TheVariants.{Turn as turn_of, Fetch as fetch_of, Install as install_of, Release as release_of, Clean as clean_up};
+ghost use Rattle.lv_plain.specs.Legal.{IsWorker};
 ghost use Rattle.lv_plain.specs.Limits.{IsWithinLimits};
-ghost use Rattle.lv_plain.specs.Programs.{first_places, has_more, may_turn};
+ghost use Rattle.lv_plain.specs.Programs.{first_places, has_more, may_turn, setup_answered};
+ghost use Rattle.lv_upkeep.specs.Kept.{claim_kept};
 ghost use Rattle.lv_engine.specs.Answering.{ReadsNoTable, input_between};
 ghost use Rattle.lv_engine.specs.Store.{Stands};
+ghost use Rattle.lv_core.specs.Slots.{next_input};
 ghost use Rattle.lv_core.specs.Run.{Gave, IsRun, next_bound, next_steps, settings_of, state_of, view_of};
 
 use crate::answering::{answer_line, stale_line};
 use crate::lines::{line_count, line_left};
+use crate::maintaining::{clean, fetch, install, release};
 use lv_engine::Engine;
 use lv_maint::{JobInput, JobResult};
+use lv_picker::Picker;
 use lv_plain::{Entry, Program};
 use lv_values::{Items, NoMemory, Room, Steps};
 use std::alloc::Global;
 use std::marker::Model;
 use std::sync::ledger::Ledger;
 
-/// A program, the engine that its statements have come to, how many of each session are answered, and what they were
-/// answered.
+/// A program, the engine that its statements have come to, the kind of the policy by which workers choose, how many
+/// statements of each session are answered, and what the events were answered. There is spare room for the entries of all
+/// who may give their claims up.
 #[derive(Drop)]
 pub struct Run {
     engine: Engine,
     program: Program,
+    policy: u8,
     places: Items<u32>,
     entries: Room<Entry>,
 }
 
 impl Model for Run {
-    ghost use Rattle.lv_core.specs.Run.{CoreView, IsRun, view_of};
+    ghost use Rattle.lv_core.specs.Run.{CoreView, IsRoomy, view_of};
 
     ghost Value = { CoreView };
 
@@ -40,9 +47,9 @@ impl Model for Run {
 
     ghost coded = { Prim.hlevel (codes, cond.the_row.coded) };
 
-    ghost view = { λ r. view_of r.program r.engine r.places r.entries.list };
+    ghost view = { λ r. view_of r.policy r.program r.engine r.places r.entries.list };
 
-    ghost invariant = { λ r. IsRun (view_of r.program r.engine r.places r.entries.list) };
+    ghost invariant = { λ r. IsRoomy (view_of r.policy r.program r.engine r.places r.entries.list) r.entries.spare };
 }
 
 /// No statement of any session is answered.
@@ -65,54 +72,30 @@ fn place_of(places: &[u32], session: usize) -> u32
     places[session]
 }
 
-/// Answers the next statement of a session of a run, and adds its entry. Once the statement is answered nothing takes
-/// memory.
-fn take_turn<L: Ledger>(
-    alloc: Global,
-    engine: &mut Engine,
-    program: &Program,
-    places: &mut Items<u32>,
-    entries: &mut Room<Entry>,
-    session: u32,
-    offers: Items<JobResult>,
-    steps: &mut Steps<L>,
-) -> Result<(), NoMemory>
-    requires run { IsRun (view_of program.now engine.old places.old entries.old.list) }
-    requires may { may_turn program.now places.old session ≡ true }
-    ensures done { OnOk result (Gave (turn_of session) (view_of program.now engine.old places.old entries.old.list) (view_of program.now engine.new places.new entries.new.list)) }
-    ensures kept { OnErr result (view_of program.now engine.new places.new entries.new.list ≡ view_of program.now engine.old places.old entries.old.list) }
-    ensures fresh { (query : AQuery) → next_bound (view_of program.now engine.old places.old entries.old.list) session ≡ Ok (bound.Query query)
-        → ReadsNoTable session query (state_of (view_of program.now engine.old places.old entries.old.list)).world → steps.new ≡ steps.old }
+/// Makes room for the entry of a call, and for those of eight workers that may give their claims up after it.
+fn make_room(entries: &mut Room<Entry>) -> Result<(), NoMemory>
+    ensures same { entries.new.list ≡ entries.old.list }
+    ensures room { OnOk result (9 ≤ entries.new.spare) }
+    ensures kept { entries.old.spare ≤ entries.new.spare }
 {
-    entries.reserve(1)?;
-    let at = session as usize;
-    let place = place_of(places.as_slice(), at);
-    let line = line_left(program, at, place as usize);
-    let answered = answer_line(engine, alloc, session, line, offers, steps)?;
-    entries.push(Entry::Session {
-        session,
-        place: place + 1,
-        forced: answered.forced,
-        reply: answered.reply,
-    });
-    places.set(at, place + 1);
-    Ok(())
+    entries.reserve(9)
 }
 
 impl Run {
     /// A program of which no statement is answered, over an engine that stands for the empty world.
     #[tactic(auto, using(crate::proofs::Begins::run_begins))]
-    pub fn new(alloc: Global, engine: Engine, program: Program) -> Result<Run, NoMemory>
+    pub fn new(alloc: Global, engine: Engine, program: Program, policy: u8) -> Result<Run, NoMemory>
         requires within { IsWithinLimits program }
         requires opened { Stands empty_world engine }
         ensures program { IfOk result (λ run. run.program ≡ program) }
-        ensures settings { IfOk result (λ run. run.settings ≡ settings_of engine.settings.combine) }
+        ensures settings { IfOk result (λ run. run.settings ≡ settings_of engine.settings.combine policy) }
         ensures entries { IfOk result (λ run. run.entries ≡ []) }
     {
         let places = no_places(alloc, &program)?;
         Ok(Run {
             engine,
             program,
+            policy,
             places,
             entries: Room::new(alloc),
         })
@@ -194,15 +177,81 @@ impl Run {
         ensures kept { OnErr result (self.new ≡ self.old) }
         ensures fresh { (query : AQuery) → next_bound self.old session ≡ Ok (bound.Query query) → ReadsNoTable session query (state_of self.old).world → steps.new ≡ steps.old }
     {
-        take_turn(
-            alloc,
-            &mut self.engine,
-            &self.program,
-            &mut self.places,
-            &mut self.entries,
+        make_room(&mut self.entries)?;
+        let at = session as usize;
+        let place = place_of(self.places.as_slice(), at);
+        let line = line_left(&self.program, at, place as usize);
+        let answered = answer_line(&mut self.engine, alloc, session, line, offers, steps)?;
+        self.entries.push(Entry::Session {
             session,
-            offers,
-            steps,
-        )
+            place: place + 1,
+            forced: answered.forced,
+            reply: answered.reply,
+        });
+        self.places.set(at, place + 1);
+        Ok(())
+    }
+
+    /// A worker, 1 to 8, fetches a step, by a policy of the run's kind. It answers what the step is computed from, none
+    /// where there is no step. Want of memory changes nothing.
+    pub fn fetch<L: Ledger>(
+        &mut self,
+        alloc: Global,
+        worker: u32,
+        picker: &Picker,
+        steps: &mut Steps<L>,
+    ) -> Result<Option<JobInput>, NoMemory>
+        requires worker { IsWorker worker }
+        requires setup { setup_answered self.old.program self.old.places ≡ true }
+        requires policy { self.old.settings.policy ≡ picker.now.kind }
+        ensures done { OnOk result (Gave (fetch_of worker) self.old self.new) }
+        ensures input { IfOk result (λ input. input ≡ next_input self.old worker) }
+        ensures kept { OnErr result (self.new ≡ self.old) }
+    {
+        make_room(&mut self.entries)?;
+        let given = fetch(&mut self.engine, alloc, worker, picker, steps)?;
+        self.entries.push(given.entry);
+        Ok(given.input)
+    }
+
+    /// A worker, 1 to 8, installs the step that it has claimed. Want of memory changes nothing.
+    pub fn install<L: Ledger>(
+        &mut self,
+        alloc: Global,
+        worker: u32,
+        offer: Option<JobResult>,
+        steps: &mut Steps<L>,
+    ) -> Result<(), NoMemory>
+        requires worker { IsWorker worker }
+        requires setup { setup_answered self.old.program self.old.places ≡ true }
+        ensures done { OnOk result (Gave (install_of worker) self.old self.new) }
+        ensures kept { OnErr result (self.new ≡ self.old) }
+    {
+        make_room(&mut self.entries)?;
+        let entry = install(&mut self.engine, alloc, worker, offer, steps)?;
+        self.entries.push(entry);
+        Ok(())
+    }
+
+    /// A worker, 1 to 8, gives its claim up. It takes no memory.
+    pub fn release(&mut self, worker: u32)
+        requires worker { IsWorker worker }
+        requires claim { is_some (claim_kept self.old.store.upkeep worker) ≡ true }
+        ensures { Gave (release_of worker) self.old self.new }
+    {
+        let entry = release(&mut self.engine, worker);
+        self.entries.push(entry);
+    }
+
+    /// What nobody needs is dropped. Want of memory changes nothing.
+    pub fn clean(&mut self, alloc: Global) -> Result<(), NoMemory>
+        requires setup { setup_answered self.old.program self.old.places ≡ true }
+        ensures done { OnOk result (Gave clean_up self.old self.new) }
+        ensures kept { OnErr result (self.new ≡ self.old) }
+    {
+        make_room(&mut self.entries)?;
+        let entry = clean(&mut self.engine, alloc);
+        self.entries.push(entry);
+        Ok(())
     }
 }

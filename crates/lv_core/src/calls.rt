@@ -1,0 +1,215 @@
+//! The calls of a core.
+ghost use Rattle.std.specs.Prelude.{◌≡◌, [], true, is_some, replicate, None, Ok, OnErr, OnOk, IfOk, map};
+ghost use Rattle.lv_schema.specs.declared.bound.Bound.TheVariants as bound;
+ghost use Rattle.lv_schema.specs.declared.query.Query.{Query as AQuery};
+ghost use Rattle.lv_schema.specs.World.{empty_world};
+ghost use Rattle.lv_plain.specs.declared.event.Event.TheVariants.{Turn as turn_of, Fetch as fetch_of, Install as install_of, Release as release_of, Clean as clean_up};
+ghost use Rattle.lv_plain.specs.Legal.{IsWorker};
+ghost use Rattle.lv_plain.specs.Limits.{IsWithinLimits};
+ghost use Rattle.lv_plain.specs.Programs.{may_turn, setup_answered};
+ghost use Rattle.lv_upkeep.specs.Kept.{claim_kept};
+ghost use Rattle.lv_engine.specs.Answering.{ReadsNoTable, input_between};
+ghost use Rattle.lv_engine.specs.Store.{Stands};
+ghost use Rattle.lv_core.specs.Run.{Gave, IsRun, next_bound, next_steps, settings_of, state_of};
+ghost use Rattle.lv_core.specs.Slots.{next_input, slot_of, slots_given, slots_without};
+
+use crate::machine::Core;
+use crate::running::Run;
+use crate::slots::{Slots, give_slot, no_slots};
+use lv_engine::Engine;
+use lv_maint::{JobInput, JobResult};
+use lv_picker::Picker;
+use lv_plain::{Entry, Program};
+use lv_values::{Items, NoMemory, Steps};
+use std::alloc::Global;
+use std::sync::ledger::Ledger;
+
+impl Core {
+    /// A program of which no statement is answered, over an engine that stands for the empty world. Nobody has a claim, and
+    /// every slot is empty.
+    pub fn new(
+        alloc: Global,
+        engine: Engine,
+        program: Program,
+        picker: Picker,
+    ) -> Result<Core, NoMemory>
+        requires within { IsWithinLimits program }
+        requires opened { Stands empty_world engine }
+        ensures program { IfOk result (λ core. core.run.program ≡ program) }
+        ensures settings { IfOk result (λ core. core.run.settings ≡ settings_of engine.settings.combine picker.kind) }
+        ensures entries { IfOk result (λ core. core.run.entries ≡ []) }
+        ensures slots { IfOk result (λ core. core.slots ≡ replicate 9 None) }
+    {
+        let run = Run::new(alloc, engine, program, picker.kind())?;
+        let slots = no_slots(alloc)?;
+        Ok(Core { run, picker, slots })
+    }
+
+    /// What the core keeps of its run: its entries are legal, and its engine stands for the world after them. It is a law,
+    /// and the call does nothing.
+    pub fn known(&self)
+        ensures { IsRun self.now.run }
+    {
+        self.run.known();
+    }
+
+    /// The engine.
+    pub fn engine(&self) -> &Engine
+        ensures { result.now ≡ self.now.run.store }
+    {
+        self.run.engine()
+    }
+
+    /// The program.
+    pub fn program(&self) -> &Program
+        ensures { result.now ≡ self.now.run.program }
+    {
+        self.run.program()
+    }
+
+    /// The kind of the policy.
+    pub fn kind(&self) -> u8
+        ensures { result ≡ self.now.run.settings.policy }
+    {
+        self.picker.kind()
+    }
+
+    /// What the events have answered, in order.
+    pub fn entries(&self) -> &[Entry]
+        ensures { result.now ≡ self.now.run.entries }
+    {
+        self.run.entries()
+    }
+
+    /// Whether a session has a statement to be answered now: one that is not answered and, where it is not the setup, the
+    /// setup has none. The setup is session 0. Cost: constant.
+    pub fn left(&self, session: u32) -> bool
+        ensures { result ≡ may_turn self.now.run.program self.now.run.places session }
+    {
+        self.run.left(session)
+    }
+
+    /// What the steps are computed from that the next statement of a session would force now, where it binds to a query;
+    /// else nothing. Cost: that of binding, and of the engine's `stale`.
+    pub fn stale<L: Ledger>(
+        &self,
+        alloc: Global,
+        session: u32,
+        steps: &mut Steps<L>,
+    ) -> Result<Items<JobInput>, NoMemory>
+        requires may { may_turn self.now.run.program self.now.run.places session ≡ true }
+        ensures inputs { IfOk result (λ inputs. inputs ≡ map (input_between (state_of self.now.run).world.visible) (next_steps self.now.run session)) }
+    {
+        self.run.stale(alloc, session, steps)
+    }
+
+    /// Answers the next statement of a session, and keeps the entry. An offer is used where it is a step's that the
+    /// statement forces. Want of memory changes nothing. A query of fresh views alone takes no step.
+    /// Cost: that of binding, and of the statement's call of the engine.
+    pub fn turn<L: Ledger>(
+        &mut self,
+        alloc: Global,
+        session: u32,
+        offers: Items<JobResult>,
+        steps: &mut Steps<L>,
+    ) -> Result<(), NoMemory>
+        requires may { may_turn self.old.run.program self.old.run.places session ≡ true }
+        ensures done { OnOk result (Gave (turn_of session) self.old.run self.new.run) }
+        ensures slots { self.new.slots ≡ self.old.slots }
+        ensures kept { OnErr result ((self.new.run ≡ self.old.run) × (self.new.slots ≡ self.old.slots)) }
+        ensures fresh { (query : AQuery) → next_bound self.old.run session ≡ Ok (bound.Query query) → ReadsNoTable session query (state_of self.old.run).world → steps.new ≡ steps.old }
+    {
+        self.run.turn(alloc, session, offers, steps)
+    }
+
+    /// A worker fetches a step, once the setup is answered: it is busy where it has a claim, and idle where no view that
+    /// nobody has claimed has a pending task. The step that is fetched becomes its claim, and what this is computed from
+    /// lies in its slot. Want of memory changes nothing. Cost: that of the engine's `fetch`.
+    pub fn fetch<L: Ledger>(
+        &mut self,
+        alloc: Global,
+        worker: u32,
+        steps: &mut Steps<L>,
+    ) -> Result<(), NoMemory>
+        requires worker { IsWorker worker }
+        requires setup { setup_answered self.old.run.program self.old.run.places ≡ true }
+        ensures done { OnOk result (Gave (fetch_of worker) self.old.run self.new.run) }
+        ensures slot { OnOk result (self.new.slots ≡ slots_given worker (next_input self.old.run worker) self.old.slots) }
+        ensures kept { OnErr result ((self.new.run ≡ self.old.run) × (self.new.slots ≡ self.old.slots)) }
+    {
+        let input = self.run.fetch(alloc, worker, &self.picker, steps)?;
+        give_slot(&mut self.slots, worker, input);
+        Ok(())
+    }
+
+    /// Takes out what lies in a worker's slot. The run stays as it is. Cost: constant.
+    pub fn take_slot(&mut self, worker: u32) -> Option<JobInput>
+        requires worker { IsWorker worker }
+        ensures taken { result ≡ slot_of self.old.slots worker }
+        ensures slot { self.new.slots ≡ slots_without worker self.old.slots }
+        ensures run { self.new.run ≡ self.old.run }
+    {
+        self.slots.replace(worker as usize, None)
+    }
+
+    /// A worker installs the step that it has claimed, if it has, once the setup is answered; its slot is empty then. The
+    /// offer is used where it is of the step. Want of memory changes nothing. Cost: that of the engine's `install`.
+    pub fn install<L: Ledger>(
+        &mut self,
+        alloc: Global,
+        worker: u32,
+        offer: JobResult,
+        steps: &mut Steps<L>,
+    ) -> Result<(), NoMemory>
+        requires worker { IsWorker worker }
+        requires setup { setup_answered self.old.run.program self.old.run.places ≡ true }
+        ensures done { OnOk result (Gave (install_of worker) self.old.run self.new.run) }
+        ensures slot { OnOk result (self.new.slots ≡ slots_without worker self.old.slots) }
+        ensures kept { OnErr result ((self.new.run ≡ self.old.run) × (self.new.slots ≡ self.old.slots)) }
+    {
+        self.run.install(alloc, worker, Some(offer), steps)?;
+        self.slots.set(worker as usize, None);
+        Ok(())
+    }
+
+    /// The same without an offer: the engine computes the step itself, as a slot's input would only be compared with the
+    /// engine's own. So after want of memory what lies in the slot is still there.
+    pub fn install_slot<L: Ledger>(
+        &mut self,
+        alloc: Global,
+        worker: u32,
+        steps: &mut Steps<L>,
+    ) -> Result<(), NoMemory>
+        requires worker { IsWorker worker }
+        requires setup { setup_answered self.old.run.program self.old.run.places ≡ true }
+        ensures done { OnOk result (Gave (install_of worker) self.old.run self.new.run) }
+        ensures slot { OnOk result (self.new.slots ≡ slots_without worker self.old.slots) }
+        ensures kept { OnErr result ((self.new.run ≡ self.old.run) × (self.new.slots ≡ self.old.slots)) }
+    {
+        self.run.install(alloc, worker, None, steps)?;
+        self.slots.set(worker as usize, None);
+        Ok(())
+    }
+
+    /// A worker that has a claim gives it up; its slot is empty then. It takes no memory. Cost: constant.
+    pub fn release(&mut self, worker: u32)
+        requires worker { IsWorker worker }
+        requires claim { is_some (claim_kept self.old.run.store.upkeep worker) ≡ true }
+        ensures done { Gave (release_of worker) self.old.run self.new.run }
+        ensures slot { self.new.slots ≡ slots_without worker self.old.slots }
+    {
+        self.run.release(worker);
+        self.slots.set(worker as usize, None);
+    }
+
+    /// Drops what nobody needs, once the setup is answered, and keeps the entry of what is left. Want of memory changes
+    /// nothing. Cost: that of the engine's `clean`.
+    pub fn clean(&mut self, alloc: Global) -> Result<(), NoMemory>
+        requires setup { setup_answered self.old.run.program self.old.run.places ≡ true }
+        ensures done { OnOk result (Gave clean_up self.old.run self.new.run) }
+        ensures slots { self.new.slots ≡ self.old.slots }
+        ensures kept { OnErr result ((self.new.run ≡ self.old.run) × (self.new.slots ≡ self.old.slots)) }
+    {
+        self.run.clean(alloc)
+    }
+}
