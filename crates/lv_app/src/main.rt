@@ -1,8 +1,14 @@
 //! The command `lazyview`: it runs the script on standard input and writes the transcript to standard output.
 #![tactic(auto)]
 
+ghost use Rattle.std.specs.Prelude.{◌≡◌};
+ghost use Rattle.lv_schema.specs.Policies.{chosen};
+ghost use Rattle.lv_picker.specs.Choices.{IsChoice};
+
 use lv_outside::{StdSink, StdSource};
+use lv_picker::{Choice, Picker, place_of_first, place_of_most, place_of_oldest};
 use lv_runner::{Status, run};
+use lv_schema::Pending;
 use lv_values::{Items, NoMemory, Text};
 use std::env::{Env, FillError};
 use std::process::ExitCode;
@@ -41,14 +47,46 @@ fn words_of(rt: &HostRuntime) -> Result<Items<Text>, NoMemory> {
     Ok(words)
 }
 
-/// Runs the script on standard input.
-fn status_of(rt: &HostRuntime) -> Status {
-    let Ok(words) = words_of(rt) else {
-        return Status::NoMemory;
-    };
+/// Runs the script on standard input, with the three policies by which a worker chooses a view.
+fn run_script(rt: &HostRuntime) -> Result<Status, NoMemory> {
+    let alloc = rt.alloc();
+    let words = words_of(rt)?;
+    let oldest: Choice = Box::new(
+        alloc,
+        |list: &[Pending]| -> usize
+            requires { IsChoice list.now }
+            ensures { result ≡ chosen 0 list.now }
+        { place_of_oldest(list) },
+    )?;
+    let most: Choice = Box::new(
+        alloc,
+        |list: &[Pending]| -> usize
+            requires { IsChoice list.now }
+            ensures { result ≡ chosen 1 list.now }
+        { place_of_most(list) },
+    )?;
+    let first: Choice = Box::new(
+        alloc,
+        |list: &[Pending]| -> usize
+            requires { IsChoice list.now }
+            ensures { result ≡ chosen 2 list.now }
+        { place_of_first(list) },
+    )?;
+    let mut pickers = Items::new(alloc);
+    pickers.push(Picker::new(0, oldest))?;
+    pickers.push(Picker::new(1, most))?;
+    pickers.push(Picker::new(2, first))?;
     let mut source = StdSource::new(rt.reader());
     let mut sink = StdSink::new(io::writer(rt));
-    run(rt.alloc(), words.as_slice(), &mut source, &mut sink)
+    Ok(run(alloc, words.as_slice(), &mut source, &mut sink, pickers))
+}
+
+/// How the run ends.
+fn status_of(rt: &HostRuntime) -> Status {
+    match run_script(rt) {
+        Ok(status) => status,
+        Err(NoMemory) => Status::NoMemory,
+    }
 }
 
 /// Says on standard error how the run ended, unless it is done.

@@ -11,8 +11,7 @@ use Rattle.lv_lines.specs.declared.script_fault.ScriptFaultKind.TheVariants.{Scr
 use Rattle.lv_lines.specs.Script.{script_from, script_of, start}
 use Rattle.lv_lines.specs.ScriptLine.{lines_of, piece_len, pieces_of, without_return}
 use Rattle.lv_lines.proofs.FrontScripts.{IsLess, fewer_lines}
-use Rattle.lv_order.specs.Turns.{IsTurn}
-use Rattle.lv_runner.specs.Built.{IsBuilt, IsBuiltScript, front}
+use Rattle.lv_runner.specs.Built.{IsBuilt, IsDone, IsBuiltScript, front}
 
 -- ---- a program that is run was run with a line less
 all_first : {X : Type 0} (P : X → Type 0) (xs ys : List X) → All P (xs ++ ys) → All P xs
@@ -24,7 +23,7 @@ less_built = record {
   setup_line = λ p line built. built;
   session_line = λ p line built. built;
   session_head = λ p name built. built;
-  order_line = λ p items built. all_first IsTurn p.order items built;
+  order_line = λ p items built. all_first IsDone p.order items built;
 }
 
 -- ---- the bytes of the first lines say the first lines

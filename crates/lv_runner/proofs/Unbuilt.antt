@@ -2,19 +2,12 @@
 use Rattle.std.proofs.Common.{◌≡◌, ℕ, zero, suc, ◌+◌, ◌-◌, ◌<◌, ◌≤◌, Bool, true, false, List, [], ◌∷◌, ◌++◌, length, take, drop, Result, Ok, Err, MatchBool, refl, sym, ap, subst, ◌∙◌, append_assoc, take-append-drop, take-take, length-drop, drop-drop, arith}
 use Rattle.std.proofs.lemmas.List.{drop-take}
 use Rattle.std.proofs.lemmas.List.Elements.{All-nil}
-use Rattle.lv_plain.specs.declared.program.OrderItem.{OrderItem}
-use Rattle.lv_plain.specs.declared.program.OrderItem.TheVariants as item
 use Rattle.lv_plain.specs.declared.program.Program.{Program}
 use Rattle.lv_lines.specs.declared.script_fault.ScriptFault.{ScriptFault}
 use Rattle.lv_lines.specs.Script.{script_of, start}
 use Rattle.lv_lines.specs.ScriptLine.{piece_len}
-use Rattle.lv_order.specs.Turns.{AreTurns, IsFirstOther, IsTurn}
-use Rattle.lv_runner.specs.Built.{IsBuilt, IsBuiltScript, IsFirstUnbuilt, front}
+use Rattle.lv_runner.specs.Built.{IsBuilt, IsDone, IsBuiltScript, IsFirstUnbuilt, front}
 use Rattle.lv_runner.proofs.FirstUnbuilt.{built_before}
-
--- an item that is no turn
-pub other_item : (order : List OrderItem) (place : ℕ) → IsFirstOther order place → AreTurns order → ⊥
-other_item order place is turns = is.other item.Clean (turns place item.Clean is.there)
 
 pub yes_of : (b : Bool) (P : Type 0) → b ≡ true → MatchBool b P (P → ⊥) → P
 yes_of true P e h = h
@@ -43,7 +36,7 @@ pub built_fault : (bytes : List ℕ) (fault : ScriptFault) → script_of bytes �
 built_fault bytes fault e q f = absurd cc
 
 pub built_none : IsBuiltScript []
-built_none = built_by [] start.program refl (All-nil IsTurn)
+built_none = built_by [] start.program refl (All-nil IsDone)
 
 -- ---- the front lines
 

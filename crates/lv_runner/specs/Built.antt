@@ -1,12 +1,19 @@
--- The programs that the command runs today: the order has turns of sessions alone.
+-- The programs that the command runs today: the order has no mark.
 use Rattle.std.specs.Prelude.{◌≡◌, ℕ, zero, suc, ◌+◌, ◌<◌, List, [], ◌++◌, take, drop, Ok}
-use Rattle.lv_order.specs.Turns.{AreTurns}
+use Rattle.std.specs.List.{All}
+use Rattle.lv_plain.specs.declared.program.OrderItem.{OrderItem}
+use Rattle.lv_plain.specs.declared.program.OrderItem.TheVariants.{Mark}
 use Rattle.lv_plain.specs.declared.program.Program.{Program}
 use Rattle.lv_lines.specs.Script.{script_of}
 use Rattle.lv_lines.specs.ScriptLine.{piece_len}
 
+-- an item that is done today
+abbrev pub IsDone : OrderItem → Type 0
+IsDone (Mark view) = ⊥
+IsDone item = Unit {0}
+
 abbrev pub IsBuilt : Program → Type 0
-IsBuilt p = AreTurns p.order
+IsBuilt p = All IsDone p.order
 
 -- the bytes of the first lines, with their line feeds
 abbrev pub front : ℕ → List ℕ → List ℕ

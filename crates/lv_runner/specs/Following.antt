@@ -1,29 +1,35 @@
--- Turns that are taken one after another from the begin of a program, and what a core then keeps.
-use Rattle.std.specs.Prelude.{◌≡◌, ℕ, true, List, ◌∷◌, ◌++◌, map}
-use Rattle.lv_bind.specs.Reads.{reads}
-use Rattle.lv_core.specs.Run.{CoreView, first_state}
+-- Events that come one after another from the begin of a program, and what a core then keeps.
+use Rattle.std.specs.Prelude.{◌≡◌, List, ◌∷◌, ◌++◌}
+use Rattle.lv_core.specs.Run.{CoreView, first_state, rules_of}
 use Rattle.lv_order.specs.Places.{places_after}
 use Rattle.lv_plain.specs.declared.program.Program.{Program}
-use Rattle.lv_plain.specs.Events.{schedule, turn_of}
-use Rattle.lv_plain.specs.Legal.{events_of}
-use Rattle.lv_plain.specs.Programs.{may_turn}
+use Rattle.lv_plain.specs.declared.event.Event.{Event}
+use Rattle.lv_plain.specs.declared.event.Event.TheVariants.{Mark as mark_of, Release as release_of}
+use Rattle.lv_plain.specs.Events.{schedule}
+use Rattle.lv_plain.specs.Legal.{MayHappen, events_of}
+use Rattle.lv_plain.specs.Machine.{State}
 use Rattle.lv_runner.specs.Output.{ShowNoFailure, run_settings}
 
--- each may come when it comes
-abbrev pub MayFollow : Program → List ℕ → Type 0
-MayFollow p turns = (before : List ℕ) (session : ℕ) (behind : List ℕ) → before ++ session ∷ behind ≡ turns → may_turn p (places_after p before) session ≡ true
+-- an event that is done today: a mark is not, and no worker gives its claim up of itself
+abbrev pub IsDoneEvent : Event → Type 0
+IsDoneEvent (mark_of view) = ⊥
+IsDoneEvent (release_of worker) = ⊥
+IsDoneEvent event = Unit {0}
 
--- the entries are those of these turns, so many statements of each session are answered, and no entry shows that a disk
+-- each may happen when it comes, and is done
+abbrev pub MayFollow : Program → List Event → Type 0
+MayFollow p events = (s : State) (before : List Event) (event : Event) (behind : List Event) → before ++ event ∷ behind ≡ events → s.places ≡ places_after p before
+    → MayHappen p s event × IsDoneEvent event
+
+-- the entries are those of these events, so many statements of each session are answered, and no entry shows that a disk
 -- failed
-pub record HasFollowed (c : CoreView) (turns : List ℕ) : Type 0 where
-  pub events : events_of c.settings reads c.program (first_state c.settings c.program) c.entries ≡ map turn_of turns
-  pub places : c.places ≡ places_after c.program turns
+pub record HasFollowed (c : CoreView) (events : List Event) : Type 0 where
+  pub events_are : events_of (rules_of c.settings c.program) (first_state c.settings c.program) c.entries ≡ events
+  pub places : c.places ≡ places_after c.program events
   pub unfailed : ShowNoFailure c.entries
 
--- the run of a whole program: its turns are the schedule
+-- the run of a whole program: its events are the schedule
 pub record IsRunOfProgram (p : Program) (c : CoreView) : Type 0 where
   pub program : c.program ≡ p
   pub settings : c.settings ≡ run_settings
-  pub turns : List ℕ
-  pub scheduled : map turn_of turns ≡ schedule p
-  pub followed : HasFollowed c turns
+  pub followed : HasFollowed c (schedule p)

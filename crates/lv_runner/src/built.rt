@@ -5,20 +5,30 @@ ghost use Rattle.lv_lines.specs.ScriptLine.{piece_len};
 ghost use Rattle.lv_runner.specs.Built as spec;
 
 use lv_lines::{ScriptFault, read_script};
-use lv_order::first_other;
-use lv_plain::Program;
+use lv_plain::{OrderItem, Program};
 use lv_values::NoMemory;
 use std::alloc::Global;
 
-/// Whether the program is one that is run today: each item of the order is a turn of a session. Cost: linear in the order.
-#[tactic(auto, using(crate::proofs::Unbuilt::other_item))]
+/// Whether an item of an order is done today: it is no mark.
+fn is_done(item: &OrderItem) -> bool
+    ensures { MatchBool result (spec.IsDone item.now) (spec.IsDone item.now → ⊥) }
+{
+    match item {
+        OrderItem::Mark { .. } => false,
+        _ => true,
+    }
+}
+
+/// Whether the program is one that is run today: each item of its order is done. Cost: linear in the order.
 pub(crate) fn is_built(program: &Program) -> bool
     ensures { MatchBool result (spec.IsBuilt program.now) (spec.IsBuilt program.now → ⊥) }
 {
-    match first_other(program.order.as_slice()) {
-        None => true,
-        Some(_) => false,
+    for item in program.order.as_slice() {
+        if !is_done(item) {
+            return false;
+        }
     }
+    true
 }
 
 /// Whether the script says a program that is run, or none at all.

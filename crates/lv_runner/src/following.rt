@@ -1,20 +1,20 @@
-//! The turns of a program, one after another.
+//! The events of a program, one after another.
 ghost use Rattle.std.specs.Prelude.{◌≡◌, ◌<◌, [], true, IfOk, OnOk, map};
-ghost use Rattle.lv_core.specs.Cores.{run_of};
-ghost use Rattle.lv_core.specs.Run.{Gave};
-ghost use Rattle.lv_order.specs.Turns.{AreTurns};
-ghost use Rattle.lv_plain.specs.Events.{schedule, turn_of};
+ghost use Rattle.lv_core.specs.Run.{Gave, state_of};
+ghost use Rattle.lv_plain.specs.declared.event.Event.TheVariants.{Turn as turn_of};
 ghost use Rattle.lv_plain.specs.Following.{IsFollowable};
+ghost use Rattle.lv_plain.specs.Legal.{MayHappen};
 ghost use Rattle.lv_plain.specs.Limits.{IsWithinLimits};
 ghost use Rattle.lv_plain.specs.Programs.{may_turn};
-ghost use Rattle.lv_runner.specs.Following.{HasFollowed, IsRunOfProgram, MayFollow};
-ghost use Rattle.lv_runner.specs.Output.{run_settings};
+ghost use Rattle.lv_runner.specs.Built.{IsBuilt};
+ghost use Rattle.lv_runner.specs.Following.{HasFollowed, IsDoneEvent, IsRunOfProgram, MayFollow};
 
 use lv_core::Core;
 use lv_engine::{Engine, Settings};
 use lv_maint::{JobInput, JobResult, compute};
-use lv_order::{each_turn_may_come, turns_in_order};
-use lv_plain::Program;
+use lv_order::{each_event_may_come, events_in_order};
+use lv_picker::Picker;
+use lv_plain::{Event, Program};
 use lv_values::{Items, NoMemory, Steps};
 use std::alloc::Global;
 use std::sync::ledger::{Blank, Ledger};
@@ -40,40 +40,61 @@ fn answer_next<L: Ledger>(
     session: u32,
     steps: &mut Steps<L>,
 ) -> Result<(), NoMemory>
-    requires may { may_turn (run_of core.old).program (run_of core.old).places session ≡ true }
-    ensures { OnOk result (Gave (turn_of session) (run_of core.old) (run_of core.new)) }
+    requires may { may_turn core.old.run.program core.old.run.places session ≡ true }
+    ensures { OnOk result (Gave (turn_of session) core.old.run core.new.run) }
 {
     let inputs = core.stale(alloc, session, steps)?;
     let offers = computed(alloc, inputs)?;
     core.turn(alloc, session, offers, steps)
 }
 
-/// Answers a statement of each of these sessions, one after another, from the begin of the program.
+/// Answers an event.
+fn answer_event<L: Ledger>(
+    alloc: Global,
+    core: &mut Core,
+    event: &Event,
+    steps: &mut Steps<L>,
+) -> Result<(), NoMemory>
+    requires may { MayHappen core.old.run.program (state_of core.old.run) event.now }
+    requires done { IsDoneEvent event.now }
+    ensures { OnOk result (Gave event.now core.old.run core.new.run) }
+{
+    core.known();
+    match event {
+        Event::Turn { session } => answer_next(alloc, core, *session, steps),
+        Event::Fetch { worker } => core.fetch(alloc, *worker, steps),
+        Event::Install { worker } => core.install_slot(alloc, *worker, steps),
+        Event::Clean => core.clean(alloc),
+        Event::Release { .. } | Event::Mark { .. } => Ok(()),
+    }
+}
+
+/// Answers these events, one after another, from the begin of the program.
 fn follow<L: Ledger>(
     alloc: Global,
     core: &mut Core,
-    turns: &[u32],
+    events: &[Event],
     steps: &mut Steps<L>,
 ) -> Result<(), NoMemory>
-    requires fresh { (run_of core.old).entries ≡ [] }
-    requires may { MayFollow (run_of core.old).program turns.now }
-    ensures program { OnOk result ((run_of core.new).program ≡ (run_of core.old).program) }
-    ensures settings { OnOk result ((run_of core.new).settings ≡ (run_of core.old).settings) }
-    ensures followed { OnOk result (HasFollowed (run_of core.new) turns.now) }
+    requires fresh { core.old.run.entries ≡ [] }
+    requires may { MayFollow core.old.run.program events.now }
+    ensures program { OnOk result (core.new.run.program ≡ core.old.run.program) }
+    ensures settings { OnOk result (core.new.run.settings ≡ core.old.run.settings) }
+    ensures followed { OnOk result (HasFollowed core.new.run events.now) }
 {
     core.known();
-    for session in turns {
-        answer_next(alloc, core, *session, steps)?;
+    for event in events {
+        answer_event(alloc, core, event, steps)?;
     }
     Ok(())
 }
 
-/// The run of a whole program: each statement is answered, in the order of the schedule. Nobody looks at the count of the
-/// rows that are read.
-#[tactic(auto, using(crate::proofs::FollowTurns::may_follow))]
+/// The run of a whole program: each event of its schedule is answered, in order. Nobody looks at the count of the rows that
+/// are read.
 pub(crate) fn run_program<L: Ledger>(
     alloc: Global,
     program: Program,
+    picker: Picker,
     blank: Blank,
 ) -> Result<Core, NoMemory>
     requires name { blank.name ≡ L.name }
@@ -81,14 +102,15 @@ pub(crate) fn run_program<L: Ledger>(
     requires some { 0 < blank.parts }
     requires within { IsWithinLimits program }
     requires followable { IsFollowable program }
-    requires turns { AreTurns program.order }
-    ensures { IfOk result (λ core. IsRunOfProgram program (run_of core)) }
+    requires built { IsBuilt program }
+    requires policy { picker.kind ≡ 0 }
+    ensures { IfOk result (λ core. IsRunOfProgram program core.run) }
 {
-    each_turn_may_come();
-    let turns = turns_in_order(alloc, &program)?;
+    each_event_may_come();
+    let events = events_in_order(alloc, &program)?;
     let engine = Engine::new(alloc, Settings { combine: COMBINE })?;
-    let mut core = Core::new(alloc, engine, program)?;
+    let mut core = Core::new(alloc, engine, program, picker)?;
     let mut steps = Steps::<L>::new(blank);
-    follow(alloc, &mut core, turns.as_slice(), &mut steps)?;
+    follow(alloc, &mut core, events.as_slice(), &mut steps)?;
     Ok(core)
 }

@@ -1,6 +1,5 @@
 //! What is written for the bytes of a script.
 ghost use Rattle.std.specs.Prelude.{◌≡◌, ◌≤◌, ℕ, Ok, IfOk, MatchResult, List, ◌∷◌, codes, length, map};
-ghost use Rattle.lv_core.specs.Cores.{run_of};
 ghost use Rattle.lv_core.specs.Run.{state_of};
 ghost use Rattle.lv_plain.specs.Following.{IsFollowable};
 ghost use Rattle.lv_plain.specs.Limits.{IsWithinLimits};
@@ -15,7 +14,8 @@ use crate::built::{first_unbuilt, is_built};
 use crate::following::run_program;
 use lv_core::Core;
 use lv_lines::{Names, ScriptFault, print_entries, read_script};
-use lv_order::{all_is_answered, places_after_turns};
+use lv_order::{all_is_answered, places_after_events};
+use lv_picker::Picker;
 use lv_plain::{Program, Texts};
 use lv_schema::Schema;
 use lv_values::{Bytes, Copying, NoMemory, Text};
@@ -80,7 +80,7 @@ fn view_names(alloc: Global, schema: &Schema) -> Result<Texts, NoMemory>
 
 /// The names that a transcript uses.
 fn names_of(alloc: Global, core: &Core) -> Result<Names, NoMemory>
-    ensures { IfOk result (λ names. names ≡ names_of (run_of core.now).program (state_of (run_of core.now)).world.visible) }
+    ensures { IfOk result (λ names. names ≡ names_of core.now.run.program (state_of core.now.run).world.visible) }
 {
     core.known();
     let schema = core.engine().schema();
@@ -93,7 +93,7 @@ fn names_of(alloc: Global, core: &Core) -> Result<Names, NoMemory>
 
 /// The text of a run's entries.
 fn text_of(alloc: Global, core: &Core) -> Result<Bytes, NoMemory>
-    ensures { IfOk result (λ text. text ≡ text_of (names_of (run_of core.now).program (state_of (run_of core.now)).world.visible) (run_of core.now).entries) }
+    ensures { IfOk result (λ text. text ≡ text_of (names_of core.now.run.program (state_of core.now.run).world.visible) core.now.run.entries) }
 {
     core.known();
     let names = names_of(alloc, core)?;
@@ -101,15 +101,16 @@ fn text_of(alloc: Global, core: &Core) -> Result<Bytes, NoMemory>
 }
 
 /// The text for a program that is run.
-fn output_of(alloc: Global, program: Program) -> Result<Bytes, NoMemory>
+fn output_of(alloc: Global, program: Program, picker: Picker) -> Result<Bytes, NoMemory>
     requires within { IsWithinLimits program }
     requires followable { IsFollowable program }
     requires built { IsBuilt program }
+    requires policy { picker.kind ≡ 0 }
     ensures { (bytes : List ℕ) → script_of bytes ≡ Ok program → IfOk result (λ text. IsOutput bytes text) }
 {
-    places_after_turns();
+    places_after_events();
     all_is_answered();
-    let core = run_program::<Brand>(alloc, program, Blank::new(1))?;
+    let core = run_program::<Brand>(alloc, program, picker, Blank::new(1))?;
     core.known();
     text_of(alloc, &core)
 }
@@ -140,27 +141,29 @@ fn unbuilt(alloc: Global, bytes: &[u8]) -> NoText
 }
 
 /// The text for a script with this program.
-fn text_for(alloc: Global, bytes: &[u8], program: Program) -> Result<Bytes, NoText>
+fn text_for(alloc: Global, bytes: &[u8], program: Program, picker: Picker) -> Result<Bytes, NoText>
     requires long { length bytes.now ≤ limit }
     requires script { script_of bytes.now ≡ Ok program }
     requires within { IsWithinLimits program }
     requires followable { IsFollowable program }
+    requires policy { picker.kind ≡ 0 }
     ensures { MatchResult result (IsOutput bytes.now) (IsCause bytes.now) }
 {
     if is_built(&program) {
-        return Ok(output_of(alloc, program)?);
+        return Ok(output_of(alloc, program, picker)?);
     }
     Err(unbuilt(alloc, bytes))
 }
 
 /// The text that is written for the bytes of a script, or the line that refuses it. Cost: linear in the script, and what
 /// each statement takes.
-pub(crate) fn output(alloc: Global, bytes: &[u8]) -> Result<Bytes, NoText>
-    requires { length bytes.now ≤ limit }
+pub(crate) fn output(alloc: Global, bytes: &[u8], picker: Picker) -> Result<Bytes, NoText>
+    requires long { length bytes.now ≤ limit }
+    requires policy { picker.kind ≡ 0 }
     ensures { MatchResult result (IsOutput bytes.now) (IsCause bytes.now) }
 {
     match read_script(alloc, bytes) {
-        Ok(program) => text_for(alloc, bytes, program),
+        Ok(program) => text_for(alloc, bytes, program, picker),
         Err(fault) => Err(unread(fault)),
     }
 }

@@ -1,5 +1,5 @@
 //! The top call.
-ghost use Rattle.std.specs.Prelude.{◌≡◌, ◌≤◌, ◌<◌, ◌↔◌, ℕ, IsTrue, MatchResult, OnOk, length};
+ghost use Rattle.std.specs.Prelude.{◌≡◌, ◌≤◌, ◌<◌, ◌↔◌, ◌∷◌, ℕ, [], IsTrue, MatchResult, OnOk, length, map};
 ghost use Rattle.std.specs.Io.KnownBytes.{Appends, Consumes, IsAtEnd, Keeps};
 ghost use Rattle.lv_outside.specs.Causes.{AppendsFront, HasCause, Rose};
 ghost use Rattle.lv_runner.specs.Output.{limit};
@@ -8,7 +8,8 @@ ghost use Rattle.lv_runner.specs.Run.{Did, DidPart, Ends, HasText, Outside, Refu
 use crate::output::{NoText, output};
 use crate::status::Status;
 use lv_outside::{Ended, Failed, ReadFault, Sink, Source, read_whole, write_whole};
-use lv_values::{Bytes, Text};
+use lv_picker::Picker;
+use lv_values::{Bytes, Items, Text};
 use std::alloc::Global;
 
 /// The most bytes of a script.
@@ -31,12 +32,13 @@ fn read_bytes<S: Source>(alloc: Global, source: &mut S) -> Result<Bytes, NoText>
 
 /// Reads a script and answers it.
 #[tactic(auto, using(crate::proofs::Ends::text_read))]
-fn read_text<S: Source>(alloc: Global, source: &mut S) -> Result<Bytes, NoText>
+fn read_text<S: Source>(alloc: Global, source: &mut S, picker: Picker) -> Result<Bytes, NoText>
+    requires policy { picker.kind ≡ 0 }
     ensures text { MatchResult result (HasText (S.left source.old) (S.left source.new)) (WhyNone (S.left source.old) (S.left source.new) (S.faults source.old) (S.faults source.new)) }
     ensures count { S.faults source.old ≤ S.faults source.new }
 {
     let bytes = read_bytes(alloc, source)?;
-    output(alloc, bytes.as_slice())
+    output(alloc, bytes.as_slice(), picker)
 }
 
 /// Writes a text and flushes it.
@@ -62,7 +64,8 @@ fn status_of(why: NoText) -> Status
 
 /// Reads a script, answers it and writes its transcript.
 #[tactic(auto, using(crate::proofs::Ends::did_text, crate::proofs::Ends::did_part))]
-fn answer<S: Source, K: Sink>(alloc: Global, source: &mut S, sink: &mut K) -> Status
+fn answer<S: Source, K: Sink>(alloc: Global, source: &mut S, sink: &mut K, picker: Picker) -> Status
+    requires policy { picker.kind ≡ 0 }
     ensures ends { Ends
         (record { left = S.left source.old; source_faults = S.faults source.old; written = K.written sink.old; is_flushed = K.is_flushed sink.old; sink_faults = K.faults sink.old })
         (record { left = S.left source.new; source_faults = S.faults source.new; written = K.written sink.new; is_flushed = K.is_flushed sink.new; sink_faults = K.faults sink.new })
@@ -70,7 +73,7 @@ fn answer<S: Source, K: Sink>(alloc: Global, source: &mut S, sink: &mut K) -> St
     ensures source_count { S.faults source.old ≤ S.faults source.new }
     ensures sink_count { K.faults sink.old ≤ K.faults sink.new }
 {
-    match read_text(alloc, source) {
+    match read_text(alloc, source, picker) {
         Ok(text) => match write_text(sink, text.as_slice()) {
             Ok(()) => Status::Done,
             Err(Failed) => Status::SinkFault,
@@ -83,16 +86,19 @@ fn answer<S: Source, K: Sink>(alloc: Global, source: &mut S, sink: &mut K) -> St
 ///
 /// The statements of the setup and the sessions are answered in the order of the program's schedule, each transaction on
 /// the snapshot at its start with its own writes, and each view as by its definition over the snapshot that a query reads.
-/// A query first brings the views that it reads up to its snapshot, and the transcript shows by which steps. The whole
-/// text stands before the first write, so want of memory writes nothing. Cost: linear in the script, and what each
-/// statement takes.
+/// A query first brings the views that it reads up to its snapshot, and the transcript shows by which steps. What workers
+/// and clean-ups do between statements the transcript shows too, and no reply depends on it. The pickers are three, of
+/// kinds 0, 1 and 2; workers take the view with the oldest task. The whole text stands before the first write, so want of
+/// memory writes nothing. Cost: linear in the script, and what each event takes.
 #[tactic(auto, using(crate::proofs::Ends::is_done, crate::proofs::Ends::not_words, crate::proofs::Ends::is_script, crate::proofs::Ends::is_source, crate::proofs::Ends::is_sink, crate::proofs::Ends::kept_unless))]
 pub fn run<S: Source, K: Sink>(
     alloc: Global,
     words: &[Text],
     source: &mut S,
     sink: &mut K,
+    mut pickers: Items<Picker>,
 ) -> Status
+    requires pickers { map (λ p. p.kind) pickers ≡ 0 ∷ 1 ∷ 2 ∷ [] }
     ensures done { result ≡ Status.Done → Did (S.left source.old) (S.left source.new) (K.written sink.old) (K.written sink.new) }
     ensures flushed { result ≡ Status.Done → IsTrue (K.is_flushed sink.new) }
     ensures words { (result ≡ Status.Words) ↔ (0 < length words.now) }
@@ -107,5 +113,5 @@ pub fn run<S: Source, K: Sink>(
     if !words.is_empty() {
         return Status::Words;
     }
-    answer(alloc, source, sink)
+    answer(alloc, source, sink, pickers.remove(0))
 }

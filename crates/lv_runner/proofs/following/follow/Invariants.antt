@@ -1,11 +1,12 @@
 use Rattle.std.proofs.Common.{◌≡◌, take}
-use Rattle.lv_core.specs.Cores.{run_of}
+use Rattle.lv_core.specs.Run.{IsRun}
 use Rattle.lv_runner.specs.Following.{HasFollowed}
 use Rattle.lv_runner.proofs.following.follow.Given as goal
 
-abbrev pub invariant-loop-session : goal.invariant-loop-session
-invariant-loop-session g l = record {
-  program : (run_of l.core).program ≡ (run_of l.initial.core).program;
-  settings : (run_of l.core).settings ≡ (run_of l.initial.core).settings;
-  followed : HasFollowed (run_of l.core) (take l.session-index l.turns);
+abbrev pub invariant-loop-event : goal.invariant-loop-event
+invariant-loop-event g l = record {
+  run : IsRun l.core.run;
+  program : l.core.run.program ≡ l.initial.core.run.program;
+  settings : l.core.run.settings ≡ l.initial.core.run.settings;
+  followed : HasFollowed l.core.run (take l.event-index l.events);
 }
