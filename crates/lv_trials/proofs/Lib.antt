@@ -1,2 +1,1 @@
 mod Sample
-mod Two

@@ -7,8 +7,6 @@ mod base;
 #[cfg(test)]
 mod lexer;
 #[cfg(test)]
-mod lines;
-#[cfg(test)]
 mod maint;
 #[cfg(test)]
 mod making;
@@ -22,7 +20,5 @@ mod reading;
 mod schema;
 #[cfg(test)]
 mod streams;
-#[cfg(test)]
-mod transactions;
 #[cfg(test)]
 mod values;
