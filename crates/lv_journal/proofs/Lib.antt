@@ -1,0 +1,5 @@
+pub mod Bytes
+pub mod Meaning
+pub mod Reading
+pub mod Standing
+pub mod Steps
