@@ -1,0 +1,5 @@
+pub mod Exact
+pub mod ExactTables
+pub mod Wholes
+mod Powers
+mod Utf8
