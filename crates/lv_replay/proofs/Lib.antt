@@ -1,0 +1,9 @@
+pub mod Applied
+pub mod JournalLengths
+pub mod Maintained
+pub mod Numbered
+pub mod Recorded
+pub mod Replays
+pub mod Runs
+pub mod Tests
+pub mod Written

@@ -1,0 +1,4 @@
+pub mod Applies
+pub mod Numbers
+pub mod Replayed
+pub mod Runs
