@@ -1,9 +1,9 @@
--- What was written is read again: words, names, texts, values, rows and keys.
-use Rattle.std.proofs.Common.{◌≡◌, ℕ, zero, suc, ◌^◌, ◌<◌, Bool, true, false, cond, not, eqb, nat_lt, List, [], ◌∷◌, ◌++◌, length, get_or, Some, None, refl, sym, ap, ◌∙◌, append_assoc, arith}
+-- What was written is read again: words, names, texts and values.
+use Rattle.std.proofs.Common.{◌≡◌, ℕ, zero, suc, ◌^◌, ◌<◌, Bool, true, false, cond, not, eqb, nat_lt, List, [], ◌∷◌, ◌++◌, length, get_or, Some, None, refl, sym, ap, ◌∙◌, arith}
 use Rattle.std.specs.Prelude.{codes, decimal, ◌==◌, pos, negsuc, ℤ}
 use Rattle.std.specs.Char.{is_ascii_digit}
 use Rattle.std.specs.Fmt.{signed_decimal}
-use Rattle.std.specs.List.{join_by, list_all, position_or_len, AllByRecursion, IsDistinct}
+use Rattle.std.specs.List.{list_all, position_or_len, AllByRecursion, IsDistinct}
 use Rattle.std.specs.Str.{bytes_eq, is_utf8, IsAscii}
 use Rattle.std.proofs.lemmas.Bool.{eqb-true}
 use Rattle.std.proofs.lemmas.Slice.Eq.{bytes_eq-Decides}
@@ -11,15 +11,14 @@ use Rattle.std.proofs.lemmas.Str.{is_utf8-from_IsUtf8, IsUtf8-from_ascii}
 use Rattle.lv_values.specs.Names.{begins_name, continues_name}
 use Rattle.lv_values.specs.declared.value.Value.{Value}
 use Rattle.lv_values.specs.declared.value.Value.TheVariants.{Num, Text}
-use Rattle.lv_values.specs.Print.{value_text, values_text, row_line}
+use Rattle.lv_values.specs.Print.{value_text}
 use Rattle.lv_reading.specs.Reading.{begins, expect, byte, stops, until}
 use Rattle.lv_reading.specs.Numbers.{IsWide}
-use Rattle.lv_reading.proofs.Again.{run_again, separated_again, until_again}
+use Rattle.lv_reading.proofs.Again.{run_again, until_again}
 use Rattle.lv_reading.proofs.Decimals.{number_again, decimal_digits, decimal_some}
-use Rattle.lv_lines.specs.Transcript.{name_of, key_text}
-use Rattle.lv_lines.specs.Entries.{IsWord, AreWords, IsValue, IsRow}
-use Rattle.lv_lines.specs.Words.{word, place_in, name_in, own, own_word, quoted_byte, text_of, quoted, text_value, value, row, key}
-use Rattle.lv_lines.proofs.TakesWords.{and_parts, byte_text, IsText, in_quotes, quoted_is, values_is}
+use Rattle.lv_lines.specs.Entries.{IsWord, AreWords, IsValue}
+use Rattle.lv_lines.specs.Words.{name_of, word, place_in, name_in, own, own_word, quoted_byte, text_of, quoted, text_value, value}
+use Rattle.lv_lines.proofs.TakesWords.{and_parts, byte_text, IsText, in_quotes, quoted_is}
 
 -- ---- words and names
 
@@ -134,7 +133,7 @@ quoted_again t rest fits e =
     let text : is_utf8 t ≡ true = is_utf8-from_IsUtf8 t fits.0 in
     rw (read, fits.1, text) refl
 
--- ---- values, rows and keys
+-- ---- values
 
 -- neither a digit nor a quote comes next
 abbrev pub Ends : List ℕ → Type 0
@@ -165,26 +164,3 @@ text_value_again t rest fits ends = rw (quoted_again t rest fits ends.1) refl
 pub value_again : (v : Value) (rest : List ℕ) → IsValue v → Ends rest → value (value_text v ++ rest) ≡ Some (v, rest)
 value_again (Num z) rest fits ends = number_value_again z rest fits ends
 value_again (Text t) rest fits ends = text_value_again t rest fits ends
-
-bars_end : (rest : List ℕ) → Ends (codes " | " ++ rest)
-bars_end rest = (refl, refl)
-
-commas_end : (rest : List ℕ) → Ends (codes ", " ++ rest)
-commas_end rest = (refl, refl)
-
-regroup : (a b c rest : List ℕ) → (a ++ b ++ c) ++ rest ≡ a ++ (b ++ (c ++ rest))
-regroup a b c rest = simp append_assoc
-
-pub row_again : (vs : List Value) (rest : List ℕ) → IsRow vs → row (row_line vs ++ rest) ≡ Some (vs, rest)
-unfolding row expect begins
-row_again vs rest fits =
-    let shape : row_line vs ++ rest ≡ codes "| " ++ (join_by value_text (codes " | ") vs ++ (codes "\n" ++ rest)) =
-    regroup (codes "| ") (values_text (codes " | ") vs) (codes "\n") rest ∙ ap (λ (t : List ℕ). codes "| " ++ (t ++ (codes "\n" ++ rest))) (sym (values_is (codes " | ") vs)) in
-    ap row shape ∙ rw (separated_again (codes " | ") value value_text IsValue Ends value_again bars_end (omega arith) vs (codes "\n" ++ rest) fits.some fits.each (refl, refl) refl) refl
-
-pub key_again : (vs : List Value) (rest : List ℕ) → IsRow vs → key (key_text vs ++ rest) ≡ Some (vs, rest)
-unfolding key expect begins
-key_again vs rest fits =
-    let shape : key_text vs ++ rest ≡ codes "(" ++ (join_by value_text (codes ", ") vs ++ (codes ")" ++ rest)) =
-    regroup (codes "(") (values_text (codes ", ") vs) (codes ")") rest ∙ ap (λ (t : List ℕ). codes "(" ++ (t ++ (codes ")" ++ rest))) (sym (values_is (codes ", ") vs)) in
-    ap key shape ∙ rw (separated_again (codes ", ") value value_text IsValue Ends value_again commas_end (omega arith) vs (codes ")" ++ rest) fits.some fits.each (refl, refl) refl) refl

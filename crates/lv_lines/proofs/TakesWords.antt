@@ -1,7 +1,7 @@
--- What is read was written: words, names, texts, values, rows and keys.
+-- What is read was written: words, names, texts and values.
 use Rattle.std.proofs.Common.{◌≡◌, ℕ, ◌^◌, ◌<◌, Bool, true, false, cond, ◌&&◌, not, List, [], ◌∷◌, ◌++◌, length, get_or, Option, Some, None, refl, sym, ap, ◌∙◌}
 use Rattle.std.specs.Prelude.{codes, ◌==◌, IsUtf8}
-use Rattle.std.specs.List.{flat_map, join_by, list_all}
+use Rattle.std.specs.List.{flat_map, list_all}
 use Rattle.std.specs.Str.{bytes_eq}
 use Rattle.std.proofs.lemmas.Bool.{eqb-true}
 use Rattle.std.proofs.lemmas.List.{append-nil}
@@ -9,13 +9,11 @@ use Rattle.std.proofs.lemmas.List.Quantifiers.{position-Some}
 use Rattle.std.proofs.lemmas.Slice.Eq.{bytes_eq-Decides}
 use Rattle.std.proofs.lemmas.Str.{IsUtf8-from_is_utf8}
 use Rattle.lv_values.specs.Names.{continues_name}
-use Rattle.lv_values.specs.declared.value.Value.{Value}
-use Rattle.lv_values.specs.Print.{doubled, value_text, values_behind, values_text, row_line}
-use Rattle.lv_reading.proofs.Takes.{Takes, then_takes, last_takes, pure_takes, choice_takes, choose_takes, check_takes, below_takes, given_takes, expect_takes, byte_takes, run_takes, separated_takes, until_text, until_takes}
+use Rattle.lv_values.specs.Print.{doubled, value_text}
+use Rattle.lv_reading.proofs.Takes.{Takes, then_takes, last_takes, pure_takes, choice_takes, choose_takes, check_takes, below_takes, given_takes, expect_takes, byte_takes, run_takes, until_text, until_takes}
 use Rattle.lv_reading.proofs.Decimals.{number_takes}
-use Rattle.lv_lines.specs.Transcript.{name_of, key_text}
-use Rattle.lv_lines.specs.Entries.{IsWord, IsValue, IsRow}
-use Rattle.lv_lines.specs.Words.{word, place_in, name_in, own, own_word, quoted_byte, text_of, quoted, text_value, value, row, key}
+use Rattle.lv_lines.specs.Entries.{IsWord, IsValue}
+use Rattle.lv_lines.specs.Words.{name_of, word, place_in, name_in, own, own_word, quoted_byte, text_of, quoted, text_value, value}
 
 pub and_parts : (a b : Bool) → (a && b) ≡ true → (a ≡ true) × (b ≡ true)
 and_parts true b e = (refl, e)
@@ -97,7 +95,7 @@ quoted_takes : Takes IsText in_quotes [] quoted
 unfolding quoted text_of
 quoted_takes = then_takes (until_takes quoted_byte_takes) (λ t _. check_takes t (λ h. (let s = and_parts _ _ h in (quoted_is t, (IsUtf8-from_is_utf8 t s.1, s.0)))))
 
--- ---- values, rows and keys
+-- ---- values
 
 text_value_takes : Takes IsValue value_text [] text_value
 unfolding text_value
@@ -106,23 +104,3 @@ text_value_takes = then_takes (expect_takes _) (λ _ _. then_takes quoted_takes 
 pub value_takes : Takes IsValue value_text [] value
 unfolding value
 value_takes = choice_takes _ text_value_takes (then_takes number_takes (λ n fits. pure_takes refl fits))
-
-behind_is : (between : List ℕ) (vs : List Value) → flat_map (λ v. between ++ value_text v) vs ≡ values_behind between vs
-behind_is between [] = refl
-behind_is between (v ∷ vs) = ap (λ (t : List ℕ). between ++ value_text v ++ t) (behind_is between vs)
-
-pub values_is : (between : List ℕ) (vs : List Value) → join_by value_text between vs ≡ values_text between vs
-values_is between [] = refl
-values_is between (v ∷ vs) = ap (λ (t : List ℕ). value_text v ++ t) (behind_is between vs)
-
-pub row_takes : Takes IsRow row_line [] row
-unfolding row
-row_takes =
-    then_takes (expect_takes _) (λ _ _. then_takes (separated_takes value_takes (codes " | ")) (λ vs fits. then_takes (expect_takes _) (λ _ _.
-    pure_takes (ap (λ (t : List ℕ). codes "| " ++ t ++ codes "\n") (values_is (codes " | ") vs)) (record { some = fits.0; each = fits.1 }))))
-
-pub key_takes : Takes IsRow key_text [] key
-unfolding key
-key_takes =
-    then_takes (expect_takes _) (λ _ _. then_takes (separated_takes value_takes (codes ", ")) (λ vs fits. then_takes (expect_takes _) (λ _ _.
-    pure_takes (ap (λ (t : List ℕ). codes "(" ++ t ++ codes ")") (values_is (codes ", ") vs)) (record { some = fits.0; each = fits.1 }))))

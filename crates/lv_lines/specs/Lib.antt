@@ -1,11 +1,15 @@
 pub mod Entries
+pub mod EntryForms
+pub mod FaultForms
 pub mod FirstFault
 pub mod Judged
 pub mod OrderLine
-pub mod Readers
+pub mod ReplyForms
 pub mod Script
 pub mod ScriptFault
 pub mod ScriptLine
 pub mod SessionName
 pub mod Transcript
+pub mod ValueForms
 pub mod Words
+pub mod WorkerForms

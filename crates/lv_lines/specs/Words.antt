@@ -6,8 +6,9 @@ use Rattle.std.specs.Str.{bytes_eq, is_utf8}
 use Rattle.lv_values.specs.Names.{continues_name, is_word}
 use Rattle.lv_values.specs.declared.value.Value.{Value}
 use Rattle.lv_values.specs.declared.value.Value.TheVariants.{Num, Text}
-use Rattle.lv_reading.specs.Reading.{Reader, ◌>>=◌, ◌>>◌, pure, given, check, below, choose, choice, begins, expect, byte, run, separated, until}
+use Rattle.lv_reading.specs.Reading.{Reader, ◌>>=◌, ◌>>◌, pure, given, check, below, choose, choice, begins, expect, byte, run, until}
 use Rattle.lv_reading.specs.Numbers.{number}
+pub use Rattle.lv_lines.specs.Transcript.{name_of}
 
 -- ---- words and names
 
@@ -61,17 +62,3 @@ text_value = do
 
 unfoldable pub value : Reader Value
 value = choice (begins (codes "'")) text_value (number >>= λ n. pure (Num n))
-
-unfoldable pub row : Reader (List Value)
-row = do
-  expect (codes "| ")
-  values ← separated (codes " | ") value
-  expect (codes "\n")
-  pure values
-
-unfoldable pub key : Reader (List Value)
-key = do
-  expect (codes "(")
-  values ← separated (codes ", ") value
-  expect (codes ")")
-  pure values

@@ -3,7 +3,8 @@ ghost use Rattle.std.specs.Prelude.{◌≡◌, ◌∷◌, ℕ, List, true, codes
 ghost use Rattle.lv_plain.specs.SessionNames.{AreSessionNames};
 ghost use Rattle.lv_plain.specs.declared.entry.Entry.{Entry as AnEntry};
 ghost use Rattle.lv_values.specs.Names.{is_lower_name, is_name};
-ghost use Rattle.lv_lines.specs.Entries.{IsWord, AreWords, IsNames, AreEntries};
+ghost use Rattle.lv_lines.specs.Entries.{IsWord, AreWords, IsNames};
+ghost use Rattle.lv_lines.specs.EntryForms.{AreEntries};
 ghost use Rattle.lv_lines.specs.Transcript.{text_of};
 
 use crate::names::Names;

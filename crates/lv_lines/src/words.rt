@@ -7,8 +7,8 @@ ghost use Rattle.lv_reading.specs.Reading.{Gives};
 ghost use Rattle.lv_lines.specs.Words as read;
 
 use lv_plain::Texts;
-use lv_reading::{Cursor, Part, Stop, read_separated, read_until};
-use lv_values::{Row, Text, TextFault, Value};
+use lv_reading::{Cursor, Part, Stop, read_until};
+use lv_values::{Text, TextFault, Value};
 use std::alloc::Global;
 
 fn begins_name(byte: u8) -> bool
@@ -24,7 +24,7 @@ fn continues_name(byte: u8) -> bool
 }
 
 /// The number of letters, digits and _ that come next.
-fn word_len(bytes: &[u8]) -> usize
+pub(crate) fn word_len(bytes: &[u8]) -> usize
     ensures value { result ≡ read.word_len bytes.now }
     ensures within { result ≤ length bytes.now }
 {
@@ -72,7 +72,7 @@ fn utf8(alloc: Global, bytes: &[u8]) -> Result<Text, Stop>
 
 /// The word itself. `Bad` comes where it is none.
 #[tactic(auto, unfolding(crate::specs::Words::own))]
-pub(crate) fn own(alloc: Global, word: &[u8]) -> Result<Text, Stop>
+fn own(alloc: Global, word: &[u8]) -> Result<Text, Stop>
     ensures { (rest : List ℕ) → Gives (read.own word.now rest) result rest }
 {
     if !is_word(word) {
@@ -94,7 +94,7 @@ fn text_of(alloc: Global, bytes: &[u8]) -> Result<Text, Stop>
 
 /// Takes the letters, digits and _ that come next.
 #[tactic(auto, unfolding(crate::specs::Words::word, lv_reading::specs::Reading::run))]
-pub(crate) fn word<'a>(cursor: &mut Cursor<'a>) -> &'a [u8]
+fn word<'a>(cursor: &mut Cursor<'a>) -> &'a [u8]
     ensures { read.word cursor.old ≡ Some (result.now, cursor.new) }
 {
     let count = word_len(cursor.rest());
@@ -121,7 +121,7 @@ fn position_of(names: &[Text], word: &[u8]) -> Option<usize>
 
 /// The number of the name: its place, from 0. `Bad` comes where it is none of the names.
 #[tactic(auto, unfolding(crate::specs::Words::place_in))]
-pub(crate) fn place_in(names: &Texts, word: &[u8]) -> Result<u32, Stop>
+fn place_in(names: &Texts, word: &[u8]) -> Result<u32, Stop>
     ensures { (rest : List ℕ) → Gives (read.place_in names.now word.now rest) result rest }
 {
     match position_of(names.as_slice(), word) {
@@ -189,45 +189,15 @@ fn text_value(alloc: Global, cursor: &mut Cursor<'_>) -> Result<Value, Stop>
     Ok(Value::Text(text))
 }
 
-/// A value: a number, or a text between quotes.
-struct AnyValue;
-
-impl Part<Value> for AnyValue {
-    ghost reader = { λ _. read.value };
-
-    #[tactic(auto, unfolding(crate::specs::Words::value))]
-    fn read(&self, alloc: Global, cursor: &mut Cursor<'_>) -> Result<Value, Stop> {
-        if cursor.sees(b"'") {
-            text_value(alloc, cursor)
-        } else {
-            let number = cursor.number()?;
-            Ok(Value::Num(number))
-        }
-    }
-}
-
-/// A row's line.
-pub(crate) struct RowLine;
-
-impl Part<Row> for RowLine {
-    ghost reader = { λ _. read.row };
-
-    #[tactic(auto, unfolding(crate::specs::Words::row))]
-    fn read(&self, alloc: Global, cursor: &mut Cursor<'_>) -> Result<Row, Stop> {
-        cursor.expect(b"| ")?;
-        let values = read_separated(alloc, b" | ", &AnyValue, cursor)?;
-        cursor.expect(b"\n")?;
-        Ok(values)
-    }
-}
-
-/// Reads a key: its values in parentheses.
-#[tactic(auto, unfolding(crate::specs::Words::key))]
-pub(crate) fn key(alloc: Global, cursor: &mut Cursor<'_>) -> Result<Row, Stop>
-    ensures { Gives (read.key cursor.old) result cursor.new }
+/// Reads a value: a number, or a text between quotes.
+#[tactic(auto, unfolding(crate::specs::Words::value))]
+pub(crate) fn any_value(alloc: Global, cursor: &mut Cursor<'_>) -> Result<Value, Stop>
+    ensures { Gives (read.value cursor.old) result cursor.new }
 {
-    cursor.expect(b"(")?;
-    let values = read_separated(alloc, b", ", &AnyValue, cursor)?;
-    cursor.expect(b")")?;
-    Ok(values)
+    if cursor.sees(b"'") {
+        text_value(alloc, cursor)
+    } else {
+        let number = cursor.number()?;
+        Ok(Value::Num(number))
+    }
 }

@@ -1,4 +1,4 @@
-use Rattle.lv_lines.proofs.Whole.{text_tells}
+use Rattle.lv_lines.proofs.ExactEntries.{text_tells}
 use Rattle.lv_lines.proofs.transcript_laws.text_tells_entries.Goals as goal
 
 pub returns : goal.returns
