@@ -1,0 +1,9 @@
+-- What a call that hands out work answers.
+use Rattle.std.specs.Prelude.{Bool, true, false, Result, Ok}
+use Rattle.lv_shared.specs.declared.machine.Taken.{Taken}
+use Rattle.lv_shared.specs.declared.machine.Taken.TheVariants.{Work}
+
+-- whether an answer hands out work
+abbrev pub hands_out : {W E : Type 0} → Result (Taken W) E → Bool
+hands_out (Ok (Work _)) = true
+hands_out _ = false
