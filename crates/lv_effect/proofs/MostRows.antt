@@ -1,4 +1,4 @@
--- A table has no more rows than versions and own writes are kept of it.
+-- A table has no more rows than the base shows and own writes are kept of it.
 use Rattle.std.proofs.Common.{◌≡◌, ℕ, ◌+◌, ◌≤◌, Bool, true, false, cond, List, [], ◌∷◌, ◌++◌, length, map, filter, Option, Some, None, arith}
 use Rattle.std.specs.Prelude.{nat_lt}
 use Rattle.std.specs.List.{cons_option, filter_map}
@@ -44,7 +44,8 @@ both_lengths : {X Y : Type 0} (f : X → Y) (xs : List X) (ys : List Y) → leng
 both_lengths f [] ys = omega arith
 both_lengths f (x ∷ xs) ys = omega (arith, both_lengths f xs ys)
 
-most_alive : (n : ℕ) (versions : List RowVersion) → length (state_at n versions) ≤ length versions
+-- and the base shows no more rows than versions are kept
+pub most_alive : (n : ℕ) (versions : List RowVersion) → length (state_at n versions) ≤ length versions
 most_alive n [] = omega arith
 most_alive n (v ∷ versions) = by (is_at n v) (most_alive n versions)
   where
@@ -53,7 +54,7 @@ most_alive n (v ∷ versions) = by (is_at n v) (most_alive n versions)
     by true h = omega (arith, h)
     by false h = omega (arith, h)
 
-most_seen : (def : TableDef) (versions : List RowVersion) (n : ℕ) (puts : List Put) → length (rows_seen def versions n puts) ≤ length versions + length (put_keys puts def.no)
+most_seen : (def : TableDef) (versions : List RowVersion) (n : ℕ) (puts : List Put) → length (rows_seen def versions n puts) ≤ length (state_at n versions) + length (put_keys puts def.no)
 most_seen def versions n puts =
     let below = state_at n versions in
     let keys : List (List Value) = map (values_at def.key) below ++ put_keys puts def.no in
@@ -62,13 +63,12 @@ most_seen def versions n puts =
       most_picked (λ k. over puts (def.no, k) (row_at def.key k below)) (once row_cmp keys),
       most_once row_cmp keys,
       both_lengths (values_at def.key) below (put_keys puts def.no),
-      most_alive n versions,
     )
 
 -- so it has room where these are few enough
-pub has_room : (def : TableDef) (versions : List RowVersion) (n : ℕ) (puts : List Put) (more : ℕ) → could_fill (length versions + length (put_keys puts def.no)) more ≡ false
+pub has_room : (def : TableDef) (versions : List RowVersion) (n : ℕ) (puts : List Put) (most more : ℕ) → length (state_at n versions) ≤ most → could_fill (most + length (put_keys puts def.no)) more ≡ false
     → nat_lt 65535 (length (rows_seen def versions n puts) + more) ≡ false
-has_room def versions n puts more few = by (length (rows_seen def versions n puts)) (length versions + length (put_keys puts def.no)) (most_seen def versions n puts) few
+has_room def versions n puts most more shown few = by (length (rows_seen def versions n puts)) (most + length (put_keys puts def.no)) (omega (arith, most_seen def versions n puts, shown)) few
   where
     by : (a b : ℕ) → a ≤ b → nat_lt 65535 (b + more) ≡ false → nat_lt 65535 (a + more) ≡ false
     by a b le h = grind (arith, nat_tests)

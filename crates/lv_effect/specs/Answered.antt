@@ -23,14 +23,14 @@ abbrev pub insert_fault : ℕ → TableDef → List (List Value) → List (List 
 insert_fault table def new rows =
     first_fault (option_fault (Duplicate table) (first_taken def.key rows new)) (fault_where (nat_lt 65535 (length rows + length new)) (TableFull table))
 
--- whether so many more rows could be too many for a table, where each of so many things that are kept of it was a row
+-- whether so many more rows could be too many for a table, where so many things that are known of it were rows
 abbrev pub could_fill : ℕ → ℕ → Bool
-could_fill kept more = nat_lt 65535 (kept + more)
+could_fill known more = nat_lt 65535 (known + more)
 
--- how many base rows a change reads at most, of a table of which so much is kept and which has so many rows: an INSERT
+-- how many base rows a change reads at most, of a table of which so much is known and which has so many rows: an INSERT
 -- one for each new row, and all only where the table could be full; an UPDATE or DELETE one where its condition fixes
 -- the key
 abbrev pub most_steps : List ℕ → Change → ℕ → ℕ → ℕ
-most_steps key (Insert table new) kept rows = length new + cond (could_fill kept (length new)) rows 0
-most_steps key (Update table sets c) kept rows = cond (says_key c key) 1 rows
-most_steps key (Delete table c) kept rows = cond (says_key c key) 1 rows
+most_steps key (Insert table new) known rows = length new + cond (could_fill known (length new)) rows 0
+most_steps key (Update table sets c) known rows = cond (says_key c key) 1 rows
+most_steps key (Delete table c) known rows = cond (says_key c key) 1 rows

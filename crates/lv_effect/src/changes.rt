@@ -20,10 +20,11 @@ use std::sync::ledger::Ledger;
 
 /// What a change does to a table's rows after commit n with a transaction's own writes over them: the number of rows
 /// that it inserts, updates or deletes, and its actions, not numbered yet. Refused with a number out of range, a
-/// duplicate key or a full table, in this order.
+/// duplicate key or a full table, in this order. `most` is no less than the number of rows that the table has then; the
+/// closer it is, the fewer INSERTs have to count.
 ///
 /// Cost: an INSERT makes three binary searches at most for each of its rows, in the own writes, the versions and its
-/// rows before, and two to count the own writes on the table; only where these, the versions and its rows are together
+/// rows before, and two to count the own writes on the table; only where these, `most` and its rows are together
 /// more than a table may have does it count the rows in one pass. An UPDATE or DELETE whose condition fixes every key
 /// column finds its row by two binary searches, and any other one reads the rows in one pass.
 pub fn effect<L: Ledger>(
@@ -31,23 +32,25 @@ pub fn effect<L: Ledger>(
     table: &TableDef,
     base: &Versions,
     n: u64,
+    most: u64,
     own: &Overlay,
     change: &Change,
     steps: &mut Steps<L>,
 ) -> Result<(u64, Actions), EffectFault>
     requires table { base.now.def ≡ table.now }
     requires floor { base.now.floor ≤ n }
+    requires most { length (state_at n base.now.versions) ≤ most }
     requires own { StandUnder table.now.key table.now.no own.now.list }
     requires sums { ChangeSumsFit change.now (rows_seen table.now base.now.versions n own.now.list) }
     ensures given { GivesEffect result (effect_on table.now change.now (rows_seen table.now base.now.versions n own.now.list)) }
-    ensures cost { steps.new ≤ steps.old + most_steps table.now.key change.now (length base.now.versions + length (put_keys own.now.list table.now.no)) (length (state_at n base.now.versions)) }
+    ensures cost { steps.new ≤ steps.old + most_steps table.now.key change.now (most + length (put_keys own.now.list table.now.no)) (length (state_at n base.now.versions)) }
 {
     writes_give_own_rows();
     match change {
         Change::Insert {
             table: no,
             rows: new,
-        } => insert_effect(alloc, *no, table, base, n, own, new.as_slice(), steps),
+        } => insert_effect(alloc, *no, table, base, n, most, own, new.as_slice(), steps),
         Change::Update {
             table: no,
             sets,

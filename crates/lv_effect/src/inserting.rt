@@ -89,33 +89,34 @@ fn is_overfull(rows: u64, more: u64) -> bool
     more > MOST_ROWS || rows > MOST_ROWS - more
 }
 
-/// Whether so many more rows could be too many for a table, where each version and each own write on it was a row of its
-/// own. Cost: two binary searches.
-fn could_fill(table: &TableDef, base: &Versions, own: &Overlay, more: u64) -> bool
-    ensures { result ≡ could_fill (length base.now.versions + length (put_keys own.now.list table.now.no)) more }
+/// Whether so many more rows could be too many for a table that has at most `most`, where each own write on it was a row
+/// of its own. Cost: two binary searches.
+fn could_fill(table: &TableDef, most: u64, own: &Overlay, more: u64) -> bool
+    ensures { result ≡ could_fill (most + length (put_keys own.now.list table.now.no)) more }
 {
-    let kept = base.count();
     let written = own.count(table.no);
-    is_overfull(kept, written) || is_overfull(kept + written, more)
+    is_overfull(most, written) || is_overfull(most + written, more)
 }
 
-/// Whether a table has no room for so many more rows. Cost: two binary searches, and one pass over the rows where
-/// versions, own writes and new rows together are too many.
+/// Whether a table has no room for so many more rows. Cost: two binary searches, and one pass over the rows where `most`,
+/// own writes and new rows together are too many.
 fn is_full<L: Ledger>(
     alloc: Global,
     table: &TableDef,
     base: &Versions,
     n: u64,
+    most: u64,
     own: &Overlay,
     more: u64,
     steps: &mut Steps<L>,
 ) -> Result<bool, NoMemory>
     requires table { base.now.def ≡ table.now }
     requires floor { base.now.floor ≤ n }
+    requires most { length (state_at n base.now.versions) ≤ most }
     ensures full { IfOk result (λ full. full ≡ nat_lt 65535 (length (rows_seen table.now base.now.versions n own.now.list) + more)) }
-    ensures cost { steps.new ≤ steps.old + cond (could_fill (length base.now.versions + length (put_keys own.now.list table.now.no)) more) (length (state_at n base.now.versions)) 0 }
+    ensures cost { steps.new ≤ steps.old + cond (could_fill (most + length (put_keys own.now.list table.now.no)) more) (length (state_at n base.now.versions)) 0 }
 {
-    if could_fill(table, base, own, more) {
+    if could_fill(table, most, own, more) {
         let rows = merged_rows(alloc, table, base, n, own, steps)?;
         Ok(is_overfull(rows.len() as u64, more))
     } else {
@@ -131,20 +132,22 @@ fn insert_fault<L: Ledger>(
     table: &TableDef,
     base: &Versions,
     n: u64,
+    most: u64,
     own: &Overlay,
     new: &[Row],
     steps: &mut Steps<L>,
 ) -> Result<Option<Fault>, NoMemory>
     requires table { base.now.def ≡ table.now }
     requires floor { base.now.floor ≤ n }
+    requires most { length (state_at n base.now.versions) ≤ most }
     requires own { StandUnder table.now.key table.now.no own.now.list }
     ensures fault { IfOk result (λ fault. fault ≡ insert_fault no table.now new.now (rows_seen table.now base.now.versions n own.now.list)) }
-    ensures cost { steps.new ≤ steps.old + (length new.now + cond (could_fill (length base.now.versions + length (put_keys own.now.list table.now.no)) (length new.now)) (length (state_at n base.now.versions)) 0) }
+    ensures cost { steps.new ≤ steps.old + (length new.now + cond (could_fill (most + length (put_keys own.now.list table.now.no)) (length new.now)) (length (state_at n base.now.versions)) 0) }
 {
     if let Some(key) = first_taken(alloc, table, base, n, own, new, steps)? {
         return Ok(Some(Fault::Duplicate { table: no, key }));
     }
-    if is_full(alloc, table, base, n, own, new.len() as u64, steps)? {
+    if is_full(alloc, table, base, n, most, own, new.len() as u64, steps)? {
         return Ok(Some(Fault::TableFull { table: no }));
     }
     Ok(None)
@@ -169,17 +172,19 @@ pub(crate) fn insert_effect<L: Ledger>(
     table: &TableDef,
     base: &Versions,
     n: u64,
+    most: u64,
     own: &Overlay,
     new: &[Row],
     steps: &mut Steps<L>,
 ) -> Result<(u64, Actions), EffectFault>
     requires table { base.now.def ≡ table.now }
     requires floor { base.now.floor ≤ n }
+    requires most { length (state_at n base.now.versions) ≤ most }
     requires own { StandUnder table.now.key table.now.no own.now.list }
     ensures given { GivesEffect result (effect_on table.now (Insert no new.now) (rows_seen table.now base.now.versions n own.now.list)) }
-    ensures cost { steps.new ≤ steps.old + (length new.now + cond (could_fill (length base.now.versions + length (put_keys own.now.list table.now.no)) (length new.now)) (length (state_at n base.now.versions)) 0) }
+    ensures cost { steps.new ≤ steps.old + (length new.now + cond (could_fill (most + length (put_keys own.now.list table.now.no)) (length new.now)) (length (state_at n base.now.versions)) 0) }
 {
-    if let Some(fault) = insert_fault(alloc, no, table, base, n, own, new, steps)? {
+    if let Some(fault) = insert_fault(alloc, no, table, base, n, most, own, new, steps)? {
         return Err(EffectFault::Stmt(fault));
     }
     Ok((new.len() as u64, inserts(alloc, no, new)?))

@@ -111,6 +111,23 @@ module _ (p : Parts) (w : World) (is : Stands w (store_of p)) where
         );
       }
 
+  -- the same of steps that follow each other
+  module _ (fs : List Forced) (follow : StepsFollow w fs) where
+    steps_kept : AllByRecursion (IsKeptStep w) fs
+    steps_kept = each_kept fs w is.steady follow
+
+    pub steps_in_use : (n : ℕ) → length p.schema.views ≤ n → AllByRecursion (λ f. f.view < n) fs
+    steps_in_use n le = all_weaker (IsKeptStep w) (λ f. f.view < n) (λ f can. omega (arith, can.step.in_use, le, ap length is.views_are)) fs steps_kept
+
+    pub can_compute_all : AllByRecursion (CanCompute p) fs
+    can_compute_all = all_weaker (IsKeptStep w) (CanCompute p) can_compute fs steps_kept
+
+    pub changes_all_told : AllByRecursion (λ f. changes_in p f ≡ step_changes w.visible f) fs
+    changes_all_told = all_weaker (IsKeptStep w) (λ f. changes_in p f ≡ step_changes w.visible f) changes_told fs steps_kept
+
+    inputs_all_told : map (input_in p) fs ≡ map (input_between w.visible) fs
+    inputs_all_told = map_alike (input_in p) (input_between w.visible) fs (all_weaker (IsKeptStep w) (λ f. input_in p f ≡ input_between w.visible f) input_told fs steps_kept)
+
   module _ (session : ℕ) (query : Query) (bound : IsBoundQuery p.schema.tables p.schema.views query) where
     pub views_below : AllByRecursion (λ v. v < length w.visible.views) (views_of query)
     views_below = subst (λ (vs : List ViewDef). AllByRecursion (λ v. v < length vs) (views_of query)) is.views_are (views_in_use p.schema.tables p.schema.views query.rels bound.in_use)
@@ -130,22 +147,8 @@ module _ (p : Parts) (w : World) (is : Stands w (store_of p)) where
         subst (StepsFollow w) (sym (steps_are with_combine refl))
         (forced_follow with_combine w (views_of query) (transaction session w.visible).snapshot is.steady (once_up nat_cmp_total (filter_map view_number query.rels)) views_below)
 
-    steps_kept : AllByRecursion (IsKeptStep w) (steps_in p session query)
-    steps_kept = each_kept (steps_in p session query) w is.steady steps_follow
-
-    pub steps_in_use : (n : ℕ) → length p.schema.views ≤ n → AllByRecursion (λ f. f.view < n) (steps_in p session query)
-    steps_in_use n le = all_weaker (IsKeptStep w) (λ f. f.view < n) (λ f can. omega (arith, can.step.in_use, le, ap length is.views_are)) (steps_in p session query) steps_kept
-
-    pub can_compute_all : AllByRecursion (CanCompute p) (steps_in p session query)
-    can_compute_all = all_weaker (IsKeptStep w) (CanCompute p) can_compute (steps_in p session query) steps_kept
-
-    pub changes_all_told : AllByRecursion (λ f. changes_in p f ≡ step_changes w.visible f) (steps_in p session query)
-    changes_all_told = all_weaker (IsKeptStep w) (λ f. changes_in p f ≡ step_changes w.visible f) changes_told (steps_in p session query) steps_kept
-
     pub inputs_told : (settings : Settings) → settings.combine ≡ p.settings.combine → map (input_in p) (steps_in p session query) ≡ map (input_between w.visible) (forced_by settings session query w)
-    inputs_told settings same =
-        map_alike (input_in p) (input_between w.visible) (steps_in p session query) (all_weaker (IsKeptStep w) (λ f. input_in p f ≡ input_between w.visible f) input_told (steps_in p session query) steps_kept)
-        ∙ ap (map (input_between w.visible)) (steps_are settings same)
+    inputs_told settings same = inputs_all_told (steps_in p session query) steps_follow ∙ ap (map (input_between w.visible)) (steps_are settings same)
 
     -- a query whose views are fresh forces nothing
     pub fresh_forces_none : AreFresh w (views_of query) (transaction session w.visible).snapshot → steps_in p session query ≡ []

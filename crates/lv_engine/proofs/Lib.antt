@@ -5,6 +5,7 @@ pub mod Commits
 pub mod EvaluatedViews
 pub mod FirstFull
 pub mod Forcing
+pub mod JoinedSteps
 pub mod MadeTables
 pub mod MadeViews
 pub mod OwnReads

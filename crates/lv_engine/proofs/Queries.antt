@@ -14,19 +14,20 @@ use Rattle.lv_schema.specs.Greatest.{Among}
 use Rattle.lv_schema.specs.Keys.{write_none}
 use Rattle.lv_schema.specs.UpkeepCases.{views_of, with_steps}
 use Rattle.lv_schema.specs.WholeWorld.{querying}
-use Rattle.lv_schema.specs.World.{Settings, World, table_at, transaction, view_at}
+use Rattle.lv_schema.specs.World.{Settings, Upkeep, World, table_at, transaction, view_at}
 use Rattle.lv_overlay.specs.Puts.{StandUnder}
 use Rattle.lv_txn.specs.Kept.{IsLive, transaction_of}
 use Rattle.lv_viewrows.specs.Kept.{ViewKept, groups_at, rows_listed}
 use Rattle.lv_stands.specs.Kept as stands
+use Rattle.lv_stands.specs.Moves.{StepsFollow}
 use Rattle.lv_stands.specs.Stands.{StandsFor}
 use Rattle.lv_stands.proofs.Runs.{forced_reads, steps_stand}
 use Rattle.lv_engine.specs.declared.answer.Answer.{Answer}
 use Rattle.lv_engine.specs.declared.parts.Parts.{Parts}
 use Rattle.lv_engine.specs.Answering.{GivesQuery, ReadsNoTable}
-use Rattle.lv_engine.specs.Querying.{CanInstallAll, StepsInstall, changes_in, reads_kept, rel_rows_in, steps_in, upkeep_after}
+use Rattle.lv_engine.specs.Querying.{CanInstallAll, InPlaceOf, StepsInstall, changes_in, reads_kept, rel_rows_in, steps_in, upkeep_after}
 use Rattle.lv_engine.specs.Store.{IsEngine, Store, Stands, is_used, kept, rows_in, rows_of, store_of}
-use Rattle.lv_engine.proofs.Forcing.{changes_all_told, fresh_forces_none, read_at, steps_are, steps_follow, steps_in_use, with_combine}
+use Rattle.lv_engine.proofs.Forcing.{changes_all_told, fresh_forces_none, read_at, steps_are, steps_in_use, with_combine}
 use Rattle.lv_engine.proofs.OwnReads.{rows_long, snapshot_below, transaction_stands}
 use Rattle.lv_engine.proofs.Rels.{Shows, answer_is, reads_kept_all}
 use Rattle.lv_engine.proofs.Steps.{Know, can_install_all, rows_at, steps_run, still_know}
@@ -51,35 +52,39 @@ module _ (p : Parts) (session : ℕ) (query : Query) (bound : IsBoundQuery p.sch
         (each_passes (λ v. write_none (transaction session w.visible).actions (view_at w.visible.views v).tables) (views_of query) none.unwritten)),
   )
 
-  pub steps_below : (w : World) → Stands w (store_of p) → (n : ℕ) → length p.schema.views ≤ n → AllByRecursion (λ f. f.view < n) (steps_in p session query)
-  steps_below w is n le = steps_in_use p w is session query bound n le
+  -- each step of those that are taken is of a view in use, and can be installed
+  pub steps_below : (w : World) → Stands w (store_of p) → (taken : List Forced) → StepsFollow w taken → (n : ℕ) → length p.schema.views ≤ n → AllByRecursion (λ f. f.view < n) taken
+  steps_below w is taken follow n le = steps_in_use p w is taken follow n le
 
-  pub installs_all : IsEngine p → CanInstallAll (changes_in p) (steps_in p session query) p.rows.list
-  installs_all whole =
+  pub installs_all : (whole : IsEngine p) (taken : List Forced) → StepsFollow whole.world taken → CanInstallAll (changes_in p) taken p.rows.list
+  installs_all whole taken follow =
       let w = whole.world in
       let is = whole.stands in
-      can_install_all (changes_in p) (steps_in p session query) p.rows.list w (kept w.upkeep.journal (store_of p)) is refl
-      (subst (λ (vs : List ViewDef). Know vs p.rows.list) is.views_are whole.defs) (steps_follow p w is session query bound) (changes_all_told p w is session query bound)
+      can_install_all (changes_in p) taken p.rows.list w (kept w.upkeep.journal (store_of p)) is refl
+      (subst (λ (vs : List ViewDef). Know vs p.rows.list) is.views_are whole.defs) follow (changes_all_told p w is taken follow)
 
-  module _ (live : IsLive p.txns session) (know : Know p.schema.views p.rows.list) (last : List ViewKept) (install : StepsInstall (changes_in p) (steps_in p session query) p.rows.list last) where
+  module _ (taken : List Forced) (place : (w : World) → Stands w (store_of p) → InPlaceOf w (steps_in p session query) taken)
+      (live : IsLive p.txns session) (know : Know p.schema.views p.rows.list) (last : List ViewKept) (install : StepsInstall (changes_in p) taken p.rows.list last) where
     abbrev pub after : Store
-    after = record (store_of p) { upkeep = upkeep_after (steps_in p session query) p.upkeep.kept; rows = map rows_of last }
+    after = record (store_of p) { upkeep = upkeep_after taken p.upkeep.kept; rows = map rows_of last }
 
-    -- as the steps that were found lead there
-    pub after_is : (steps : List Forced) (new : Store) → steps ≡ steps_in p session query → new ≡ record (store_of p) { upkeep = upkeep_after steps p.upkeep.kept; rows = map rows_of last } → new ≡ after
+    -- as the steps that were taken lead there
+    pub after_is : (steps : List Forced) (new : Store) → steps ≡ taken → new ≡ record (store_of p) { upkeep = upkeep_after steps p.upkeep.kept; rows = map rows_of last } → new ≡ after
     after_is steps new same is = is ∙ ap (λ (fs : List Forced). record (store_of p) { upkeep = upkeep_after fs p.upkeep.kept; rows = map rows_of last }) same
 
-    in_rows : (w : World) → Stands w (store_of p) → AllByRecursion (λ f. f.view < length p.rows.list) (steps_in p session query)
-    in_rows w is = steps_below w is (length p.rows.list) (omega (arith, rows_long p w is))
+    in_rows : (w : World) → Stands w (store_of p) → AllByRecursion (λ f. f.view < length p.rows.list) taken
+    in_rows w is = steps_below w is taken (place w is).follow (length p.rows.list) (omega (arith, rows_long p w is))
 
     pub still_known : (w : World) → Stands w (store_of p) → Know p.schema.views last × (length last ≡ length p.rows.list)
-    still_known w is = still_know (changes_in p) (steps_in p session query) p.rows.list last p.schema.views know (in_rows w is) install
+    still_known w is = still_know (changes_in p) taken p.rows.list last p.schema.views know (in_rows w is) install
 
     pub stands_after : (w : World) → Stands w (store_of p) → Stands (record { visible = w.visible; upkeep = with_steps (steps_in p session query) w.upkeep }) after
     stands_after w is =
-        steps_stand (steps_in p session query) w (kept w.upkeep.journal (store_of p)) (kept w.upkeep.journal after) is (steps_follow p w is session query bound)
-        (steps_run (changes_in p) (steps_in p session query) p.rows.list last w.visible (kept w.upkeep.journal (store_of p)) is.views_are refl
-        (subst (λ (vs : List ViewDef). Know vs p.rows.list) is.views_are know) (in_rows w is) (changes_all_told p w is session query bound) install)
+        let at = place w is in
+        subst (λ (u : Upkeep). Stands (record { visible = w.visible; upkeep = u }) after) at.same
+        (steps_stand taken w (kept w.upkeep.journal (store_of p)) (kept w.upkeep.journal after) is at.follow
+        (steps_run (changes_in p) taken p.rows.list last w.visible (kept w.upkeep.journal (store_of p)) is.views_are refl
+        (subst (λ (vs : List ViewDef). Know vs p.rows.list) is.views_are know) (in_rows w is) (changes_all_told p w is taken at.follow) install))
 
     -- each view of the query shows its rows at the snapshot
     module _ (w : World) (is : Stands w (store_of p)) where

@@ -14,8 +14,8 @@ use Rattle.lv_schema.specs.Groups.{view_rows_over}
 use Rattle.lv_schema.specs.Jobs.{old_sides, new_sides}
 use Rattle.lv_schema.specs.Keys.{writes_table}
 use Rattle.lv_schema.specs.StepPlans.{is_inside}
-use Rattle.lv_schema.specs.UpkeepCases.{views_of}
-use Rattle.lv_schema.specs.World.{table_at, view_at}
+use Rattle.lv_schema.specs.UpkeepCases.{views_of, with_steps}
+use Rattle.lv_schema.specs.World.{World, table_at, view_at}
 use Rattle.lv_maint.specs.Inputs.{Fit, Input}
 use Rattle.lv_overlay.specs.Puts.{rows_over}
 use Rattle.lv_txn.specs.Kept.{live_kept, transaction_at, transaction_of}
@@ -24,7 +24,7 @@ use Rattle.lv_upkeep.specs.Moves.{upkeep_stepped}
 use Rattle.lv_viewrows.specs.Changed.{CanInstall, groups_with}
 use Rattle.lv_viewrows.specs.Kept.{ViewKept, groups_at, shown}
 use Rattle.lv_stands.specs.Kept as stands
-use Rattle.lv_stands.specs.Moves.{part_in}
+use Rattle.lv_stands.specs.Moves.{StepsFollow, part_in}
 use Rattle.lv_base.specs.Bases.{base_of, table_in}
 use Rattle.lv_engine.specs.declared.parts.Parts.{Parts}
 use Rattle.lv_engine.specs.Store.{rows_in}
@@ -64,6 +64,11 @@ reads_kept p session (View v) = not (has_written p session v)
 -- ---- the steps that a query forces
 abbrev pub steps_in : Parts → ℕ → Query → List Forced
 steps_in p session query = forced_in (is_inside (live_kept p.txns)) p.settings.combine p.upkeep.kept (views_of query) (snapshot_in p session)
+
+-- steps that can be taken in place of others: each begins where its view stands then, and all views end at the same points
+pub record InPlaceOf (w : World) (steps taken : List Forced) : Type 0 where
+  pub follow : StepsFollow w taken
+  pub same : with_steps taken w.upkeep ≡ with_steps steps w.upkeep
 
 -- what a step is computed from, and the difference that it gives
 abbrev pub parts_in : Parts → Forced → List Part

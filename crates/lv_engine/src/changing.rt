@@ -1,10 +1,12 @@
 //! INSERT, UPDATE and DELETE in a transaction.
-ghost use Rattle.std.specs.Prelude.{◌≡◌, ◌<◌, OnErr, slice_set};
+ghost use Rattle.std.specs.Prelude.{◌≡◌, ◌<◌, ◌≤◌, OnErr, length, slice_set};
 ghost use Rattle.lv_schema.specs.Bound.{IsBoundChange};
 ghost use Rattle.lv_schema.specs.Cases.{changed};
 ghost use Rattle.lv_schema.specs.Effects.{changed_table, effect_of};
 ghost use Rattle.lv_schema.specs.World.{World, transaction};
+ghost use Rattle.lv_base.specs.Bases.{table_in};
 ghost use Rattle.lv_effect.specs.Answered.{GivesEffect};
+ghost use Rattle.lv_stands.specs.Kept.{shown};
 ghost use Rattle.lv_txn.specs.Kept.{IsLive, transaction_at, transaction_of};
 ghost use Rattle.lv_engine.specs.Answering.{Meets, effect_fault};
 ghost use Rattle.lv_engine.specs.Store.{IsEngine, Stands, store_of};
@@ -33,6 +35,19 @@ fn changed_table(change: &Change) -> u32
 }
 
 impl Parts {
+    /// No fewer than the rows of a table at a snapshot: those of the last commit where that is the snapshot, or else all
+    /// versions that are kept. Cost: constant.
+    fn most_rows(&self, table: u32, snapshot: u64) -> u64
+        requires { table < length self.now.base.tables }
+        ensures { length (shown snapshot (table_in self.now.base.tables table).versions) ≤ result }
+    {
+        if snapshot == self.base.last() {
+            self.base.rows(table)
+        } else {
+            self.base.versions(table).count()
+        }
+    }
+
     /// The number of rows and the actions of a change over the rows of a session's own.
     fn effect_of<L: Ledger>(
         &self,
@@ -55,6 +70,7 @@ impl Parts {
             self.schema.table(table),
             self.base.versions(table),
             snapshot,
+            self.most_rows(table, snapshot),
             self.txns.own(session),
             change,
             steps,

@@ -221,8 +221,9 @@ impl Engine {
 
     /// A query of a session that is live: the views that it reads are brought up to its snapshot, and it reads its
     /// snapshot with its own writes. It answers the steps that it forced, and its rows. A step takes the offer whose
-    /// input is the step's own, and is computed where there is none; so the answer does not depend on the offers. Want of
-    /// memory leaves every view as it was.
+    /// input is the step's own, and is computed where there is none; so the answer does not depend on the offers. Where
+    /// there are no offers, steps of one view with no live snapshot between them are taken as one, so that many changes of
+    /// one row cost their condensing and no more. Want of memory leaves every view as it was.
     /// Cost: of a view that is up to date, on whose tables the transaction wrote nothing, one pass over its rows; else
     /// that of its steps, or of the view by its definition over the transaction's own rows; and the join and the sort of
     /// the answer.

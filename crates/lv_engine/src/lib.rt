@@ -13,6 +13,7 @@ mod fault;
 mod inputs;
 mod installed;
 mod installing;
+mod joining;
 mod making;
 mod own;
 mod parts;

@@ -10,7 +10,7 @@ ghost use Rattle.lv_schema.specs.World.{World};
 ghost use Rattle.lv_schema.specs.World as schema;
 ghost use Rattle.lv_txn.specs.Kept.{IsLive};
 ghost use Rattle.lv_engine.specs.Answering.{GivesQuery, ReadsNoTable, input_between};
-ghost use Rattle.lv_engine.specs.Querying.{StepsInstall, changes_in, installed, reads_kept, rel_rows_in, steps_in, upkeep_after};
+ghost use Rattle.lv_engine.specs.Querying.{InPlaceOf, StepsInstall, changes_in, installed, reads_kept, rel_rows_in, steps_in, upkeep_after};
 ghost use Rattle.lv_engine.specs.Store.{IsEngine, Stands, rows_of, store_of};
 
 use crate::answer::Answer;
@@ -22,9 +22,11 @@ use lv_values::{Items, NoMemory, Rows, Steps};
 use std::alloc::Global;
 use std::sync::ledger::Ledger;
 
-/// The steps that a query forces, what they make of the views, and the answer, before anything is changed.
+/// The steps that a query forces and those that are taken for them, what they make of the views, and the answer, before
+/// anything is changed.
 struct Found {
     forced: ForcedSteps,
+    taken: ForcedSteps,
     ahead: Ahead,
     rows: Rows,
 }
@@ -43,33 +45,36 @@ impl Parts {
         requires live { IsLive self.now.txns session }
         requires bound { IsBoundQuery self.now.schema.tables self.now.schema.views query.now }
         ensures forced { IfOk result (λ found. found.forced ≡ steps_in self.now session query.now) }
+        ensures taken { (w : World) → Stands w (store_of self.now) → IfOk result (λ found. InPlaceOf w found.forced found.taken) }
         ensures all { IfOk result (λ found. length found.ahead ≡ length self.now.rows.list) }
-        ensures steps { IfOk result (λ found. StepsInstall (changes_in self.now) found.forced self.now.rows.list (installed found.ahead self.now.rows.list)) }
+        ensures steps { IfOk result (λ found. StepsInstall (changes_in self.now) found.taken self.now.rows.list (installed found.ahead self.now.rows.list)) }
         ensures rows { IfOk result (λ found. found.rows ≡ answer_over query.now (map (rel_rows_in self.now session (installed found.ahead self.now.rows.list)) query.now.rels)) }
         ensures cost { steps_in self.now session query.now ≡ [] → list_all (reads_kept self.now session) query.now.rels ≡ true → steps.new ≡ steps.old }
     {
         let forced = self.forced(alloc, session, query)?;
-        let ahead = self.steps_ahead(alloc, forced.as_slice(), offers, steps)?;
+        let taken = self.to_take(alloc, &forced, &offers)?;
+        let ahead = self.steps_ahead(alloc, taken.as_slice(), offers, steps)?;
         let rows = self.answer_ahead(alloc, session, &ahead, query, steps)?;
         Ok(Found {
             forced,
+            taken,
             ahead,
             rows,
         })
     }
 
     /// Takes steps that are installed ahead. It takes no memory.
-    fn take_steps(&mut self, forced: &[Forced], ahead: Ahead)
+    fn take_steps(&mut self, taken: &[Forced], ahead: Ahead)
         requires all { length ahead ≡ length self.old.rows.list }
-        requires views { list_all (λ (f : Forced). nat_lt f.view (length self.old.upkeep.kept.points)) forced.now ≡ true }
+        requires views { list_all (λ (f : Forced). nat_lt f.view (length self.old.upkeep.kept.points)) taken.now ≡ true }
         ensures rows { self.new.rows.list ≡ installed ahead self.old.rows.list }
-        ensures store { store_of self.new ≡ record (store_of self.old) { upkeep = upkeep_after forced.now self.old.upkeep.kept; rows = map rows_of (installed ahead self.old.rows.list) } }
+        ensures store { store_of self.new ≡ record (store_of self.old) { upkeep = upkeep_after taken.now self.old.upkeep.kept; rows = map rows_of (installed ahead self.old.rows.list) } }
         ensures settings { self.new.settings ≡ self.old.settings }
         ensures schema { self.new.schema ≡ self.old.schema }
         ensures txns { self.new.txns ≡ self.old.txns }
     {
         place_ahead(ahead, &mut self.rows);
-        advance_each(forced, &mut self.upkeep);
+        advance_each(taken, &mut self.upkeep);
     }
 
     /// What the steps are computed from that a query would force now.
@@ -114,10 +119,11 @@ impl Parts {
         let found = self.find(alloc, session, query, offers, steps)?;
         let Found {
             forced,
+            taken,
             ahead,
             rows,
         } = found;
-        self.take_steps(forced.as_slice(), ahead);
+        self.take_steps(taken.as_slice(), ahead);
         Ok(Answer { forced, rows })
     }
 }

@@ -1,15 +1,16 @@
 use Rattle.std.proofs.Common.{◌≡◌, map, sym, ap, ◌∙◌, subst}
 use Rattle.std.specs.Prelude.{IfOk}
 use Rattle.std.specs.List.{AllByRecursion}
-use Rattle.lv_engine.specs.Querying.{CanCompute, input_in}
-use Rattle.lv_engine.proofs.Forcing.{can_compute_all, inputs_told}
+use Rattle.lv_engine.specs.Querying.{CanCompute, input_in, steps_in}
+use Rattle.lv_engine.proofs.Forcing.{can_compute_all, inputs_told, steps_follow}
 use Rattle.lv_engine.proofs.parts.Parts.stale.Goals as goal
 
 pub inputs-requires-clause-can : goal.inputs-requires-clause-can
 inputs-requires-clause-can g c =
+    let p = c.args.self.now in
     let whole = c.requires.whole in
-    subst (AllByRecursion (CanCompute c.args.self.now)) (sym (c.as_slice.ensures ∙ c.in_ok-forced.ensures))
-    (can_compute_all c.args.self.now whole.world whole.stands c.args.session c.args.query.now c.requires.bound)
+    subst (AllByRecursion (CanCompute p)) (sym (c.as_slice.ensures ∙ c.in_ok-forced.ensures))
+    (can_compute_all p whole.world whole.stands (steps_in p c.args.session c.args.query.now) (steps_follow p whole.world whole.stands c.args.session c.args.query.now c.requires.bound))
 
 pub returns : goal.returns
 returns g c = record {
