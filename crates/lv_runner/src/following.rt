@@ -1,17 +1,14 @@
 //! The events of a program, one after another.
-ghost use Rattle.std.specs.Prelude.{◌≡◌, ◌<◌, [], true, IfOk, OnOk, map};
+ghost use Rattle.std.specs.Prelude.{◌≡◌, ◌<◌, [], IfOk, OnOk};
 ghost use Rattle.lv_core.specs.Run.{Gave, state_of};
-ghost use Rattle.lv_plain.specs.declared.event.Event.TheVariants.{Turn as turn_of};
 ghost use Rattle.lv_plain.specs.Following.{IsFollowable};
 ghost use Rattle.lv_plain.specs.Legal.{MayHappen};
 ghost use Rattle.lv_plain.specs.Limits.{IsWithinLimits};
-ghost use Rattle.lv_plain.specs.Programs.{may_turn};
 ghost use Rattle.lv_runner.specs.Built.{IsBuilt};
 ghost use Rattle.lv_runner.specs.Following.{HasFollowed, IsDoneEvent, IsRunOfProgram, MayFollow};
 
 use lv_core::Core;
 use lv_engine::{Engine, Settings};
-use lv_maint::{JobInput, JobResult, compute};
 use lv_order::{each_event_may_come, events_in_order};
 use lv_picker::Picker;
 use lv_plain::{Event, Program};
@@ -21,32 +18,6 @@ use std::sync::ledger::{Blank, Ledger};
 
 /// How many pending tasks of a view one step may combine.
 const COMBINE: u32 = 16;
-
-/// The results of steps, each computed from its input.
-fn computed(alloc: Global, inputs: Items<JobInput>) -> Result<Items<JobResult>, NoMemory>
-    ensures { IfOk result (λ results. map (λ r. r.input) results ≡ inputs) }
-{
-    let mut results = Items::new(alloc);
-    for input in inputs.into_vec() {
-        results.push(compute(alloc, input)?)?;
-    }
-    Ok(results)
-}
-
-/// Answers the next statement of a session. The steps that it forces are computed before, beside the core.
-fn answer_next<L: Ledger>(
-    alloc: Global,
-    core: &mut Core,
-    session: u32,
-    steps: &mut Steps<L>,
-) -> Result<(), NoMemory>
-    requires may { may_turn core.old.run.program core.old.run.places session ≡ true }
-    ensures { OnOk result (Gave (turn_of session) core.old.run core.new.run) }
-{
-    let inputs = core.stale(alloc, session, steps)?;
-    let offers = computed(alloc, inputs)?;
-    core.turn(alloc, session, offers, steps)
-}
 
 /// Answers an event.
 fn answer_event<L: Ledger>(
@@ -61,7 +32,7 @@ fn answer_event<L: Ledger>(
 {
     core.known();
     match event {
-        Event::Turn { session } => answer_next(alloc, core, *session, steps),
+        Event::Turn { session } => core.turn(alloc, *session, Items::new(alloc), steps),
         Event::Fetch { worker } => core.fetch(alloc, *worker, steps),
         Event::Install { worker } => core.install_slot(alloc, *worker, steps),
         Event::Clean => core.clean(alloc),
