@@ -5,7 +5,7 @@ ghost use Rattle.std.specs.Prelude.{◌≡◌};
 ghost use Rattle.lv_schema.specs.Policies.{chosen};
 ghost use Rattle.lv_picker.specs.Choices.{IsChoice};
 
-use lv_outside::{StdSink, StdSource};
+use lv_outside::{HostDisks, StdSink, StdSource};
 use lv_picker::{Choice, Picker, place_of_first, place_of_most, place_of_oldest};
 use lv_runner::{Status, run};
 use lv_schema::Pending;
@@ -78,7 +78,16 @@ fn run_script(rt: &HostRuntime) -> Result<Status, NoMemory> {
     pickers.push(Picker::new(2, first))?;
     let mut source = StdSource::new(rt.reader());
     let mut sink = StdSink::new(io::writer(rt));
-    Ok(run(alloc, words.as_slice(), &mut source, &mut sink, pickers))
+    let mut disks = HostDisks::new(rt.clone()?);
+    let ran = run(
+        alloc,
+        words.as_slice(),
+        &mut source,
+        &mut sink,
+        &mut disks,
+        pickers,
+    );
+    Ok(ran.status)
 }
 
 /// How the run ends.
@@ -99,6 +108,10 @@ fn tell(rt: &HostRuntime, status: Status) -> io::Result<()> {
         }
         Status::SourceFault => eprintln!(rt; "lazyview: source fault"),
         Status::SinkFault => eprintln!(rt; "lazyview: sink fault"),
+        Status::BadJournal { offset } => {
+            eprintln!(rt; "lazyview: bad journal at offset {offset}")
+        }
+        Status::OpenFault => eprintln!(rt; "lazyview: cannot open the journal"),
         Status::NoMemory => eprintln!(rt; "lazyview: out of memory"),
     }
 }

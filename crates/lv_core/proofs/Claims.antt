@@ -22,7 +22,8 @@ use Rattle.lv_plain.specs.Machine.{State, give, mark_by, steps_of}
 use Rattle.lv_plain.specs.Programs.{Places, has_more, lines_of, may_turn, next_line, setup_answered}
 use Rattle.lv_plain.specs.Rules.{Rules}
 use Rattle.lv_plain.specs.Turns.{bound_line, read_turn}
-use Rattle.lv_core.specs.Run.{AreClaims, CoreView, IsRun, claim_count, state_of}
+use Rattle.lv_engine.specs.Kept.{EngineView, Stands}
+use Rattle.lv_core.specs.Run.{AreClaims, claim_count}
 
 -- ---- lists
 first_stays : {A : Type 0} (xs : List A) (k : ℕ) (x d : A) → 0 < k → slice_index_or (slice_set xs k x) 0 d ≡ slice_index_or xs 0 d
@@ -103,38 +104,39 @@ turned_answered p places zero n may answered = absurd (apart (has_more p places 
 turned_answered p places (suc k) n may answered = subst (λ m. not (nat_lt m (length (lines_of p 0))) ≡ true) (sym (first_stays places (suc k) n 0 (omega arith))) answered
 
 -- ---- an event that may happen
-module _ (rules : Rules) where
-  turned : (session : ℕ) (s : State) → may_turn rules.program s.places session ≡ true → AreClaims rules.program s → AreClaims rules.program (give rules false (turn_of session) s).next
+module _ (rules : Rules) (fails : Bool) where
+  turned : (session : ℕ) (s : State) → may_turn rules.program s.places session ≡ true → AreClaims rules.program s → AreClaims rules.program (give rules fails (turn_of session) s).next
   turned session s may held = record {
     nobody = ap (λ (claims : List (Option Forced)). slice_index_or claims 0 None) same ∙ held.nobody;
     answered = λ worker some. turned_answered rules.program s.places session _ may (held.answered worker (subst (λ (claims : List (Option Forced)). IsSome (slice_index_or claims worker None)) same some));
   }
     where
-      same : (give rules false (turn_of session) s).next.world.upkeep.claims ≡ s.world.upkeep.claims
+      same : (give rules fails (turn_of session) s).next.world.upkeep.claims ≡ s.world.upkeep.claims
       same =
           let w = s.world in
           let line = bound_line rules.reading session (next_line rules.program s.places session) w.visible in
-          recorded (read_turn (outcome_of rules.settings false w.upkeep) (pending_tasks w) session line w.visible).written (with_steps (steps_of rules.settings session line w) w.upkeep)
+          recorded (read_turn (outcome_of rules.settings fails w.upkeep) (pending_tasks w) session line w.visible).written (with_steps (steps_of rules.settings session line w) w.upkeep)
 
-  pub claims_kept : (event : Event) (s : State) → MayHappen rules.program s event → AreClaims rules.program s → AreClaims rules.program (give rules false event s).next
+  pub claims_kept : (event : Event) (s : State) → MayHappen rules.program s event → AreClaims rules.program s → AreClaims rules.program (give rules fails event s).next
   claims_kept (turn_of session) s may held = turned session s may held
   claims_kept (fetch_of worker) s may held = record { nobody = fetched_nobody worker may.0.0 rules.settings s.world ∙ held.nobody; answered = λ other some. may.1 }
   claims_kept (install_of worker) s may held = record { nobody = installed_nobody worker may.0.0 s.world.upkeep ∙ held.nobody; answered = λ other some. may.1 }
   claims_kept (release_of worker) s may held = record { nobody = ended_nobody worker may.0.0 s.world.upkeep ∙ held.nobody; answered = λ other some. may.1 }
   claims_kept (mark_of name) s may held = by (view_named s.world.visible.views name)
     where
-      by : (v : Option ℕ) → AreClaims rules.program (mark_by rules false v name s).next
+      by : (v : Option ℕ) → AreClaims rules.program (mark_by rules fails v name s).next
       by None = held
       by (Some v) = record {
-        nobody = ap (λ (claims : List (Option Forced)). slice_index_or claims 0 None) (marked (outcome_of rules.settings false s.world.upkeep) v s.world.upkeep) ∙ held.nobody;
+        nobody = ap (λ (claims : List (Option Forced)). slice_index_or claims 0 None) (marked (outcome_of rules.settings fails s.world.upkeep) v s.world.upkeep) ∙ held.nobody;
         answered = λ other some. may.1;
       }
   claims_kept clean_up s may held = record { nobody = held.nobody; answered = λ other some. may }
 
--- ---- a run
--- the claims that are kept are the world's
-pub claims_are : (c : CoreView) → IsRun c → c.store.upkeep.claims ≡ (state_of c).world.upkeep.claims
-claims_are c run = run.stands.upkeep_stands.claims_are
+-- ---- an engine
+module _ {D : Type 0} (w : World) (e : EngineView D) (stands : Stands w e) where
+  -- the claims that are kept are the world's
+  pub claims_are : e.store.upkeep.claims ≡ w.upkeep.claims
+  claims_are = stands.store_stands.upkeep_stands.claims_are
 
-pub few_claims : (c : CoreView) → IsRun c → claim_count c.store.upkeep.claims ≤ 8
-few_claims c run = subst (λ (claims : List (Option Forced)). claim_count claims ≤ 8) (sym (claims_are c run)) (few (state_of c).world.upkeep.claims run.stands.steady.workers run.claims.nobody)
+  pub few_claims : claim_of w.upkeep 0 ≡ None → claim_count e.store.upkeep.claims ≤ 8
+  few_claims nobody = subst (λ (claims : List (Option Forced)). claim_count claims ≤ 8) (sym claims_are) (few w.upkeep.claims stands.store_stands.steady.workers nobody)

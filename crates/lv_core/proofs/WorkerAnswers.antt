@@ -16,17 +16,18 @@ use Rattle.lv_plain.specs.declared.event.Event.TheVariants.{Fetch as fetch_of, I
 use Rattle.lv_plain.specs.Machine.{State, fetch_entry, give, install_entry}
 use Rattle.lv_plain.specs.Rules.{Rules}
 use Rattle.lv_upkeep.specs.Kept.{claim_kept}
-use Rattle.lv_engine.specs.declared.installed.Installed.{Installed as InstallAnswer}
-use Rattle.lv_engine.specs.Maintaining.{GivesFetch, GivesInstall, given_input, told}
-use Rattle.lv_engine.specs.Store.{Store, Stands}
+use Rattle.lv_store.specs.declared.installed.Installed.{Installed as InstallAnswer}
+use Rattle.lv_store.specs.Maintaining.{given_input, told}
+use Rattle.lv_engine.specs.Answering.{GivesFetch, GivesInstall}
+use Rattle.lv_engine.specs.Kept.{EngineView, Stands}
 use Rattle.lv_core.specs.Answering.{GivesEntry}
 
 -- a worker's claim that is kept is the world's
-claim_is : (w : World) (e : Store) (worker : ℕ) → Stands w e → claim_kept e.upkeep worker ≡ claim_of w.upkeep worker
-claim_is w e worker stands = ap (λ (claims : List (Option Forced)). slice_index_or claims worker None) stands.upkeep_stands.claims_are
+claim_is : {D : Type 0} (w : World) (e : EngineView D) (worker : ℕ) → Stands w e → claim_kept e.store.upkeep worker ≡ claim_of w.upkeep worker
+claim_is w e worker stands = ap (λ (claims : List (Option Forced)). slice_index_or claims worker None) stands.store_stands.upkeep_stands.claims_are
 
-worker_there : (w : World) (e : Store) (worker : ℕ) → Stands w e → worker ≤ 8 → worker < length w.upkeep.claims
-worker_there w e worker stands le = let nine = stands.steady.workers in omega (arith, nine, le)
+worker_there : {D : Type 0} (w : World) (e : EngineView D) (worker : ℕ) → Stands w e → worker ≤ 8 → worker < length w.upkeep.claims
+worker_there w e worker stands le = let nine = stands.store_stands.steady.workers in omega (arith, nine, le)
 
 -- ---- what a fetch answers tells of the claim: it was there before, or it is the step
 abbrev AsClaimed : ℕ → Option Forced → Fetched → Upkeep → Type 0
@@ -58,34 +59,34 @@ fetched_claim worker s u busy input claims is = absurd cc
 fetched_claim worker s u idle input claims is = absurd cc
 fetched_claim worker s u (fetched g) input claims is = ap (λ (c : Option Forced). is_some c) claims
 
-module _ (settings : Settings) (w : World) (old : Store) (worker : ℕ) (stands : Stands w old) where
+module _ {D : Type 0} (settings : Settings) (w : World) (old : EngineView D) (worker : ℕ) (stands : Stands w old) where
   abbrev fetching_now : Fetched × Upkeep
   fetching_now = fetching settings worker w
 
-  is_busy : is_some (claim_kept old.upkeep worker) ≡ true → fetching_now ≡ (busy, w.upkeep)
+  is_busy : is_some (claim_kept old.store.upkeep worker) ≡ true → fetching_now ≡ (busy, w.upkeep)
   is_busy some = by (claim_of w.upkeep worker) (sym (ap (λ (c : Option Forced). is_some c) (claim_is w old worker stands)) ∙ some)
     where
       by : (claim : Option Forced) → is_some claim ≡ true → fetch_by claim settings worker w ≡ (busy, w.upkeep)
       by None e = absurd cc
       by (Some f) e = refl
 
-  module _ (le : worker ≤ 8) (none : claim_kept old.upkeep worker ≡ None) where
+  module _ (le : worker ≤ 8) (none : claim_kept old.store.upkeep worker ≡ None) where
     claims_none : AsClaimed worker None fetching_now.0 fetching_now.1
     claims_none =
         subst (λ (c : Option Forced). AsClaimed worker c fetching_now.0 fetching_now.1) (sym (claim_is w old worker stands) ∙ none) (as_claimed settings worker w (worker_there w old worker stands le))
 
-    pub claim_there : (new : Store) (input : Input) → GivesFetch w.visible (maintained fetching_now w) (Some input) new → is_some (claim_kept new.upkeep worker) ≡ true
+    pub claim_there : (new : EngineView D) (input : Input) → GivesFetch w.visible (maintained fetching_now w) (Some input) new → is_some (claim_kept new.store.upkeep worker) ≡ true
     claim_there new input gives =
         ap (λ (c : Option Forced). is_some c) (claim_is (with_upkeep fetching_now.1 w) new worker gives.stands) ∙ fetched_claim worker w.visible fetching_now.1 fetching_now.0 input claims_none gives.input_is
 
-module _ (rules : Rules) (s : State) (old : Store) (worker : ℕ) (stands : Stands s.world old) where
-  pub busy_gives : is_some (claim_kept old.upkeep worker) ≡ true → GivesEntry (give rules false (fetch_of worker) s) old (entry.Busy worker)
+module _ {D : Type 0} (rules : Rules) (s : State) (old : EngineView D) (worker : ℕ) (stands : Stands s.world old) where
+  pub busy_gives : is_some (claim_kept old.store.upkeep worker) ≡ true → GivesEntry (give rules false (fetch_of worker) s) old (entry.Busy worker)
   busy_gives some = record {
     entry = sym (ap (λ (d : Fetched × Upkeep). fetch_entry rules false worker d.0) (is_busy rules.settings s.world old worker stands some));
     stands = subst (λ (d : Fetched × Upkeep). Stands (with_upkeep d.1 s.world) old) (sym (is_busy rules.settings s.world old worker stands some)) stands;
   }
 
-  pub empty_gives : claim_kept old.upkeep worker ≡ None → GivesEntry (give rules false (install_of worker) s) old (entry.Empty worker)
+  pub empty_gives : claim_kept old.store.upkeep worker ≡ None → GivesEntry (give rules false (install_of worker) s) old (entry.Empty worker)
   empty_gives none = record {
     entry = sym (ap (λ (d : Installed × Upkeep). install_entry rules false worker d.0) is_empty);
     stands = subst (λ (d : Installed × Upkeep). Stands (with_upkeep d.1 s.world) old) (sym is_empty) stands;
@@ -94,6 +95,6 @@ module _ (rules : Rules) (s : State) (old : Store) (worker : ℕ) (stands : Stan
       is_empty : installing worker s.world.upkeep ≡ (empty, s.world.upkeep)
       is_empty = ap (λ (c : Option Forced). install_by c worker s.world.upkeep) (sym (claim_is s.world old worker stands) ∙ none)
 
-pub installed_gives : (rules : Rules) (s : State) (new : Store) (worker : ℕ) (answer : InstallAnswer) (e : Entry) → e ≡ install_entry rules false worker (told answer)
+pub installed_gives : {D : Type 0} (rules : Rules) (s : State) (new : EngineView D) (worker : ℕ) (answer : InstallAnswer) (e : Entry) → e ≡ install_entry rules false worker (told answer)
     → GivesInstall (maintained (installing worker s.world.upkeep) s.world) answer new → GivesEntry (give rules false (install_of worker) s) new e
 installed_gives rules s new worker answer e is gives = record { entry = is ∙ ap (λ (i : Installed). install_entry rules false worker i) gives.answer_is; stands = gives.stands }

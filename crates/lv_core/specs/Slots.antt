@@ -2,7 +2,7 @@
 use Rattle.std.specs.Prelude.{ℕ, List, slice_index_or, slice_set, Option, Some, None}
 use Rattle.lv_schema.specs.UpkeepCases.{fetching}
 use Rattle.lv_maint.specs.Inputs.{Input}
-use Rattle.lv_engine.specs.Maintaining.{given_input}
+use Rattle.lv_store.specs.Maintaining.{given_input}
 use Rattle.lv_core.specs.Run.{CoreView, state_of}
 
 -- for each worker what the step that it has fetched is computed from, until that is taken out or the claim ends
@@ -22,5 +22,5 @@ slots_given worker None slots = slots
 slots_given worker (Some input) slots = slice_set slots worker (Some input)
 
 -- what a worker would be given now: what the step is computed from that it would fetch
-abbrev pub next_input : CoreView → ℕ → Option Input
+abbrev pub next_input : {D : Type 0} → CoreView D → ℕ → Option Input
 next_input c worker = let w = (state_of c).world in given_input w.visible (fetching c.settings worker w).0

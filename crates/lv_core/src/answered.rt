@@ -1,10 +1,11 @@
 //! What a statement is answered.
 ghost use Rattle.std.specs.Prelude.{◌≡◌, []};
-ghost use Rattle.lv_engine.specs.Answering.{commit_fault, effect_fault};
+ghost use Rattle.lv_store.specs.Answering.{effect_fault};
+ghost use Rattle.lv_engine.specs.Answering.{commit_fault, create_fault};
 ghost use Rattle.lv_core.specs.Answering.{IsRefusal};
 
 use lv_effect::EffectFault;
-use lv_engine::CommitFault;
+use lv_engine::{CommitFault, CreateFault};
 use lv_plain::Reply;
 use lv_schema::{Fault, ForcedSteps};
 use lv_values::NoMemory;
@@ -49,7 +50,20 @@ pub fn fault_of_commit(fault: CommitFault) -> Option<Fault>
             commit: conflict.commit,
         }),
         CommitFault::TableFull { table } => Some(Fault::MergedFull { table }),
+        CommitFault::Full { need, limit } => Some(Fault::JournalFull { need, limit }),
+        CommitFault::Store => Some(Fault::Store),
         CommitFault::NoMemory => None,
+    }
+}
+
+/// Why a table, a view or a mark is refused; none where memory was.
+pub fn fault_of_create(fault: CreateFault) -> Option<Fault>
+    ensures { result ≡ create_fault fault }
+{
+    match fault {
+        CreateFault::Full { need, limit } => Some(Fault::JournalFull { need, limit }),
+        CreateFault::Store => Some(Fault::Store),
+        CreateFault::NoMemory => None,
     }
 }
 

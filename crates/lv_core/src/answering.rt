@@ -2,28 +2,29 @@
 ghost use Rattle.std.specs.Prelude.{◌≡◌, ◌<◌, ◌==◌, ℕ, false, true, List, [], None, Ok, IfOk, map};
 ghost use Rattle.lv_schema.specs.declared.bound.Bound.TheVariants as bound;
 ghost use Rattle.lv_schema.specs.declared.query.Query.{Query as AQuery};
-ghost use Rattle.lv_schema.specs.declared.rec.Rec.{Rec};
 ghost use Rattle.lv_schema.specs.Bound.{IsBound, IsBoundTable, IsBoundView};
-ghost use Rattle.lv_schema.specs.Cases.{Outcome, began, committed, rolled_back, table_made, view_made};
+ghost use Rattle.lv_schema.specs.Cases.{began, committed, rolled_back, table_made, view_made};
 ghost use Rattle.lv_schema.specs.Tasks.{pending_tasks};
 ghost use Rattle.lv_schema.specs.UpkeepCases.{outcome_of};
-ghost use Rattle.lv_schema.specs.World.{Settings, World};
+ghost use Rattle.lv_schema.specs.World as schema;
+ghost use Rattle.lv_schema.specs.World.{World};
 ghost use Rattle.lv_plain.specs.declared.entry.Reply.TheVariants as reply;
 ghost use Rattle.lv_plain.specs.Limits.{IsStatementLine};
 ghost use Rattle.lv_plain.specs.Machine.{steps_of};
 ghost use Rattle.lv_plain.specs.Turns.{bound_line, bound_turn, read_turn, shown, turn_by};
 ghost use Rattle.lv_bind.specs.Reads.{reads};
 ghost use Rattle.lv_txn.specs.Kept.{IsLive, live_kept, transaction_at};
-ghost use Rattle.lv_engine.specs.Answering.{IsWritten, ReadsNoTable, input_between};
-ghost use Rattle.lv_engine.specs.Store.{Stands};
+ghost use Rattle.lv_store.specs.Answering.{ReadsNoTable, input_between};
+ghost use Rattle.lv_engine.specs.Kept.{Stands};
 ghost use Rattle.lv_core.specs.Answering.{Answers, GivesTurn, IsNext, IsReady};
 
-use crate::answered::{Answered, fault_of_commit, refusal, replied};
+use crate::answered::{Answered, fault_of_commit, fault_of_create, refusal, replied};
 use crate::changing::change;
 use crate::querying::query;
 use lv_bind::{BindFault, read_line};
 use lv_engine::Engine;
 use lv_maint::{JobInput, JobResult};
+use lv_outside::Disk;
 use lv_plain::Reply;
 use lv_schema::{Bound, TableDef, ViewDef};
 use lv_values::{Items, NoMemory, Steps, Text};
@@ -31,51 +32,63 @@ use std::alloc::Global;
 use std::sync::ledger::Ledger;
 
 /// CREATE TABLE.
-fn create_table(engine: &mut Engine, alloc: Global, def: TableDef) -> Result<Answered, NoMemory>
-    requires bound { IsBoundTable engine.old.tables engine.old.views def }
-    ensures case { (w : World) (outcome : Rec → Outcome) → IsWritten outcome → Stands w engine.old
-        → Answers w engine.old engine.new result [] (turn_by (λ _. reply.Made) (table_made outcome def w.visible)) }
-    ensures settings { engine.new.settings ≡ engine.old.settings }
+fn create_table<D: Disk>(
+    engine: &mut Engine<D>,
+    alloc: Global,
+    def: TableDef,
+) -> Result<Answered, NoMemory>
+    requires bound { IsBoundTable engine.old.store.tables engine.old.store.views def }
+    ensures case { (w : World) (settings : schema.Settings) → settings.limit ≡ engine.old.store.settings.log_limit → Stands w engine.old
+        → Answers D.seen D.may_leave D.failures w engine.old engine.new result [] (λ fails. turn_by (λ _. reply.Made) (table_made (outcome_of settings fails w.upkeep) def w.visible)) }
+    ensures settings { engine.new.store.settings ≡ engine.old.store.settings }
 {
-    engine.create_table(alloc, def)?;
-    Ok(replied(alloc, Reply::Made))
+    match engine.create_table(alloc, def) {
+        Ok(()) => Ok(replied(alloc, Reply::Made)),
+        Err(fault) => refusal(alloc, fault_of_create(fault)),
+    }
 }
 
 /// CREATE VIEW, where nobody is live.
-fn create_view<L: Ledger>(
-    engine: &mut Engine,
+fn create_view<D: Disk, L: Ledger>(
+    engine: &mut Engine<D>,
     alloc: Global,
     def: ViewDef,
     steps: &mut Steps<L>,
 ) -> Result<Answered, NoMemory>
-    requires bound { IsBoundView engine.old.tables engine.old.views def }
-    requires nobody { live_kept engine.old.sessions ≡ [] }
-    ensures case { (w : World) (outcome : Rec → Outcome) → IsWritten outcome → Stands w engine.old
-        → Answers w engine.old engine.new result [] (turn_by (λ _. reply.Made) (view_made outcome def w.visible)) }
-    ensures settings { engine.new.settings ≡ engine.old.settings }
+    requires bound { IsBoundView engine.old.store.tables engine.old.store.views def }
+    requires nobody { live_kept engine.old.store.sessions ≡ [] }
+    ensures case { (w : World) (settings : schema.Settings) → settings.limit ≡ engine.old.store.settings.log_limit → Stands w engine.old
+        → Answers D.seen D.may_leave D.failures w engine.old engine.new result [] (λ fails. turn_by (λ _. reply.Made) (view_made (outcome_of settings fails w.upkeep) def w.visible)) }
+    ensures settings { engine.new.store.settings ≡ engine.old.store.settings }
 {
-    engine.create_view(alloc, def, steps)?;
-    Ok(replied(alloc, Reply::Made))
+    match engine.create_view(alloc, def, steps) {
+        Ok(()) => Ok(replied(alloc, Reply::Made)),
+        Err(fault) => refusal(alloc, fault_of_create(fault)),
+    }
 }
 
 /// BEGIN.
-fn begin(engine: &mut Engine, alloc: Global, session: u32) -> Answered
+fn begin<D: Disk>(engine: &mut Engine<D>, alloc: Global, session: u32) -> Answered
     requires session { session < 17 }
-    requires free { transaction_at engine.old.sessions session ≡ None }
-    ensures case { (w : World) → Stands w engine.old → GivesTurn w engine.new [] (turn_by reply.Began (began session w.visible)) result }
-    ensures settings { engine.new.settings ≡ engine.old.settings }
+    requires free { transaction_at engine.old.store.sessions session ≡ None }
+    ensures case { (w : World) → Stands w engine.old → GivesTurn D.seen D.may_leave D.failures w engine.old engine.new [] (λ _. turn_by reply.Began (began session w.visible)) result }
+    ensures settings { engine.new.store.settings ≡ engine.old.store.settings }
 {
     let snapshot = engine.begin(session);
     replied(alloc, Reply::Began { snapshot })
 }
 
 /// COMMIT.
-fn commit(engine: &mut Engine, alloc: Global, session: u32) -> Result<Answered, NoMemory>
+fn commit<D: Disk>(
+    engine: &mut Engine<D>,
+    alloc: Global,
+    session: u32,
+) -> Result<Answered, NoMemory>
     requires session { session < 17 }
-    requires live { IsLive engine.old.sessions session }
-    ensures case { (w : World) (outcome : Rec → Outcome) → IsWritten outcome → Stands w engine.old
-        → Answers w engine.old engine.new result [] (turn_by reply.Committed (committed outcome session w.visible)) }
-    ensures settings { engine.new.settings ≡ engine.old.settings }
+    requires live { IsLive engine.old.store.sessions session }
+    ensures case { (w : World) (settings : schema.Settings) → settings.limit ≡ engine.old.store.settings.log_limit → Stands w engine.old
+        → Answers D.seen D.may_leave D.failures w engine.old engine.new result [] (λ fails. turn_by reply.Committed (committed (outcome_of settings fails w.upkeep) session w.visible)) }
+    ensures settings { engine.new.store.settings ≡ engine.old.store.settings }
 {
     match engine.commit(alloc, session) {
         Ok(number) => Ok(replied(alloc, Reply::Committed { number })),
@@ -84,27 +97,27 @@ fn commit(engine: &mut Engine, alloc: Global, session: u32) -> Result<Answered, 
 }
 
 /// ROLLBACK.
-fn roll_back(engine: &mut Engine, alloc: Global, session: u32) -> Answered
+fn roll_back<D: Disk>(engine: &mut Engine<D>, alloc: Global, session: u32) -> Answered
     requires session { session < 17 }
-    requires live { IsLive engine.old.sessions session }
-    ensures case { (w : World) → Stands w engine.old → GivesTurn w engine.new [] (turn_by (λ _. reply.RolledBack) (rolled_back session w.visible)) result }
-    ensures settings { engine.new.settings ≡ engine.old.settings }
+    requires live { IsLive engine.old.store.sessions session }
+    ensures case { (w : World) → Stands w engine.old → GivesTurn D.seen D.may_leave D.failures w engine.old engine.new [] (λ _. turn_by (λ _. reply.RolledBack) (rolled_back session w.visible)) result }
+    ensures settings { engine.new.store.settings ≡ engine.old.store.settings }
 {
     engine.rollback(session);
     replied(alloc, Reply::RolledBack)
 }
 
 /// SHOW TASKS.
-fn show_tasks(engine: &Engine, alloc: Global) -> Result<Answered, NoMemory>
-    ensures { (w : World) → Stands w engine.now → Answers w engine.now engine.now result [] (shown (reply.Tasks (pending_tasks w)) w.visible) }
+fn show_tasks<D: Disk>(engine: &Engine<D>, alloc: Global) -> Result<Answered, NoMemory>
+    ensures { (w : World) → Stands w engine.now → Answers D.seen D.may_leave D.failures w engine.now engine.now result [] (λ _. shown (reply.Tasks (pending_tasks w)) w.visible) }
 {
     let tasks = engine.tasks(alloc)?;
     Ok(replied(alloc, Reply::Tasks(tasks)))
 }
 
-/// The answer to a bound statement. Want of memory leaves everything as it was. Cost: that of the engine's call.
-fn answer<L: Ledger>(
-    engine: &mut Engine,
+/// The answer to a bound statement. Want of memory leaves all but the room in the journal. Cost: that of the engine's call.
+fn answer<D: Disk, L: Ledger>(
+    engine: &mut Engine<D>,
     alloc: Global,
     session: u32,
     statement: Bound,
@@ -112,9 +125,10 @@ fn answer<L: Ledger>(
     steps: &mut Steps<L>,
 ) -> Result<Answered, NoMemory>
     requires ready { IsReady engine.old session statement }
-    ensures case { (w : World) (settings : Settings) (outcome : Rec → Outcome) → settings.combine ≡ engine.old.settings.combine → IsWritten outcome → Stands w engine.old
-        → Answers w engine.old engine.new result (steps_of settings session (Ok statement) w) (bound_turn outcome (pending_tasks w) session statement w.visible) }
-    ensures settings { engine.new.settings ≡ engine.old.settings }
+    ensures case { (w : World) (settings : schema.Settings) → settings.combine ≡ engine.old.store.settings.combine → settings.limit ≡ engine.old.store.settings.log_limit → Stands w engine.old
+        → Answers D.seen D.may_leave D.failures w engine.old engine.new result (steps_of settings session (Ok statement) w)
+        (λ fails. bound_turn (outcome_of settings fails w.upkeep) (pending_tasks w) session statement w.visible) }
+    ensures settings { engine.new.store.settings ≡ engine.old.store.settings }
     ensures fresh { (w : World) (query : AQuery) → Stands w engine.old → statement ≡ bound.Query query → ReadsNoTable session query w → steps.new ≡ steps.old }
 {
     match statement {
@@ -129,10 +143,10 @@ fn answer<L: Ledger>(
     }
 }
 
-/// The answer to a line of a session, the setup being session 0. Want of memory leaves everything as it was.
+/// The answer to a line of a session, the setup being session 0. Want of memory leaves all but the room in the journal.
 /// Cost: linear in the line, that of binding, and that of the statement.
-pub fn answer_line<L: Ledger>(
-    engine: &mut Engine,
+pub fn answer_line<D: Disk, L: Ledger>(
+    engine: &mut Engine<D>,
     alloc: Global,
     session: u32,
     line: &Text,
@@ -141,9 +155,10 @@ pub fn answer_line<L: Ledger>(
 ) -> Result<Answered, NoMemory>
     requires next { IsNext engine.old session }
     requires line { IsStatementLine line.now }
-    ensures case { (w : World) (settings : Settings) (outcome : Rec → Outcome) → settings.combine ≡ engine.old.settings.combine → IsWritten outcome → Stands w engine.old
-        → Answers w engine.old engine.new result (steps_of settings session (bound_line reads session line.now w.visible) w) (read_turn outcome (pending_tasks w) session (bound_line reads session line.now w.visible) w.visible) }
-    ensures settings { engine.new.settings ≡ engine.old.settings }
+    ensures case { (w : World) (settings : schema.Settings) → settings.combine ≡ engine.old.store.settings.combine → settings.limit ≡ engine.old.store.settings.log_limit → Stands w engine.old
+        → Answers D.seen D.may_leave D.failures w engine.old engine.new result (steps_of settings session (bound_line reads session line.now w.visible) w)
+        (λ fails. read_turn (outcome_of settings fails w.upkeep) (pending_tasks w) session (bound_line reads session line.now w.visible) w.visible) }
+    ensures settings { engine.new.store.settings ≡ engine.old.store.settings }
     ensures fresh { (w : World) (query : AQuery) → Stands w engine.old → bound_line reads session line.now w.visible ≡ Ok (bound.Query query) → ReadsNoTable session query w → steps.new ≡ steps.old }
 {
     let live = engine.live(session).is_some();
@@ -155,16 +170,16 @@ pub fn answer_line<L: Ledger>(
 }
 
 /// What the steps are computed from that a bound statement would force now: a query alone forces any.
-fn stale_bound<L: Ledger>(
-    engine: &Engine,
+fn stale_bound<D: Disk, L: Ledger>(
+    engine: &Engine<D>,
     alloc: Global,
     session: u32,
     statement: Bound,
     steps: &mut Steps<L>,
 ) -> Result<Items<JobInput>, NoMemory>
     requires session { session < 17 }
-    requires bound { IsBound engine.now.tables engine.now.views statement }
-    ensures { (w : World) (settings : Settings) → settings.combine ≡ engine.now.settings.combine → Stands w engine.now
+    requires bound { IsBound engine.now.store.tables engine.now.store.views statement }
+    ensures { (w : World) (settings : schema.Settings) → settings.combine ≡ engine.now.store.settings.combine → Stands w engine.now
         → IfOk result (λ inputs. inputs ≡ map (input_between w.visible) (steps_of settings session (Ok statement) w)) }
 {
     match statement {
@@ -180,8 +195,8 @@ fn stale_bound<L: Ledger>(
 }
 
 /// The same of a line: of one that is refused there is nothing.
-pub fn stale_line<L: Ledger>(
-    engine: &Engine,
+pub fn stale_line<D: Disk, L: Ledger>(
+    engine: &Engine<D>,
     alloc: Global,
     session: u32,
     line: &Text,
@@ -189,7 +204,7 @@ pub fn stale_line<L: Ledger>(
 ) -> Result<Items<JobInput>, NoMemory>
     requires session { session < 17 }
     requires line { IsStatementLine line.now }
-    ensures { (w : World) (settings : Settings) → settings.combine ≡ engine.now.settings.combine → Stands w engine.now
+    ensures { (w : World) (settings : schema.Settings) → settings.combine ≡ engine.now.store.settings.combine → Stands w engine.now
         → IfOk result (λ inputs. inputs ≡ map (input_between w.visible) (steps_of settings session (bound_line reads session line.now w.visible) w)) }
 {
     let live = engine.live(session).is_some();

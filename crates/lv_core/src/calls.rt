@@ -1,63 +1,94 @@
 //! The calls of a core.
-ghost use Rattle.std.specs.Prelude.{◌≡◌, [], true, is_some, replicate, None, Ok, OnErr, OnOk, IfOk, map};
+ghost use Rattle.std.specs.Prelude.{◌≡◌, [], true, is_some, replicate, None, Ok, OnErr, OnOk, IfErr, IfOk, map};
+ghost use Rattle.lv_values.specs.Names.{is_lower_name};
 ghost use Rattle.lv_schema.specs.declared.bound.Bound.TheVariants as bound;
 ghost use Rattle.lv_schema.specs.declared.query.Query.{Query as AQuery};
-ghost use Rattle.lv_schema.specs.World.{empty_world};
-ghost use Rattle.lv_plain.specs.declared.event.Event.TheVariants.{Turn as turn_of, Fetch as fetch_of, Install as install_of, Release as release_of, Clean as clean_up};
+ghost use Rattle.lv_plain.specs.declared.event.Event.TheVariants.{Turn as turn_of, Fetch as fetch_of, Install as install_of, Release as release_of, Mark as mark_of, Clean as clean_up};
 ghost use Rattle.lv_plain.specs.Legal.{IsWorker};
 ghost use Rattle.lv_plain.specs.Limits.{IsWithinLimits};
 ghost use Rattle.lv_plain.specs.Programs.{may_turn, setup_answered};
 ghost use Rattle.lv_upkeep.specs.Kept.{claim_kept};
-ghost use Rattle.lv_engine.specs.Answering.{ReadsNoTable, input_between};
-ghost use Rattle.lv_engine.specs.Store.{Stands};
-ghost use Rattle.lv_core.specs.Run.{Gave, IsRun, next_bound, next_steps, settings_of, state_of};
+ghost use Rattle.lv_store.specs.Answering.{ReadsNoTable, input_between};
+ghost use Rattle.lv_engine.specs.Kept.{length_of};
+ghost use Rattle.lv_core.specs.Run.{Gave, IsOpening, IsRun, IsSame, next_bound, next_steps, settings_of, state_of};
 ghost use Rattle.lv_core.specs.Slots.{next_input, slot_of, slots_given, slots_without};
 
 use crate::machine::Core;
+use crate::opening::Opened;
 use crate::running::Run;
-use crate::slots::{Slots, give_slot, no_slots};
+use crate::slots::{Slots, give_slot, no_slots, take_slot};
 use lv_engine::Engine;
 use lv_maint::{JobInput, JobResult};
+use lv_outside::Disk;
 use lv_picker::Picker;
 use lv_plain::{Entry, Program};
-use lv_values::{Items, NoMemory, Steps};
+use lv_store::Settings;
+use lv_values::{Items, NoMemory, Steps, Text};
 use std::alloc::Global;
 use std::sync::ledger::Ledger;
 
-impl Core {
-    /// A program of which no statement is answered, over an engine that stands for the empty world. Nobody has a claim, and
-    /// every slot is empty.
+impl<D: Disk> Core<D> {
+    /// A program of which no statement is answered, over an engine in which nobody is live, nothing is claimed or dropped,
+    /// and each view is where it is marked. Every slot is empty. The error is want of memory, and gives the engine back.
     pub fn new(
         alloc: Global,
-        engine: Engine,
+        engine: Engine<D>,
         program: Program,
         picker: Picker,
-    ) -> Result<Core, NoMemory>
+    ) -> Result<Core<D>, Engine<D>>
         requires within { IsWithinLimits program }
-        requires opened { Stands empty_world engine }
+        requires opening { IsOpening engine }
         ensures program { IfOk result (λ core. core.run.program ≡ program) }
-        ensures settings { IfOk result (λ core. core.run.settings ≡ settings_of engine.settings.combine picker.kind) }
+        ensures settings { IfOk result (λ core. core.run.settings ≡ settings_of engine.store.settings picker.kind) }
         ensures entries { IfOk result (λ core. core.run.entries ≡ []) }
+        ensures opened { IfOk result (λ core. core.run.opened ≡ engine) }
+        ensures engine { IfOk result (λ core. core.run.engine ≡ engine) }
         ensures slots { IfOk result (λ core. core.slots ≡ replicate 9 None) }
+        ensures refused { IfErr result (λ back. back ≡ engine) }
     {
+        let Ok(slots) = no_slots(alloc) else {
+            return Err(engine);
+        };
         let run = Run::new(alloc, engine, program, picker.kind())?;
-        let slots = no_slots(alloc)?;
         Ok(Core { run, picker, slots })
     }
 
     /// What the core keeps of its run: its entries are legal, and its engine stands for the world after them. It is a law,
     /// and the call does nothing.
     pub fn known(&self)
-        ensures { IsRun self.now.run }
+        ensures { IsRun D.seen D.may_leave D.failures self.now.run }
     {
         self.run.known();
     }
 
     /// The engine.
-    pub fn engine(&self) -> &Engine
-        ensures { result.now ≡ self.now.run.store }
+    pub fn engine(&self) -> &Engine<D>
+        ensures { result.now ≡ self.now.run.engine }
     {
         self.run.engine()
+    }
+
+    /// The engine, and the core is gone.
+    pub fn into_engine(self) -> Engine<D>
+        ensures { result ≡ self.run.engine }
+    {
+        let Core { run, .. } = self;
+        run.into_engine()
+    }
+
+    /// The length of the journal and the disk's count when the core was made.
+    pub fn opened(&self) -> Opened
+        ensures length { result.length ≡ length_of self.now.run.opened.journal }
+        ensures faults { result.faults ≡ D.failures self.now.run.opened.journal.disk }
+    {
+        self.run.opened()
+    }
+
+    /// What the engine is run with.
+    pub fn settings(&self) -> Settings
+        ensures { result ≡ self.now.run.engine.store.settings }
+    {
+        self.run.engine().settings()
     }
 
     /// The program.
@@ -71,7 +102,7 @@ impl Core {
     pub fn kind(&self) -> u8
         ensures { result ≡ self.now.run.settings.policy }
     {
-        self.picker.kind()
+        self.run.policy()
     }
 
     /// What the events have answered, in order.
@@ -104,7 +135,7 @@ impl Core {
     }
 
     /// Answers the next statement of a session, and keeps the entry. An offer is used where it is a step's that the
-    /// statement forces. Want of memory changes nothing. A query of fresh views alone takes no step.
+    /// statement forces. After want of memory nothing has come. A query of fresh views alone takes no step.
     /// Cost: that of binding, and of the statement's call of the engine.
     pub fn turn<L: Ledger>(
         &mut self,
@@ -114,9 +145,9 @@ impl Core {
         steps: &mut Steps<L>,
     ) -> Result<(), NoMemory>
         requires may { may_turn self.old.run.program self.old.run.places session ≡ true }
-        ensures done { OnOk result (Gave (turn_of session) self.old.run self.new.run) }
+        ensures done { OnOk result (Gave D.seen D.may_leave D.failures (turn_of session) self.old.run self.new.run) }
         ensures slots { self.new.slots ≡ self.old.slots }
-        ensures kept { OnErr result ((self.new.run ≡ self.old.run) × (self.new.slots ≡ self.old.slots)) }
+        ensures kept { OnErr result (IsSame self.old.run self.new.run) }
         ensures fresh { (query : AQuery) → next_bound self.old.run session ≡ Ok (bound.Query query) → ReadsNoTable session query (state_of self.old.run).world → steps.new ≡ steps.old }
     {
         self.run.turn(alloc, session, offers, steps)
@@ -133,10 +164,13 @@ impl Core {
     ) -> Result<(), NoMemory>
         requires worker { IsWorker worker }
         requires setup { setup_answered self.old.run.program self.old.run.places ≡ true }
-        ensures done { OnOk result (Gave (fetch_of worker) self.old.run self.new.run) }
+        ensures done { OnOk result (Gave D.seen D.may_leave D.failures (fetch_of worker) self.old.run self.new.run) }
         ensures slot { OnOk result (self.new.slots ≡ slots_given worker (next_input self.old.run worker) self.old.slots) }
         ensures kept { OnErr result ((self.new.run ≡ self.old.run) × (self.new.slots ≡ self.old.slots)) }
     {
+        if self.picker.kind() != self.run.policy() {
+            return Err(NoMemory);
+        }
         let input = self.run.fetch(alloc, worker, &self.picker, steps)?;
         give_slot(&mut self.slots, worker, input);
         Ok(())
@@ -149,7 +183,7 @@ impl Core {
         ensures slot { self.new.slots ≡ slots_without worker self.old.slots }
         ensures run { self.new.run ≡ self.old.run }
     {
-        self.slots.replace(worker as usize, None)
+        take_slot(&mut self.slots, worker)
     }
 
     /// A worker installs the step that it has claimed, if it has, once the setup is answered; its slot is empty then. The
@@ -163,12 +197,12 @@ impl Core {
     ) -> Result<(), NoMemory>
         requires worker { IsWorker worker }
         requires setup { setup_answered self.old.run.program self.old.run.places ≡ true }
-        ensures done { OnOk result (Gave (install_of worker) self.old.run self.new.run) }
+        ensures done { OnOk result (Gave D.seen D.may_leave D.failures (install_of worker) self.old.run self.new.run) }
         ensures slot { OnOk result (self.new.slots ≡ slots_without worker self.old.slots) }
         ensures kept { OnErr result ((self.new.run ≡ self.old.run) × (self.new.slots ≡ self.old.slots)) }
     {
         self.run.install(alloc, worker, Some(offer), steps)?;
-        self.slots.set(worker as usize, None);
+        take_slot(&mut self.slots, worker);
         Ok(())
     }
 
@@ -182,31 +216,43 @@ impl Core {
     ) -> Result<(), NoMemory>
         requires worker { IsWorker worker }
         requires setup { setup_answered self.old.run.program self.old.run.places ≡ true }
-        ensures done { OnOk result (Gave (install_of worker) self.old.run self.new.run) }
+        ensures done { OnOk result (Gave D.seen D.may_leave D.failures (install_of worker) self.old.run self.new.run) }
         ensures slot { OnOk result (self.new.slots ≡ slots_without worker self.old.slots) }
         ensures kept { OnErr result ((self.new.run ≡ self.old.run) × (self.new.slots ≡ self.old.slots)) }
     {
         self.run.install(alloc, worker, None, steps)?;
-        self.slots.set(worker as usize, None);
+        take_slot(&mut self.slots, worker);
         Ok(())
     }
 
     /// A worker that has a claim gives it up; its slot is empty then. It takes no memory. Cost: constant.
     pub fn release(&mut self, worker: u32)
         requires worker { IsWorker worker }
-        requires claim { is_some (claim_kept self.old.run.store.upkeep worker) ≡ true }
-        ensures done { Gave (release_of worker) self.old.run self.new.run }
+        requires claim { is_some (claim_kept self.old.run.engine.store.upkeep worker) ≡ true }
+        ensures done { Gave D.seen D.may_leave D.failures (release_of worker) self.old.run self.new.run }
         ensures slot { self.new.slots ≡ slots_without worker self.old.slots }
     {
         self.run.release(worker);
-        self.slots.set(worker as usize, None);
+        take_slot(&mut self.slots, worker);
+    }
+
+    /// Marks the view with this name as maintained to its point, once the setup is answered. After want of memory nothing
+    /// has come. Cost: that of the engine's `mark`.
+    pub fn mark(&mut self, alloc: Global, view: &Text) -> Result<(), NoMemory>
+        requires setup { setup_answered self.old.run.program self.old.run.places ≡ true }
+        requires name { is_lower_name view.now ≡ true }
+        ensures done { OnOk result (Gave D.seen D.may_leave D.failures (mark_of view.now) self.old.run self.new.run) }
+        ensures slots { self.new.slots ≡ self.old.slots }
+        ensures kept { OnErr result (IsSame self.old.run self.new.run) }
+    {
+        self.run.mark(alloc, view)
     }
 
     /// Drops what nobody needs, once the setup is answered, and keeps the entry of what is left. Want of memory changes
     /// nothing. Cost: that of the engine's `clean`.
     pub fn clean(&mut self, alloc: Global) -> Result<(), NoMemory>
         requires setup { setup_answered self.old.run.program self.old.run.places ≡ true }
-        ensures done { OnOk result (Gave clean_up self.old.run self.new.run) }
+        ensures done { OnOk result (Gave D.seen D.may_leave D.failures clean_up self.old.run self.new.run) }
         ensures slots { self.new.slots ≡ self.old.slots }
         ensures kept { OnErr result ((self.new.run ≡ self.old.run) × (self.new.slots ≡ self.old.slots)) }
     {

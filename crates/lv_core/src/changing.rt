@@ -1,39 +1,41 @@
 //! INSERT, UPDATE and DELETE, in a transaction and outside one.
 ghost use Rattle.std.specs.Prelude.{◌≡◌, ◌<◌, ℕ, List, [], None};
 ghost use Rattle.lv_schema.specs.declared.bound.Bound.TheVariants as bound;
-ghost use Rattle.lv_schema.specs.declared.rec.Rec.{Rec};
 ghost use Rattle.lv_schema.specs.Bound.{IsBoundChange};
-ghost use Rattle.lv_schema.specs.Cases.{Outcome, alone, changed, committed};
+ghost use Rattle.lv_schema.specs.Cases.{alone, changed, committed, rolled_back};
+ghost use Rattle.lv_schema.specs.UpkeepCases.{outcome_of};
+ghost use Rattle.lv_schema.specs.WholeWorld.{world_after};
+ghost use Rattle.lv_schema.specs.World as schema;
 ghost use Rattle.lv_schema.specs.World.{World};
 ghost use Rattle.lv_plain.specs.declared.entry.Reply.TheVariants as reply;
 ghost use Rattle.lv_plain.specs.Turns.{bound_turn, turn_by};
 ghost use Rattle.lv_txn.specs.Kept.{IsLive, transaction_at, transaction_of};
-ghost use Rattle.lv_engine.specs.Answering.{IsWritten};
-ghost use Rattle.lv_engine.specs.Store.{Stands};
-ghost use Rattle.lv_core.specs.Answering.{Answers, CommitsAlone, EndsAlone};
+ghost use Rattle.lv_engine.specs.Kept.{Stands};
+ghost use Rattle.lv_core.specs.Answering.{Answers, CommitsAlone, with_transaction};
 
 use crate::answered::{Answered, fault_of_change, fault_of_commit, refusal, replied};
 use lv_engine::Engine;
+use lv_outside::Disk;
 use lv_plain::Reply;
-use lv_schema::{Change, Fault};
+use lv_schema::Change;
 use lv_values::{NoMemory, Steps};
 use std::alloc::Global;
 use std::sync::ledger::Ledger;
 
 /// A change in a session's transaction.
-pub fn change_inside<L: Ledger>(
-    engine: &mut Engine,
+pub fn change_inside<D: Disk, L: Ledger>(
+    engine: &mut Engine<D>,
     alloc: Global,
     session: u32,
     change: &Change,
     steps: &mut Steps<L>,
 ) -> Result<Answered, NoMemory>
     requires session { session < 17 }
-    requires live { IsLive engine.old.sessions session }
-    requires few { (transaction_of engine.old.sessions session).changes < 4294967295 }
-    requires bound { IsBoundChange engine.old.tables change.now }
-    ensures case { (w : World) → Stands w engine.old → Answers w engine.old engine.new result [] (turn_by reply.Changed (changed session change.now w.visible)) }
-    ensures settings { engine.new.settings ≡ engine.old.settings }
+    requires live { IsLive engine.old.store.sessions session }
+    requires few { (transaction_of engine.old.store.sessions session).changes < 4294967295 }
+    requires bound { IsBoundChange engine.old.store.tables change.now }
+    ensures case { (w : World) → Stands w engine.old → Answers D.seen D.may_leave D.failures w engine.old engine.new result [] (λ _. turn_by reply.Changed (changed session change.now w.visible)) }
+    ensures settings { engine.new.store.settings ≡ engine.old.store.settings }
 {
     match engine.change(alloc, session, change, steps) {
         Ok(count) => Ok(replied(alloc, Reply::Changed { count })),
@@ -41,63 +43,55 @@ pub fn change_inside<L: Ledger>(
     }
 }
 
-/// What a change outside a transaction is answered where its commit is not done: the fault, with which the transaction is
-/// over; or want of memory, where it is given up.
-fn not_committed(
-    engine: &mut Engine,
-    alloc: Global,
-    session: u32,
-    fault: Option<Fault>,
-) -> Result<Answered, NoMemory>
+/// A session has no transaction then: one that is there is rolled back.
+fn give_up<D: Disk>(engine: &mut Engine<D>, session: u32)
     requires session { session < 17 }
-    requires live { fault ≡ None → IsLive engine.old.sessions session }
-    ensures ended { EndsAlone fault session engine.old engine.new result }
-    ensures settings { engine.new.settings ≡ engine.old.settings }
+    ensures case { (w : World) → Stands w engine.old → Stands (world_after (rolled_back session w.visible) w) engine.new }
+    ensures others { engine.new ≡ with_transaction engine.old session None }
 {
-    match fault {
-        Some(fault) => Ok(replied(alloc, Reply::Refused(fault))),
-        None => {
-            engine.rollback(session);
-            Err(NoMemory)
-        }
+    if engine.live(session).is_some() {
+        engine.rollback(session);
     }
 }
 
-/// COMMIT of a change that a transaction was opened for. Want of memory leaves the session without a transaction.
-fn commit_alone(
-    engine: &mut Engine,
+/// COMMIT of a change that a transaction was opened for. The session has none then, whatever is answered.
+fn commit_alone<D: Disk>(
+    engine: &mut Engine<D>,
     alloc: Global,
     session: u32,
     count: u64,
 ) -> Result<Answered, NoMemory>
     requires session { session < 17 }
-    requires live { IsLive engine.old.sessions session }
-    ensures case { (w : World) (outcome : Rec → Outcome) → IsWritten outcome → Stands w engine.old
-        → CommitsAlone count session w engine.old engine.new result (committed outcome session w.visible) }
-    ensures settings { engine.new.settings ≡ engine.old.settings }
+    requires live { IsLive engine.old.store.sessions session }
+    ensures case { (w : World) (settings : schema.Settings) → settings.limit ≡ engine.old.store.settings.log_limit → Stands w engine.old
+        → CommitsAlone D.seen D.may_leave D.failures count session w engine.old engine.new result (λ fails. committed (outcome_of settings fails w.upkeep) session w.visible) }
+    ensures settings { engine.new.store.settings ≡ engine.old.store.settings }
 {
-    engine.known();
     match engine.commit(alloc, session) {
         Ok(number) => Ok(replied(alloc, Reply::Alone { count, number })),
-        Err(fault) => not_committed(engine, alloc, session, fault_of_commit(fault)),
+        Err(fault) => {
+            give_up(engine, session);
+            refusal(alloc, fault_of_commit(fault))
+        }
     }
 }
 
-/// A change outside a transaction: BEGIN, the change and COMMIT, and ROLLBACK where the change is refused. After a
-/// refusal, and where memory is wanting, everything is as it was.
-pub fn change_alone<L: Ledger>(
-    engine: &mut Engine,
+/// A change outside a transaction: BEGIN, the change and COMMIT, and ROLLBACK where one of them is refused. After a refusal
+/// nothing is open, and after want of memory all but the room in the journal is as it was.
+pub fn change_alone<D: Disk, L: Ledger>(
+    engine: &mut Engine<D>,
     alloc: Global,
     session: u32,
     change: &Change,
     steps: &mut Steps<L>,
 ) -> Result<Answered, NoMemory>
     requires session { session < 17 }
-    requires free { transaction_at engine.old.sessions session ≡ None }
-    requires bound { IsBoundChange engine.old.tables change.now }
-    ensures case { (w : World) (outcome : Rec → Outcome) → IsWritten outcome → Stands w engine.old
-        → Answers w engine.old engine.new result [] (turn_by (λ done. reply.Alone done.0 done.1) (alone outcome session change.now w.visible)) }
-    ensures settings { engine.new.settings ≡ engine.old.settings }
+    requires free { transaction_at engine.old.store.sessions session ≡ None }
+    requires bound { IsBoundChange engine.old.store.tables change.now }
+    ensures case { (w : World) (settings : schema.Settings) → settings.limit ≡ engine.old.store.settings.log_limit → Stands w engine.old
+        → Answers D.seen D.may_leave D.failures w engine.old engine.new result []
+        (λ fails. turn_by (λ done. reply.Alone done.0 done.1) (alone (outcome_of settings fails w.upkeep) session change.now w.visible)) }
+    ensures settings { engine.new.store.settings ≡ engine.old.store.settings }
 {
     engine.known();
     engine.begin(session);
@@ -111,19 +105,19 @@ pub fn change_alone<L: Ledger>(
 }
 
 /// INSERT, UPDATE or DELETE, in the session's transaction or outside one.
-pub fn change<L: Ledger>(
-    engine: &mut Engine,
+pub fn change<D: Disk, L: Ledger>(
+    engine: &mut Engine<D>,
     alloc: Global,
     session: u32,
     change: &Change,
     steps: &mut Steps<L>,
 ) -> Result<Answered, NoMemory>
     requires session { session < 17 }
-    requires few { (transaction_of engine.old.sessions session).changes < 4294967295 }
-    requires bound { IsBoundChange engine.old.tables change.now }
-    ensures case { (w : World) (outcome : Rec → Outcome) (tasks : List (ℕ × ℕ)) → IsWritten outcome → Stands w engine.old
-        → Answers w engine.old engine.new result [] (bound_turn outcome tasks session (bound.Change change.now) w.visible) }
-    ensures settings { engine.new.settings ≡ engine.old.settings }
+    requires few { (transaction_of engine.old.store.sessions session).changes < 4294967295 }
+    requires bound { IsBoundChange engine.old.store.tables change.now }
+    ensures case { (w : World) (settings : schema.Settings) (tasks : List (ℕ × ℕ)) → settings.limit ≡ engine.old.store.settings.log_limit → Stands w engine.old
+        → Answers D.seen D.may_leave D.failures w engine.old engine.new result [] (λ fails. bound_turn (outcome_of settings fails w.upkeep) tasks session (bound.Change change.now) w.visible) }
+    ensures settings { engine.new.store.settings ≡ engine.old.store.settings }
 {
     if engine.live(session).is_some() {
         change_inside(engine, alloc, session, change, steps)

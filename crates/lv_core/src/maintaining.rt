@@ -7,15 +7,17 @@ ghost use Rattle.lv_plain.specs.Legal.{IsWorker};
 ghost use Rattle.lv_plain.specs.Machine.{State, give, install_entry};
 ghost use Rattle.lv_plain.specs.Rules.{Rules};
 ghost use Rattle.lv_upkeep.specs.Kept.{claim_kept};
-ghost use Rattle.lv_engine.specs.Maintaining.{given_input, told};
-ghost use Rattle.lv_engine.specs.Store.{Stands};
+ghost use Rattle.lv_store.specs.Maintaining.{given_input, told};
+ghost use Rattle.lv_engine.specs.Kept.{Stands};
 ghost use Rattle.lv_core.specs.Answering.{GivesEntry};
 
-use lv_engine::{Cleaned, Engine, Installed};
+use lv_engine::Engine;
 use lv_maint::{JobInput, JobResult};
+use lv_outside::Disk;
 use lv_picker::Picker;
 use lv_plain::Entry;
 use lv_schema::Forced;
+use lv_store::{Cleaned, Installed};
 use lv_values::{NoMemory, Steps};
 use std::alloc::Global;
 use std::sync::ledger::Ledger;
@@ -41,20 +43,21 @@ fn fetched(worker: u32, step: Forced) -> Entry
 
 /// A worker fetches a step: it is busy where it has a claim, and idle where there is none to fetch. Want of memory leaves
 /// everything as it was.
-pub fn fetch<L: Ledger>(
-    engine: &mut Engine,
+pub fn fetch<D: Disk, L: Ledger>(
+    engine: &mut Engine<D>,
     alloc: Global,
     worker: u32,
     picker: &Picker,
     steps: &mut Steps<L>,
 ) -> Result<Given, NoMemory>
     requires worker { IsWorker worker }
-    ensures entry { (rules : Rules) (s : State) → rules.settings.combine ≡ engine.old.settings.combine → rules.settings.policy ≡ picker.now.kind → Stands s.world engine.old
+    ensures entry { (rules : Rules) (s : State) → rules.settings.combine ≡ engine.old.store.settings.combine → rules.settings.policy ≡ picker.now.kind → Stands s.world engine.old
         → IfOk result (λ given. GivesEntry (give rules false (fetch_of worker) s) engine.new given.entry) }
-    ensures input { (rules : Rules) (s : State) → rules.settings.combine ≡ engine.old.settings.combine → rules.settings.policy ≡ picker.now.kind → Stands s.world engine.old
+    ensures input { (rules : Rules) (s : State) → rules.settings.combine ≡ engine.old.store.settings.combine → rules.settings.policy ≡ picker.now.kind → Stands s.world engine.old
         → IfOk result (λ given. given.input ≡ given_input s.world.visible (fetching rules.settings worker s.world).0) }
     ensures refused { OnErr result (engine.new ≡ engine.old) }
-    ensures settings { engine.new.settings ≡ engine.old.settings }
+    ensures settings { engine.new.store.settings ≡ engine.old.store.settings }
+    ensures journal { engine.new.journal ≡ engine.old.journal }
 {
     engine.known();
     if engine.claim(worker).is_some() {
@@ -106,8 +109,8 @@ fn installed(worker: u32, installed: Installed) -> Entry
 
 /// A worker installs the step that it has claimed, if it has. An offer is used where it is of the step. Want of memory
 /// leaves everything as it was.
-pub fn install<L: Ledger>(
-    engine: &mut Engine,
+pub fn install<D: Disk, L: Ledger>(
+    engine: &mut Engine<D>,
     alloc: Global,
     worker: u32,
     offer: Option<JobResult>,
@@ -116,7 +119,8 @@ pub fn install<L: Ledger>(
     requires worker { IsWorker worker }
     ensures entry { (rules : Rules) (s : State) → Stands s.world engine.old → IfOk result (λ entry. GivesEntry (give rules false (install_of worker) s) engine.new entry) }
     ensures refused { OnErr result (engine.new ≡ engine.old) }
-    ensures settings { engine.new.settings ≡ engine.old.settings }
+    ensures settings { engine.new.store.settings ≡ engine.old.store.settings }
+    ensures journal { engine.new.journal ≡ engine.old.journal }
 {
     if engine.claim(worker).is_none() {
         return Ok(Entry::Empty { worker });
@@ -126,20 +130,22 @@ pub fn install<L: Ledger>(
 }
 
 /// A worker gives its claim up. It takes no memory.
-pub fn release(engine: &mut Engine, worker: u32) -> Entry
+pub fn release<D: Disk>(engine: &mut Engine<D>, worker: u32) -> Entry
     requires worker { IsWorker worker }
-    requires claimed { is_some (claim_kept engine.old.upkeep worker) ≡ true }
+    requires claimed { is_some (claim_kept engine.old.store.upkeep worker) ≡ true }
     ensures entry { (rules : Rules) (s : State) → Stands s.world engine.old → GivesEntry (give rules false (release_of worker) s) engine.new result }
-    ensures settings { engine.new.settings ≡ engine.old.settings }
+    ensures settings { engine.new.store.settings ≡ engine.old.store.settings }
+    ensures journal { engine.new.journal ≡ engine.old.journal }
 {
     engine.release(worker);
     Entry::Released { worker }
 }
 
 /// A clean-up. It takes no memory.
-pub fn clean(engine: &mut Engine, alloc: Global) -> Entry
+pub fn clean<D: Disk>(engine: &mut Engine<D>, alloc: Global) -> Entry
     ensures entry { (rules : Rules) (s : State) → Stands s.world engine.old → GivesEntry (give rules false clean_up s) engine.new result }
-    ensures settings { engine.new.settings ≡ engine.old.settings }
+    ensures settings { engine.new.store.settings ≡ engine.old.store.settings }
+    ensures journal { engine.new.journal ≡ engine.old.journal }
 {
     let Cleaned {
         floor,

@@ -3,17 +3,19 @@ ghost use Rattle.std.specs.Prelude.{◌≡◌, ◌<◌, None, OnErr};
 ghost use Rattle.lv_schema.specs.Bound.{IsBoundQuery};
 ghost use Rattle.lv_schema.specs.Cases.{queried};
 ghost use Rattle.lv_schema.specs.UpkeepCases.{forced_by};
-ghost use Rattle.lv_schema.specs.World.{Settings, World};
+ghost use Rattle.lv_schema.specs.World as schema;
+ghost use Rattle.lv_schema.specs.World.{World};
 ghost use Rattle.lv_plain.specs.declared.entry.Reply.TheVariants as reply;
 ghost use Rattle.lv_plain.specs.Turns.{shown};
 ghost use Rattle.lv_txn.specs.Kept.{IsLive, transaction_at};
-ghost use Rattle.lv_engine.specs.Answering.{ReadsNoTable};
-ghost use Rattle.lv_engine.specs.Store.{Stands};
+ghost use Rattle.lv_store.specs.Answering.{ReadsNoTable};
+ghost use Rattle.lv_engine.specs.Kept.{Stands};
 ghost use Rattle.lv_core.specs.Answering.{Answers};
 
 use crate::answered::Answered;
 use lv_engine::Engine;
 use lv_maint::JobResult;
+use lv_outside::Disk;
 use lv_plain::Reply;
 use lv_schema::Query;
 use lv_values::{Items, NoMemory, Steps};
@@ -21,8 +23,8 @@ use std::alloc::Global;
 use std::sync::ledger::Ledger;
 
 /// A query in a session's transaction.
-fn query_inside<L: Ledger>(
-    engine: &mut Engine,
+fn query_inside<D: Disk, L: Ledger>(
+    engine: &mut Engine<D>,
     alloc: Global,
     session: u32,
     query: &Query,
@@ -30,25 +32,27 @@ fn query_inside<L: Ledger>(
     steps: &mut Steps<L>,
 ) -> Result<Answered, NoMemory>
     requires session { session < 17 }
-    requires live { IsLive engine.old.sessions session }
-    requires bound { IsBoundQuery engine.old.tables engine.old.views query.now }
-    ensures case { (w : World) (settings : Settings) → settings.combine ≡ engine.old.settings.combine → Stands w engine.old
-        → Answers w engine.old engine.new result (forced_by settings session query.now w) (shown (reply.Rows (queried session query.now w.visible)) w.visible) }
-    ensures sessions { engine.new.sessions ≡ engine.old.sessions }
+    requires live { IsLive engine.old.store.sessions session }
+    requires bound { IsBoundQuery engine.old.store.tables engine.old.store.views query.now }
+    ensures case { (w : World) (settings : schema.Settings) → settings.combine ≡ engine.old.store.settings.combine → Stands w engine.old
+        → Answers D.seen D.may_leave D.failures w engine.old engine.new result (forced_by settings session query.now w) (λ _. shown (reply.Rows (queried session query.now w.visible)) w.visible) }
+    ensures sessions { engine.new.store.sessions ≡ engine.old.store.sessions }
     ensures refused { OnErr result (engine.new ≡ engine.old) }
-    ensures settings { engine.new.settings ≡ engine.old.settings }
+    ensures settings { engine.new.store.settings ≡ engine.old.store.settings }
     ensures fresh { (w : World) → Stands w engine.old → ReadsNoTable session query.now w → steps.new ≡ steps.old }
 {
-    let answer = engine.query(alloc, session, query, offers, steps)?;
-    Ok(Answered {
-        forced: answer.forced,
-        reply: Reply::Rows(answer.rows),
-    })
+    match engine.query(alloc, session, query, offers, steps) {
+        Ok(answer) => Ok(Answered {
+            forced: answer.forced,
+            reply: Reply::Rows(answer.rows),
+        }),
+        Err(error) => Err(error),
+    }
 }
 
 /// A query outside a transaction: BEGIN, the query and ROLLBACK.
-fn query_alone<L: Ledger>(
-    engine: &mut Engine,
+fn query_alone<D: Disk, L: Ledger>(
+    engine: &mut Engine<D>,
     alloc: Global,
     session: u32,
     query: &Query,
@@ -56,11 +60,11 @@ fn query_alone<L: Ledger>(
     steps: &mut Steps<L>,
 ) -> Result<Answered, NoMemory>
     requires session { session < 17 }
-    requires free { transaction_at engine.old.sessions session ≡ None }
-    requires bound { IsBoundQuery engine.old.tables engine.old.views query.now }
-    ensures case { (w : World) (settings : Settings) → settings.combine ≡ engine.old.settings.combine → Stands w engine.old
-        → Answers w engine.old engine.new result (forced_by settings session query.now w) (shown (reply.Rows (queried session query.now w.visible)) w.visible) }
-    ensures settings { engine.new.settings ≡ engine.old.settings }
+    requires free { transaction_at engine.old.store.sessions session ≡ None }
+    requires bound { IsBoundQuery engine.old.store.tables engine.old.store.views query.now }
+    ensures case { (w : World) (settings : schema.Settings) → settings.combine ≡ engine.old.store.settings.combine → Stands w engine.old
+        → Answers D.seen D.may_leave D.failures w engine.old engine.new result (forced_by settings session query.now w) (λ _. shown (reply.Rows (queried session query.now w.visible)) w.visible) }
+    ensures settings { engine.new.store.settings ≡ engine.old.store.settings }
     ensures fresh { (w : World) → Stands w engine.old → ReadsNoTable session query.now w → steps.new ≡ steps.old }
 {
     engine.begin(session);
@@ -70,8 +74,8 @@ fn query_alone<L: Ledger>(
 }
 
 /// SELECT, in the session's transaction or outside one.
-pub fn query<L: Ledger>(
-    engine: &mut Engine,
+pub fn query<D: Disk, L: Ledger>(
+    engine: &mut Engine<D>,
     alloc: Global,
     session: u32,
     query: &Query,
@@ -79,10 +83,10 @@ pub fn query<L: Ledger>(
     steps: &mut Steps<L>,
 ) -> Result<Answered, NoMemory>
     requires session { session < 17 }
-    requires bound { IsBoundQuery engine.old.tables engine.old.views query.now }
-    ensures case { (w : World) (settings : Settings) → settings.combine ≡ engine.old.settings.combine → Stands w engine.old
-        → Answers w engine.old engine.new result (forced_by settings session query.now w) (shown (reply.Rows (queried session query.now w.visible)) w.visible) }
-    ensures settings { engine.new.settings ≡ engine.old.settings }
+    requires bound { IsBoundQuery engine.old.store.tables engine.old.store.views query.now }
+    ensures case { (w : World) (settings : schema.Settings) → settings.combine ≡ engine.old.store.settings.combine → Stands w engine.old
+        → Answers D.seen D.may_leave D.failures w engine.old engine.new result (forced_by settings session query.now w) (λ _. shown (reply.Rows (queried session query.now w.visible)) w.visible) }
+    ensures settings { engine.new.store.settings ≡ engine.old.store.settings }
     ensures fresh { (w : World) → Stands w engine.old → ReadsNoTable session query.now w → steps.new ≡ steps.old }
 {
     if engine.live(session).is_some() {

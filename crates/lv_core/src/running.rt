@@ -1,55 +1,59 @@
 //! The run of a program over an engine. Each event adds its entry; once it has come nothing takes memory.
-ghost use Rattle.std.specs.Prelude.{◌≡◌, ◌<◌, ◌≤◌, [], true, is_some, Ok, OnErr, OnOk, IfOk, length, map, slice_index};
+ghost use Rattle.std.specs.Prelude.{◌≡◌, ◌<◌, ◌≤◌, [], true, is_some, Ok, OnErr, OnOk, IfErr, IfOk, length, map, slice_index};
+ghost use Rattle.lv_values.specs.Names.{is_lower_name};
 ghost use Rattle.lv_schema.specs.declared.bound.Bound.TheVariants as bound;
 ghost use Rattle.lv_schema.specs.declared.query.Query.{Query as AQuery};
-ghost use Rattle.lv_schema.specs.World.{empty_world};
-ghost use Rattle.lv_plain.specs.declared.event.Event.TheVariants.{Turn as turn_of, Fetch as fetch_of, Install as install_of, Release as release_of, Clean as clean_up};
+ghost use Rattle.lv_plain.specs.declared.event.Event.TheVariants.{Turn as turn_of, Fetch as fetch_of, Install as install_of, Release as release_of, Mark as mark_of, Clean as clean_up};
 ghost use Rattle.lv_plain.specs.Legal.{IsWorker};
 ghost use Rattle.lv_plain.specs.Limits.{IsWithinLimits};
 ghost use Rattle.lv_plain.specs.Programs.{first_places, has_more, may_turn, setup_answered};
 ghost use Rattle.lv_upkeep.specs.Kept.{claim_kept};
-ghost use Rattle.lv_engine.specs.Answering.{ReadsNoTable, input_between};
-ghost use Rattle.lv_engine.specs.Store.{Stands};
+ghost use Rattle.lv_store.specs.Answering.{ReadsNoTable, input_between};
+ghost use Rattle.lv_engine.specs.Kept.{length_of};
 ghost use Rattle.lv_core.specs.Slots.{next_input};
-ghost use Rattle.lv_core.specs.Run.{Gave, IsRun, next_bound, next_steps, settings_of, state_of, view_of};
+ghost use Rattle.lv_core.specs.Run.{Gave, IsOpening, IsRun, IsSame, next_bound, next_steps, settings_of, state_of, view_of};
 
 use crate::answering::{answer_line, stale_line};
 use crate::lines::{line_count, line_left};
 use crate::maintaining::{clean, fetch, install, release};
+use crate::marking::{mark_view, view_of_name};
+use crate::opening::{Opened, Opening};
 use lv_engine::Engine;
 use lv_maint::{JobInput, JobResult};
+use lv_outside::Disk;
 use lv_picker::Picker;
 use lv_plain::{Entry, Program};
-use lv_values::{Items, NoMemory, Room, Steps};
+use lv_values::{Copying, Items, NoMemory, Room, Steps, Text};
 use std::alloc::Global;
 use std::marker::Model;
 use std::sync::ledger::Ledger;
 
-/// A program, the engine that its statements have come to, the kind of the policy by which workers choose, how many
-/// statements of each session are answered, and what the events were answered. There is spare room for the entries of all
-/// who may give their claims up.
+/// A program, the engine that its statements have come to, what that was when the run began, the kind of the policy by which
+/// workers choose, how many statements of each session are answered, and what the events were answered. There is spare room
+/// for the entries of all who may give their claims up.
 #[derive(Drop)]
-pub struct Run {
-    engine: Engine,
+pub struct Run<D: Disk> {
+    engine: Engine<D>,
+    opening: Opening<D>,
     program: Program,
     policy: u8,
     places: Items<u32>,
     entries: Room<Entry>,
 }
 
-impl Model for Run {
-    ghost use Rattle.lv_core.specs.Run.{CoreView, IsRoomy, view_of};
+impl<D: Disk> Model for Run<D> {
+    ghost use Rattle.lv_core.specs.Run.{CoreView, IsKept, view_of};
 
-    ghost Value = { CoreView };
+    ghost Value = { CoreView D };
 
     ghost use Rattle.lv_schema.specs.contracts.cond.Cond as cond;
     ghost use Rattle.std.specs.Coded.{codes};
 
     ghost coded = { Prim.hlevel (codes, cond.the_row.coded) };
 
-    ghost view = { λ r. view_of r.policy r.program r.engine r.places r.entries.list };
+    ghost view = { λ r. view_of r.policy r.program r.engine r.opening.engine.value r.places r.entries.list };
 
-    ghost invariant = { λ r. IsRoomy (view_of r.policy r.program r.engine r.places r.entries.list) r.entries.spare };
+    ghost invariant = { λ r. IsKept D.seen D.may_leave D.failures (view_of r.policy r.program r.engine r.opening.engine.value r.places r.entries.list) r.entries.spare r.opening.counts.length r.opening.counts.faults };
 }
 
 /// No statement of any session is answered.
@@ -81,19 +85,32 @@ fn make_room(entries: &mut Room<Entry>) -> Result<(), NoMemory>
     entries.reserve(9)
 }
 
-impl Run {
-    /// A program of which no statement is answered, over an engine that stands for the empty world.
-    #[tactic(auto, using(crate::proofs::Begins::run_begins))]
-    pub fn new(alloc: Global, engine: Engine, program: Program, policy: u8) -> Result<Run, NoMemory>
+impl<D: Disk> Run<D> {
+    /// A program of which no statement is answered, over an engine in which nobody is live, nothing is claimed or dropped,
+    /// and each view is where it is marked. Want of memory gives the engine back.
+    pub fn new(
+        alloc: Global,
+        engine: Engine<D>,
+        program: Program,
+        policy: u8,
+    ) -> Result<Run<D>, Engine<D>>
         requires within { IsWithinLimits program }
-        requires opened { Stands empty_world engine }
+        requires opening { IsOpening engine }
         ensures program { IfOk result (λ run. run.program ≡ program) }
-        ensures settings { IfOk result (λ run. run.settings ≡ settings_of engine.settings.combine policy) }
+        ensures settings { IfOk result (λ run. run.settings ≡ settings_of engine.store.settings policy) }
         ensures entries { IfOk result (λ run. run.entries ≡ []) }
+        ensures opened { IfOk result (λ run. run.opened ≡ engine) }
+        ensures engine { IfOk result (λ run. run.engine ≡ engine) }
+        ensures refused { IfErr result (λ back. back ≡ engine) }
     {
-        let places = no_places(alloc, &program)?;
+        engine.known();
+        let Ok(places) = no_places(alloc, &program) else {
+            return Err(engine);
+        };
+        let opening = Opening::of(&engine);
         Ok(Run {
             engine,
+            opening,
             program,
             policy,
             places,
@@ -103,16 +120,39 @@ impl Run {
 
     /// The entries are legal, and the engine stands for the world after them: a law, and the call does nothing.
     pub fn known(&self)
-        ensures { IsRun self.now }
+        ensures { IsRun D.seen D.may_leave D.failures self.now }
     {
         let _ = &self.entries;
     }
 
     /// The engine.
-    pub fn engine(&self) -> &Engine
-        ensures { result.now ≡ self.now.store }
+    pub fn engine(&self) -> &Engine<D>
+        ensures { result.now ≡ self.now.engine }
     {
         &self.engine
+    }
+
+    /// The engine, and the run is over.
+    pub fn into_engine(self) -> Engine<D>
+        ensures { result ≡ self.engine }
+    {
+        let Run { engine, .. } = self;
+        engine
+    }
+
+    /// What was counted when the run began.
+    pub fn opened(&self) -> Opened
+        ensures length { result.length ≡ length_of self.now.opened.journal }
+        ensures faults { result.faults ≡ D.failures self.now.opened.journal.disk }
+    {
+        self.opening.counts
+    }
+
+    /// The kind of the policy.
+    pub fn policy(&self) -> u8
+        ensures { result ≡ self.now.settings.policy }
+    {
+        self.policy
     }
 
     /// The program.
@@ -164,7 +204,7 @@ impl Run {
         stale_line(&self.engine, alloc, session, line, steps)
     }
 
-    /// Answers the next statement of a session, and keeps the entry. Want of memory changes nothing.
+    /// Answers the next statement of a session, and keeps the entry. After want of memory nothing has come.
     pub fn turn<L: Ledger>(
         &mut self,
         alloc: Global,
@@ -173,8 +213,8 @@ impl Run {
         steps: &mut Steps<L>,
     ) -> Result<(), NoMemory>
         requires may { may_turn self.old.program self.old.places session ≡ true }
-        ensures done { OnOk result (Gave (turn_of session) self.old self.new) }
-        ensures kept { OnErr result (self.new ≡ self.old) }
+        ensures done { OnOk result (Gave D.seen D.may_leave D.failures (turn_of session) self.old self.new) }
+        ensures kept { OnErr result (IsSame self.old self.new) }
         ensures fresh { (query : AQuery) → next_bound self.old session ≡ Ok (bound.Query query) → ReadsNoTable session query (state_of self.old).world → steps.new ≡ steps.old }
     {
         make_room(&mut self.entries)?;
@@ -204,7 +244,7 @@ impl Run {
         requires worker { IsWorker worker }
         requires setup { setup_answered self.old.program self.old.places ≡ true }
         requires policy { self.old.settings.policy ≡ picker.now.kind }
-        ensures done { OnOk result (Gave (fetch_of worker) self.old self.new) }
+        ensures done { OnOk result (Gave D.seen D.may_leave D.failures (fetch_of worker) self.old self.new) }
         ensures input { IfOk result (λ input. input ≡ next_input self.old worker) }
         ensures kept { OnErr result (self.new ≡ self.old) }
     {
@@ -224,7 +264,7 @@ impl Run {
     ) -> Result<(), NoMemory>
         requires worker { IsWorker worker }
         requires setup { setup_answered self.old.program self.old.places ≡ true }
-        ensures done { OnOk result (Gave (install_of worker) self.old self.new) }
+        ensures done { OnOk result (Gave D.seen D.may_leave D.failures (install_of worker) self.old self.new) }
         ensures kept { OnErr result (self.new ≡ self.old) }
     {
         make_room(&mut self.entries)?;
@@ -236,17 +276,35 @@ impl Run {
     /// A worker, 1 to 8, gives its claim up. It takes no memory.
     pub fn release(&mut self, worker: u32)
         requires worker { IsWorker worker }
-        requires claim { is_some (claim_kept self.old.store.upkeep worker) ≡ true }
-        ensures { Gave (release_of worker) self.old self.new }
+        requires claim { is_some (claim_kept self.old.engine.store.upkeep worker) ≡ true }
+        ensures { Gave D.seen D.may_leave D.failures (release_of worker) self.old self.new }
     {
         let entry = release(&mut self.engine, worker);
         self.entries.push(entry);
     }
 
+    /// Marks a view as maintained to its point. After want of memory nothing has come.
+    pub fn mark(&mut self, alloc: Global, view: &Text) -> Result<(), NoMemory>
+        requires setup { setup_answered self.old.program self.old.places ≡ true }
+        requires name { is_lower_name view.now ≡ true }
+        ensures done { OnOk result (Gave D.seen D.may_leave D.failures (mark_of view.now) self.old self.new) }
+        ensures kept { OnErr result (IsSame self.old self.new) }
+    {
+        make_room(&mut self.entries)?;
+        let Some(number) = view_of_name(self.engine.schema(), view) else {
+            let name = view.copy(alloc)?;
+            self.entries.push(Entry::MarkUnknown { name });
+            return Ok(());
+        };
+        let entry = mark_view(&mut self.engine, alloc, number)?;
+        self.entries.push(entry);
+        Ok(())
+    }
+
     /// What nobody needs is dropped. Want of memory changes nothing.
     pub fn clean(&mut self, alloc: Global) -> Result<(), NoMemory>
         requires setup { setup_answered self.old.program self.old.places ≡ true }
-        ensures done { OnOk result (Gave clean_up self.old self.new) }
+        ensures done { OnOk result (Gave D.seen D.may_leave D.failures clean_up self.old self.new) }
         ensures kept { OnErr result (self.new ≡ self.old) }
     {
         make_room(&mut self.entries)?;

@@ -1,6 +1,6 @@
 //! Slots: for each worker what the step that it has fetched is computed from.
-ghost use Rattle.std.specs.Prelude.{◌≡◌, ◌<◌, None, replicate, length, IfOk};
-ghost use Rattle.lv_core.specs.Slots.{slots_given};
+ghost use Rattle.std.specs.Prelude.{◌≡◌, ◌<◌, None, Some, replicate, length, slice_set, IfOk};
+ghost use Rattle.lv_core.specs.Slots.{slot_of, slots_given, slots_without};
 
 use lv_maint::JobInput;
 use lv_values::{Items, NoMemory};
@@ -22,12 +22,27 @@ pub fn no_slots(alloc: Global) -> Result<Slots, NoMemory>
 }
 
 /// Puts what a worker is given into its slot; where it is given nothing, every slot stays as it is.
+#[tactic(auto, using(crate::proofs::NoSlot::stays, crate::proofs::NoSlot::empty))]
 pub fn give_slot(slots: &mut Slots, worker: u32, input: Option<JobInput>)
-    requires { worker < length slots.old }
     ensures { slots.new ≡ slots_given worker input slots.old }
 {
+    let at = worker as usize;
     match input {
-        Some(input) => slots.set(worker as usize, Some(input)),
-        None => {}
+        Some(input) if at < slots.len() => slots.set(at, Some(input)),
+        _ => {}
+    }
+}
+
+/// Takes out what lies in a worker's slot.
+#[tactic(auto, using(crate::proofs::NoSlot::stays, crate::proofs::NoSlot::empty))]
+pub fn take_slot(slots: &mut Slots, worker: u32) -> Option<JobInput>
+    ensures taken { result ≡ slot_of slots.old worker }
+    ensures left { slots.new ≡ slots_without worker slots.old }
+{
+    let at = worker as usize;
+    if at < slots.len() {
+        slots.replace(at, None)
+    } else {
+        None
     }
 }

@@ -1,77 +1,95 @@
 -- What a call says of a case of the plain machine, in each world that the engine stood for.
-use Rattle.std.specs.Prelude.{◌≡◌, ℕ, Bool, true, false, Option, Some, None, Result, Ok, Err}
-use Rattle.std.specs.List.{list_all}
-use Rattle.lv_values.specs.declared.memory.NoMemory.{NoMemory}
+use Rattle.std.specs.Prelude.{◌≡◌, ℕ, Bool, true, false, List, Option, Some, None, Result, Ok, Err}
 use Rattle.lv_schema.specs.declared.fault.Fault.{Fault}
-use Rattle.lv_schema.specs.declared.fault.Fault.TheVariants.{MergedFull}
-use Rattle.lv_schema.specs.declared.forced.Forced.{Forced}
-use Rattle.lv_schema.specs.declared.query.Query.{Query}
-use Rattle.lv_schema.specs.declared.query.Rel.{Rel}
-use Rattle.lv_schema.specs.declared.query.Rel.TheVariants as rel
+use Rattle.lv_schema.specs.declared.fault.Fault.TheVariants as fault
 use Rattle.lv_schema.specs.declared.rec.Rec.{Rec}
-use Rattle.lv_schema.specs.Cases.{Outcome, good, Case}
-use Rattle.lv_schema.specs.Jobs.{parts_between}
-use Rattle.lv_schema.specs.Keys.{write_none}
-use Rattle.lv_schema.specs.Tasks.{AreFresh}
-use Rattle.lv_schema.specs.UpkeepCases.{views_of}
-use Rattle.lv_schema.specs.WholeWorld.{Done, Queried, world_after}
-use Rattle.lv_schema.specs.World.{Visible, World, transaction, view_at}
-use Rattle.lv_effect.specs.declared.fault.EffectFault.{EffectFault}
-use Rattle.lv_effect.specs.declared.fault.EffectFault.TheVariants as effect
+use Rattle.lv_schema.specs.Cases.{Case}
+use Rattle.lv_schema.specs.UpkeepCases.{Marking}
+use Rattle.lv_schema.specs.WholeWorld.{Done, Queried, with_upkeep, world_after}
+use Rattle.lv_schema.specs.UpkeepCases.{Fetched, Installed}
+use Rattle.lv_schema.specs.UpkeepCases as schema
+use Rattle.lv_schema.specs.World.{Visible, World}
+use Rattle.lv_journal.specs.declared.writer.Writer.{Writer}
 use Rattle.lv_maint.specs.Inputs.{Input}
+use Rattle.lv_store.specs.declared.answer.Answer.{Answer}
+use Rattle.lv_store.specs.declared.cleaned.Cleaned.{Cleaned}
+use Rattle.lv_store.specs.declared.installed.Installed.{Installed as InstallAnswer}
+use Rattle.lv_store.specs.Maintaining.{given_input, shown_by, told}
 use Rattle.lv_txn.specs.Written.{conflict_fault}
-use Rattle.lv_engine.specs.declared.answer.Answer.{Answer}
 use Rattle.lv_engine.specs.declared.fault.CommitFault.{CommitFault}
 use Rattle.lv_engine.specs.declared.fault.CommitFault.TheVariants as commit
-use Rattle.lv_engine.specs.Store.{Store, Stands}
-
--- there is no disk yet, and no limit of a journal: each record is written
-abbrev pub IsWritten : (Rec → Outcome) → Type 0
-IsWritten outcome = (rec : Rec) → outcome rec ≡ good
+use Rattle.lv_engine.specs.declared.fault.CreateFault.{CreateFault}
+use Rattle.lv_engine.specs.declared.fault.CreateFault.TheVariants as create
+use Rattle.lv_engine.specs.Kept.{EngineView, IsSame, Stands}
+use Rattle.lv_engine.specs.Records.{Logs}
 
 -- the case's answer, or its fault, and the world after it; any other error leaves everything as it was
-abbrev pub Refuses : {A : Type 0} → Option Fault → World → Store → Store → Case A → Type 0
+abbrev pub Refuses : {A D : Type 0} → Option Fault → World → EngineView D → EngineView D → Case A → Type 0
 Refuses (Some fault) w old new c = (c.answer ≡ Err fault) × Stands (world_after c w) new
-Refuses None w old new c = new ≡ old
+Refuses None w old new c = IsSame old new
 
-abbrev pub Meets : {A E : Type 0} → (E → Option Fault) → World → Store → Store → Result A E → Case A → Type 0
+abbrev pub Meets : {A E D : Type 0} → (E → Option Fault) → World → EngineView D → EngineView D → Result A E → Case A → Type 0
 Meets fault w old new (Ok a) c = (c.answer ≡ Ok a) × Stands (world_after c w) new
 Meets fault w old new (Err e) c = Refuses (fault e) w old new c
 
--- why a call is refused; want of memory is no fault
-abbrev pub memory_fault : NoMemory → Option Fault
-memory_fault e = None
-
-abbrev pub effect_fault : EffectFault → Option Fault
-effect_fault (effect.Stmt fault) = Some fault
-effect_fault (effect.NoMemory) = None
+-- why a record is not written, and why a commit is refused; want of memory is no fault
+abbrev pub create_fault : CreateFault → Option Fault
+create_fault (create.Store) = Some fault.Store
+create_fault (create.Full need limit) = Some (fault.JournalFull need limit)
+create_fault (create.NoMemory) = None
 
 abbrev pub commit_fault : CommitFault → Option Fault
 commit_fault (commit.Conflict c) = Some (conflict_fault c)
-commit_fault (commit.TableFull table) = Some (MergedFull table)
+commit_fault (commit.TableFull table) = Some (fault.MergedFull table)
+commit_fault (commit.Full need limit) = Some (fault.JournalFull need limit)
+commit_fault (commit.Store) = Some fault.Store
 commit_fault (commit.NoMemory) = None
 
--- ---- queries
--- what a step is computed from
-abbrev pub input_between : Visible → Forced → Input
-input_between s f = record { def = view_at s.views f.view; lo = f.lo; hi = f.hi; parts = parts_between s (view_at s.views f.view) f.lo f.hi }
+-- the same of a mark
+abbrev pub MarkRefuses : {D : Type 0} → Option Fault → World → EngineView D → EngineView D → Marking → Type 0
+MarkRefuses (Some fault) w old new m = (m.answer ≡ Err fault) × Stands (with_upkeep m.next w) new
+MarkRefuses None w old new m = IsSame old new
 
--- the steps and the rows, and the world with the steps
-pub record GivesQuery (done : Done Queried) (a : Answer) (new : Store) : Type 0 where
+abbrev pub MeetsMark : {D : Type 0} → World → EngineView D → EngineView D → Result (Option ℕ) CreateFault → Marking → Type 0
+MeetsMark w old new (Ok a) m = (m.answer ≡ Ok a) × Stands (with_upkeep m.next w) new
+MeetsMark w old new (Err e) m = MarkRefuses (create_fault e) w old new m
+
+-- whether the disk failed
+abbrev pub is_store : Fault → Bool
+is_store fault.Store = true
+is_store other = false
+
+abbrev pub shows_store : Option Fault → Bool
+shows_store (Some f) = is_store f
+shows_store None = false
+
+abbrev pub fails : {A E : Type 0} → (E → Option Fault) → Result A E → Bool
+fails fault (Ok a) = false
+fails fault (Err e) = shows_store (fault e)
+
+-- what becomes of the journal, by the records of the case; after want of memory it has the records that it had
+abbrev pub LogsUnless : {D : Type 0} → (D → Option (List ℕ)) → (D → List ℕ → Type 0) → Option Fault → Option Rec → Option Rec → Writer D → Writer D → Type 0
+LogsUnless seen may_leave None attempted written old new = Logs seen may_leave None None old new
+LogsUnless seen may_leave (Some f) attempted written old new = Logs seen may_leave attempted written old new
+
+abbrev pub LogsCase : {A E D : Type 0} → (D → Option (List ℕ)) → (D → List ℕ → Type 0) → (E → Option Fault) → Result A E → Option Rec → Option Rec → Writer D → Writer D → Type 0
+LogsCase seen may_leave fault (Ok a) attempted written old new = Logs seen may_leave attempted written old new
+LogsCase seen may_leave fault (Err e) attempted written old new = LogsUnless seen may_leave (fault e) attempted written old new
+
+-- ---- queries, workers and clean-ups
+pub record GivesQuery {D : Type 0} (done : Done Queried) (a : Answer) (new : EngineView D) : Type 0 where
   pub forced : a.forced ≡ done.answer.forced
   pub rows : a.rows ≡ done.answer.rows
   pub stands : Stands done.next new
 
--- a query that names no table, whose views are up to date, and on whose views' tables the transaction wrote nothing
-abbrev pub is_view : Rel → Bool
-is_view (rel.Table t) = false
-is_view (rel.View v) = true
+pub record GivesFetch {D : Type 0} (s : Visible) (done : Done Fetched) (input : Option Input) (new : EngineView D) : Type 0 where
+  pub input_is : input ≡ given_input s done.answer
+  pub stands : Stands done.next new
 
-pub record ReadsNoTable (session : ℕ) (query : Query) (w : World) : Type 0 where
-  pub views : list_all is_view query.rels ≡ true
-  pub fresh : AreFresh w (views_of query) (transaction session w.visible).snapshot
-  pub unwritten : list_all (λ v. write_none (transaction session w.visible).actions (view_at w.visible.views v).tables) (views_of query) ≡ true
+pub record GivesInstall {D : Type 0} (done : Done Installed) (a : InstallAnswer) (new : EngineView D) : Type 0 where
+  pub answer_is : told a ≡ done.answer
+  pub stands : Stands done.next new
 
--- a world that an engine stands for
-abbrev pub StandsForSome : Store → Type 0
-StandsForSome e = (w : World) × Stands w e
+pub record GivesCleaned {D : Type 0} (done : Done schema.Cleaned) (a : Cleaned) (new : EngineView D) : Type 0 where
+  pub answer_is : shown_by a ≡ done.answer
+  pub stands : Stands done.next new

@@ -1,6 +1,6 @@
 pub mod Answering
 pub mod Committing
-pub mod MadeViews
-pub mod Maintaining
-pub mod Querying
-pub mod Store
+pub mod Fresh
+pub mod Kept
+pub mod Records
+pub mod Writing

@@ -1,214 +1,96 @@
-//! COMMIT.
-ghost use Rattle.std.specs.Prelude.{◌≡◌, ℕ, ◌+◌, ◌^◌, ◌<◌, ◌≤◌, None, length, slice_get, slice_set, filter, nat_lt, IfOk, OnOk};
-ghost use Rattle.std.specs.List.{range_with_len};
-ghost use Rattle.lv_schema.specs.declared.rec.Rec.{Rec};
-ghost use Rattle.lv_schema.specs.Cases.{Outcome, committed};
-ghost use Rattle.lv_schema.specs.Commits.{conflict_in};
-ghost use Rattle.lv_schema.specs.Tasks.{is_on, actions_on};
+//! COMMIT: the store takes all memory, the record is written, and the store takes the commit.
+ghost use Rattle.std.specs.Prelude.{◌≡◌, ◌≤◌, ◌<◌, ℕ, List, Err, length};
+ghost use Rattle.lv_outside.specs.Causes.{Rose};
+ghost use Rattle.lv_schema.specs.declared.action.Action.{Action};
+ghost use Rattle.lv_schema.specs.declared.rec.Rec.TheVariants as variant;
+ghost use Rattle.lv_schema.specs.Cases.{committed};
+ghost use Rattle.lv_schema.specs.UpkeepCases.{outcome_of};
 ghost use Rattle.lv_schema.specs.World.{World};
-ghost use Rattle.lv_base.specs.Bases.{table_in};
-ghost use Rattle.lv_stands.specs.Kept.{shown};
-ghost use Rattle.lv_stands.specs.Moves.{BaseCommits, rows_after, with_task, with_tasks};
-ghost use Rattle.lv_tasks.specs.Kept.{IsLater, actions_in, tasks_kept};
+ghost use Rattle.lv_schema.specs.World as schema;
 ghost use Rattle.lv_txn.specs.Kept.{IsLive, transaction_of};
-ghost use Rattle.lv_engine.specs.Answering.{IsWritten, Meets, commit_fault};
-ghost use Rattle.lv_engine.specs.Committing.{IsNext, MayCommit, is_full, with_commit};
-ghost use Rattle.lv_engine.specs.Store.{IsEngine, Stands, store_of};
+ghost use Rattle.lv_store.specs.Committing.{MayCommit};
+ghost use Rattle.lv_store.specs.Kept.{IsStore, store_of};
+ghost use Rattle.lv_engine.specs.Answering.{LogsCase, Meets, commit_fault, create_fault, fails};
+ghost use Rattle.lv_engine.specs.Committing.{WritesCommit};
+ghost use Rattle.lv_engine.specs.Kept.{Stands, engine_of};
 
-use crate::fault::CommitFault;
-use crate::parts::Parts;
-use lv_base::{Base, Ready, bases_that_stand_can_commit};
-use lv_schema::{Action, Conflict, Net, Schema, ViewDef, commit_takes_its_actions};
-use lv_stands::{commits_keep_what_stands, refusals_are_told, what_stands_is_whole};
-use lv_upkeep::Upkeep;
-use lv_values::NoMemory;
+use crate::fault::{CommitFault, CreateFault};
+use crate::writing::write;
+use lv_base::Ready;
+use lv_journal::Journal;
+use lv_outside::Disk;
+use lv_replay::written_records_can_be_kept;
+use lv_schema::{Actions, Rec};
+use lv_store::{Prepared, Store};
 use std::alloc::Global;
 
-/// How many rows a table may have.
-const MOST_ROWS: u128 = 65535;
-
-/// What becomes of a transaction that commits: a conflict or a full table rolls it back, or it is ready.
-#[derive(Drop)]
-enum Next {
-    Conflict(Conflict),
-    TableFull(u32),
-    Ready(Ready),
-}
-
-/// Whether a table would have more rows than a table may have.
-fn would_be_full(base: &Base, table: u32, net: &Net) -> bool
-    requires { table < length base.now.tables }
-    ensures { result ≡ nat_lt 65535 (rows_after (length (shown base.now.number (table_in base.now.tables table).versions)) net.now) }
+/// The actions of a commit's record.
+fn actions_of(rec: Rec) -> Actions
+    requires { (number : ℕ) × (actions : List Action) × (rec ≡ variant.Commit number actions) }
+    ensures { (number : ℕ) (actions : List Action) → rec ≡ variant.Commit number actions → result ≡ actions }
 {
-    let rows = u128::from(base.rows(table)) + net.plus.len() as u128;
-    rows.saturating_sub(net.minus.len() as u128) > MOST_ROWS
-}
-
-/// The first table that would have more rows than a table may have. Cost: a look at each table.
-fn first_full(base: &Base, tables: u32, nets: &[Net]) -> Option<u32>
-    requires tables { tables ≡ length base.now.tables }
-    requires nets { length nets.now ≡ length base.now.tables }
-    ensures { result ≡ slice_get (filter (is_full base.now nets.now) (range_with_len 0 (length nets.now))) 0 }
-{
-    for table in 0..tables {
-        if would_be_full(base, table, &nets[table as usize]) {
-            return Some(table);
-        }
-    }
-    None
-}
-
-/// Refuses a commit that 64 bits could not count, or whose entries they could not, for which there is no memory.
-fn check_numbers(base: &Base, ready: &Ready) -> Result<(), NoMemory>
-    ensures number { OnOk result (base.now.number + 1 < 2 ^ 64) }
-    ensures entries { OnOk result (length base.now.deltas.entries + length ready.now.actions < 2 ^ 64) }
-{
-    let entries = base.deltas().count();
-    let actions = ready.actions.len() as u64;
-    if base.last() < u64::MAX && entries.checked_add(actions).is_some() {
-        Ok(())
-    } else {
-        Err(NoMemory)
+    match rec {
+        Rec::Commit { actions, .. } => actions,
+        Rec::Table(_) | Rec::View(_) | Rec::Mark { .. } => unreachable!(),
     }
 }
 
-/// Whether an action is on one of a view's tables.
-fn is_on(view: &ViewDef, action: &Action) -> bool
-    ensures { result ≡ is_on view.now action.now }
+/// The record of a commit for which all is ready, and then the commit itself. It answers the commit's number.
+fn write_commit<D: Disk>(
+    alloc: Global,
+    store: &mut Store,
+    journal: &mut Journal<D>,
+    session: u32,
+    ready: Ready,
+) -> Result<u64, CreateFault>
+    requires whole { IsStore store.old }
+    requires session { session < 17 }
+    requires live { IsLive (store_of store.old).sessions session }
+    requires some { 0 < length ready.actions }
+    requires may { MayCommit (store_of store.old) (transaction_of (store_of store.old).sessions session) store.old ready }
+    ensures case { (w : World) (settings : schema.Settings) → settings.limit ≡ (store_of store.old).settings.log_limit → Stands w (engine_of store.old journal.old)
+        → WritesCommit D.seen D.may_leave session ready.actions w (engine_of store.old journal.old) (engine_of store.new journal.new) result (outcome_of settings (fails create_fault result) w.upkeep) }
+    ensures rows { (store_of store.new).rows ≡ (store_of store.old).rows }
+    ensures points { (store_of store.new).upkeep.points ≡ (store_of store.old).upkeep.points }
+    ensures settings { (store_of store.new).settings ≡ (store_of store.old).settings }
+    ensures later { D.failures journal.old.disk ≤ D.failures journal.new.disk }
+    ensures cause { result ≡ Err CreateFault.Store → Rose (D.failures journal.old.disk) (D.failures journal.new.disk) }
+    ensures whole { IsStore store.new }
 {
-    view.tables
-        .as_slice()
-        .iter()
-        .any(|table| *table == action.table)
+    written_records_can_be_kept();
+    let Ready { actions, nets } = ready;
+    let rec = Rec::Commit {
+        number: store.base.last() + 1,
+        actions,
+    };
+    write(alloc, journal, store.settings.log_limit, &rec)?;
+    let actions = actions_of(rec);
+    Ok(store.add_commit(session, Ready { actions, nets }))
 }
 
-/// How many of the actions are on a view's tables.
-fn actions_on(view: &ViewDef, actions: &[Action]) -> u64
-    ensures { result ≡ actions_on view.now actions.now }
+/// COMMIT of a session's transaction.
+pub(crate) fn commit<D: Disk>(
+    alloc: Global,
+    store: &mut Store,
+    journal: &mut Journal<D>,
+    session: u32,
+) -> Result<Option<u64>, CommitFault>
+    requires whole { IsStore store.old }
+    requires session { session < 17 }
+    requires live { IsLive (store_of store.old).sessions session }
+    ensures case { (w : World) (settings : schema.Settings) → settings.limit ≡ (store_of store.old).settings.log_limit → Stands w (engine_of store.old journal.old)
+        → Meets commit_fault w (engine_of store.old journal.old) (engine_of store.new journal.new) result (committed (outcome_of settings (fails commit_fault result) w.upkeep) session w.visible) }
+    ensures log { (w : World) (settings : schema.Settings) → settings.limit ≡ (store_of store.old).settings.log_limit → Stands w (engine_of store.old journal.old)
+        → let done = committed (outcome_of settings (fails commit_fault result) w.upkeep) session w.visible in LogsCase D.seen D.may_leave commit_fault result done.attempted done.written journal.old journal.new }
+    ensures rows { (store_of store.new).rows ≡ (store_of store.old).rows }
+    ensures points { (store_of store.new).upkeep.points ≡ (store_of store.old).upkeep.points }
+    ensures settings { (store_of store.new).settings ≡ (store_of store.old).settings }
+    ensures later { D.failures journal.old.disk ≤ D.failures journal.new.disk }
+    ensures cause { result ≡ Err CommitFault.Store → Rose (D.failures journal.old.disk) (D.failures journal.new.disk) }
+    ensures whole { IsStore store.new }
 {
-    actions.iter().filter(|action| is_on(view, action)).count() as u64
-}
-
-/// Adds a view's task of a commit, if one of the commit's actions is on the view's tables. It takes no memory.
-fn add_task(upkeep: &mut Upkeep, view: u32, number: u64, count: u64)
-    requires view { view < length upkeep.old.kept.points }
-    requires later { IsLater number (tasks_kept upkeep.old.kept.tasks view) }
-    requires fits { actions_in (tasks_kept upkeep.old.kept.tasks view) + count < 2 ^ 64 }
-    requires room { 0 < upkeep.old.task_spare }
-    ensures added { upkeep.new.kept ≡ record upkeep.old.kept { tasks = slice_set upkeep.old.kept.tasks view (with_task number count (tasks_kept upkeep.old.kept.tasks view)) } }
-    ensures room { upkeep.old.task_spare ≤ upkeep.new.task_spare + 1 }
-{
-    if count > 0 {
-        upkeep.task(view, number, count);
-    }
-}
-
-/// Adds the task of a commit to the tasks of each view on whose tables one of its actions is. It takes no memory.
-/// Cost: for each view a look at each action.
-fn add_tasks(schema: &Schema, upkeep: &mut Upkeep, number: u64, actions: &[Action])
-    requires all { length schema.now.views ≡ length upkeep.old.kept.points }
-    requires tasks { length upkeep.old.kept.tasks ≡ length upkeep.old.kept.points }
-    requires later { (v : ℕ) → IsLater number (tasks_kept upkeep.old.kept.tasks v) }
-    requires fits { (v : ℕ) → actions_in (tasks_kept upkeep.old.kept.tasks v) + length actions.now < 2 ^ 64 }
-    requires room { length schema.now.views ≤ upkeep.old.task_spare }
-    ensures { upkeep.new.kept ≡ record upkeep.old.kept { tasks = with_tasks number actions.now schema.now.views upkeep.old.kept.tasks } }
-{
-    for view in 0..schema.views() {
-        let count = actions_on(schema.view(view), actions);
-        add_task(upkeep, view, number, count);
-    }
-}
-
-impl Parts {
-    /// Looks why a session cannot commit, and takes all memory that its commit needs. What is kept stays as it was.
-    fn prepare(&mut self, alloc: Global, session: u32) -> Result<Next, NoMemory>
-        requires whole { IsEngine self.old }
-        requires live { IsLive self.old.txns session }
-        ensures kept { store_of self.new ≡ store_of self.old }
-        ensures next { IfOk result (IsNext (store_of self.old) (transaction_of self.old.txns session) self.new) }
-        ensures whole { IsEngine self.new }
-    {
-        let deltas = self.base.deltas();
-        if let Some(conflict) = self.txns.conflict(alloc, session, &self.schema, deltas)? {
-            return Ok(Next::Conflict(conflict));
-        }
-        self.prepare_commit(alloc, session)
-    }
-
-    /// The same for a session without a conflict.
-    fn prepare_commit(&mut self, alloc: Global, session: u32) -> Result<Next, NoMemory>
-        requires whole { IsEngine self.old }
-        requires live { IsLive self.old.txns session }
-        requires free { conflict_in self.old.schema.tables self.old.base.deltas.entries (transaction_of self.old.txns session).snapshot (transaction_of self.old.txns session).actions ≡ None }
-        ensures kept { store_of self.new ≡ store_of self.old }
-        ensures next { IfOk result (IsNext (store_of self.old) (transaction_of self.old.txns session) self.new) }
-        ensures whole { IsEngine self.new }
-    {
-        refusals_are_told();
-        commit_takes_its_actions();
-        bases_that_stand_can_commit();
-        let ready = self.base.prepare(alloc, self.txns.actions(session))?;
-        if let Some(table) = first_full(&self.base, self.schema.tables(), ready.nets.as_slice()) {
-            return Ok(Next::TableFull(table));
-        }
-        check_numbers(&self.base, &ready)?;
-        self.upkeep.reserve(self.schema.views() as u64)?;
-        Ok(Next::Ready(ready))
-    }
-
-    /// Commits what was prepared for a session, and answers the number of the commit. It takes no memory.
-    fn add_commit(&mut self, session: u32, ready: Ready) -> u64
-        requires whole { IsEngine self.old }
-        requires session { session < 17 }
-        requires live { IsLive self.old.txns session }
-        requires some { 0 < length ready.actions }
-        requires may { MayCommit (store_of self.old) (transaction_of self.old.txns session) self.old ready }
-        ensures number { result ≡ self.old.base.number + 1 }
-        ensures commits { BaseCommits (store_of self.old).tables ready.actions (store_of self.old).base (store_of self.new).base }
-        ensures store { store_of self.new ≡ with_commit session ready.actions (store_of self.new).base (store_of self.old) }
-        ensures defs { self.new.rows ≡ self.old.rows }
-        ensures schema { self.new.schema ≡ self.old.schema }
-    {
-        what_stands_is_whole();
-        let number = self.base.last() + 1;
-        add_tasks(
-            &self.schema,
-            &mut self.upkeep,
-            number,
-            ready.actions.as_slice(),
-        );
-        self.base.commit(ready);
-        self.txns.end(session);
-        number
-    }
-
-    /// COMMIT of a session's transaction.
-    pub fn commit(&mut self, alloc: Global, session: u32) -> Result<Option<u64>, CommitFault>
-        requires whole { IsEngine self.old }
-        requires session { session < 17 }
-        requires live { IsLive (store_of self.old).sessions session }
-        ensures case { (w : World) (outcome : Rec → Outcome) → IsWritten outcome → Stands w (store_of self.old)
-            → Meets commit_fault w (store_of self.old) (store_of self.new) result (committed outcome session w.visible) }
-        ensures rows { (store_of self.new).rows ≡ (store_of self.old).rows }
-        ensures points { (store_of self.new).upkeep.points ≡ (store_of self.old).upkeep.points }
-        ensures settings { (store_of self.new).settings ≡ (store_of self.old).settings }
-        ensures whole { IsEngine self.new }
-    {
-        commits_keep_what_stands();
-        if self.txns.actions(session).is_empty() {
-            self.txns.end(session);
-            return Ok(None);
-        }
-        match self.prepare(alloc, session)? {
-            Next::Conflict(conflict) => {
-                self.txns.end(session);
-                Err(CommitFault::Conflict(conflict))
-            }
-            Next::TableFull(table) => {
-                self.txns.end(session);
-                Err(CommitFault::TableFull { table })
-            }
-            Next::Ready(ready) => Ok(Some(self.add_commit(session, ready))),
-        }
+    match store.prepare_commit(alloc, session)? {
+        Prepared::Nothing => Ok(None),
+        Prepared::Ready(ready) => Ok(Some(write_commit(alloc, store, journal, session, ready)?)),
     }
 }

@@ -1,105 +1,107 @@
-//! CREATE TABLE and CREATE VIEW.
-ghost use Rattle.std.specs.Prelude.{◌≡◌, ◌<◌, [], ◌∷◌, ◌++◌, length, IfOk, OnOk};
-ghost use Rattle.lv_schema.specs.declared.rec.Rec.{Rec};
+//! CREATE TABLE and CREATE VIEW: the store takes all memory, the record is written, and the store takes what is made.
+ghost use Rattle.std.specs.Prelude.{◌≡◌, ◌≤◌, [], Err, IfOk};
+ghost use Rattle.lv_outside.specs.Causes.{Rose};
+ghost use Rattle.lv_schema.specs.declared.rec.Rec.TheVariants as variant;
+ghost use Rattle.lv_schema.specs.declared.table.TableDef.{TableDef};
 ghost use Rattle.lv_schema.specs.Bound.{IsBoundTable, IsBoundView};
-ghost use Rattle.lv_schema.specs.Cases.{Outcome, table_made, view_made};
+ghost use Rattle.lv_schema.specs.Cases.{table_made, view_made};
+ghost use Rattle.lv_schema.specs.Records.{table_record};
+ghost use Rattle.lv_schema.specs.UpkeepCases.{outcome_of};
 ghost use Rattle.lv_schema.specs.World.{World};
+ghost use Rattle.lv_schema.specs.World as schema;
 ghost use Rattle.lv_txn.specs.Kept.{live_kept};
-ghost use Rattle.lv_engine.specs.Answering.{IsWritten, Meets, memory_fault};
-ghost use Rattle.lv_engine.specs.MadeViews.{HasRoom, IsMadeView, last_parts, with_view};
-ghost use Rattle.lv_engine.specs.Store.{IsEngine, Stands, store_of};
+ghost use Rattle.lv_store.specs.Kept.{IsStore, store_of};
+ghost use Rattle.lv_engine.specs.Answering.{LogsCase, Meets, create_fault, fails};
+ghost use Rattle.lv_engine.specs.Kept.{Stands, engine_of};
 
-use crate::making::{created_at, last_parts, made_view};
-use crate::parts::Parts;
-use lv_schema::{TableDef, ViewDef, view_rows_are_distinct};
-use lv_stands::{groups_can_be_kept, what_is_made_stands};
-use lv_values::{Copying, NoMemory, Steps, Text};
-use lv_viewrows::ViewRows;
+use crate::fault::CreateFault;
+use crate::writing::write;
+use lv_journal::Journal;
+use lv_outside::Disk;
+use lv_replay::written_records_can_be_kept;
+use lv_schema::{Rec, TableDef, ViewDef};
+use lv_store::{ReadyTable, Store};
+use lv_values::{Copying, NoMemory, Steps};
 use std::alloc::Global;
 use std::sync::ledger::Ledger;
 
-impl Parts {
-    /// CREATE TABLE.
-    pub fn create_table(&mut self, alloc: Global, def: TableDef) -> Result<(), NoMemory>
-        requires whole { IsEngine self.old }
-        requires bound { IsBoundTable (store_of self.old).tables (store_of self.old).views def }
-        ensures case { (w : World) (outcome : Rec → Outcome) → IsWritten outcome → Stands w (store_of self.old)
-            → Meets memory_fault w (store_of self.old) (store_of self.new) result (table_made outcome def w.visible) }
-        ensures settings { (store_of self.new).settings ≡ (store_of self.old).settings }
-        ensures whole { IsEngine self.new }
-    {
-        what_is_made_stands();
-        let copied = def.copy(alloc)?;
-        self.base.reserve_table()?;
-        self.schema.reserve(alloc, &def.name)?;
-        self.base.add_table(alloc, copied);
-        self.schema.add_table(def);
-        Ok(())
-    }
+/// The record of a table, in which it has no number.
+fn table_record(def: TableDef) -> Rec
+    ensures { result ≡ table_record def }
+{
+    Rec::Table(TableDef { no: 0, ..def })
+}
 
-    /// A view that is bound, over the last state. Cost: that of the join, and of a scan of its tables.
-    fn evaluated<L: Ledger>(
-        &self,
-        alloc: Global,
-        def: &ViewDef,
-        steps: &mut Steps<L>,
-    ) -> Result<ViewRows, NoMemory>
-        requires whole { IsEngine self.now }
-        requires bound { IsBoundView self.now.schema.tables self.now.schema.views def.now }
-        ensures { IfOk result (IsMadeView def.now self.now.base.number (last_parts self.now.base def.now.tables)) }
-    {
-        groups_can_be_kept();
-        view_rows_are_distinct();
-        let parts = last_parts(alloc, &self.base, def.tables.as_slice(), steps)?;
-        let def = def.copy(alloc)?;
-        made_view(alloc, def, self.base.last(), parts.as_slice())
+/// The table of a record, with its number.
+fn table_of(rec: Rec, no: u32) -> TableDef
+    requires { (def : TableDef) × (rec ≡ table_record def) }
+    ensures { (def : TableDef) → rec ≡ table_record def → result ≡ record def { no = no } }
+{
+    match rec {
+        Rec::Table(def) => TableDef { no, ..def },
+        Rec::View(_) | Rec::Commit { .. } | Rec::Mark { .. } => unreachable!(),
     }
+}
 
-    /// Makes room for one more view of this name. Want of memory changes nothing that is kept.
-    fn reserve_view(&mut self, alloc: Global, name: &Text) -> Result<(), NoMemory>
-        ensures store { store_of self.new ≡ store_of self.old }
-        ensures rows { self.new.rows.list ≡ self.old.rows.list }
-        ensures room { OnOk result (HasRoom name.now self.new) }
-    {
-        self.upkeep.reserve_view()?;
-        self.rows.reserve(1)?;
-        self.schema.reserve(alloc, name)
-    }
+/// The record of a view that is made, in which it has no number.
+fn view_record(alloc: Global, def: &ViewDef) -> Result<Rec, NoMemory>
+    ensures { IfOk result (λ r. r ≡ variant.View (record def.now { no = 0 })) }
+{
+    let def = def.copy(alloc)?;
+    Ok(Rec::View(ViewDef { no: 0, ..def }))
+}
 
-    /// Adds a view with its rows, for which room is kept. It takes no memory.
-    fn add_view(&mut self, def: ViewDef, rows: ViewRows)
-        requires room { HasRoom def.name self.old }
-        requires bound { IsBoundView self.old.schema.tables self.old.schema.views def }
-        requires few { length self.old.upkeep.kept.points < 32 }
-        ensures store { store_of self.new ≡ with_view def rows (store_of self.old) }
-        ensures rows { self.new.rows.list ≡ self.old.rows.list ++ rows ∷ [] }
-    {
-        let created = def.created;
-        self.schema.add_view(def);
-        self.upkeep.add_view(created);
-        self.rows.push(rows);
-    }
+/// CREATE TABLE.
+pub(crate) fn create_table<D: Disk>(
+    alloc: Global,
+    store: &mut Store,
+    journal: &mut Journal<D>,
+    def: TableDef,
+) -> Result<(), CreateFault>
+    requires whole { IsStore store.old }
+    requires bound { IsBoundTable (store_of store.old).tables (store_of store.old).views def }
+    ensures case { (w : World) (settings : schema.Settings) → settings.limit ≡ (store_of store.old).settings.log_limit → Stands w (engine_of store.old journal.old)
+        → Meets create_fault w (engine_of store.old journal.old) (engine_of store.new journal.new) result (table_made (outcome_of settings (fails create_fault result) w.upkeep) def w.visible) }
+    ensures log { (w : World) (settings : schema.Settings) → settings.limit ≡ (store_of store.old).settings.log_limit → Stands w (engine_of store.old journal.old)
+        → let made = table_made (outcome_of settings (fails create_fault result) w.upkeep) def w.visible in LogsCase D.seen D.may_leave create_fault result made.attempted made.written journal.old journal.new }
+    ensures settings { (store_of store.new).settings ≡ (store_of store.old).settings }
+    ensures later { D.failures journal.old.disk ≤ D.failures journal.new.disk }
+    ensures cause { result ≡ Err CreateFault.Store → Rose (D.failures journal.old.disk) (D.failures journal.new.disk) }
+    ensures whole { IsStore store.new }
+{
+    written_records_can_be_kept();
+    let ReadyTable { def, copied } = store.prepare_table(alloc, def)?;
+    let rec = table_record(copied);
+    write(alloc, journal, store.settings.log_limit, &rec)?;
+    let copied = table_of(rec, def.no);
+    store.add_table(alloc, ReadyTable { def, copied });
+    Ok(())
+}
 
-    /// CREATE VIEW.
-    pub fn create_view<L: Ledger>(
-        &mut self,
-        alloc: Global,
-        def: ViewDef,
-        steps: &mut Steps<L>,
-    ) -> Result<(), NoMemory>
-        requires whole { IsEngine self.old }
-        requires bound { IsBoundView (store_of self.old).tables (store_of self.old).views def }
-        requires nobody { live_kept (store_of self.old).sessions ≡ [] }
-        ensures case { (w : World) (outcome : Rec → Outcome) → IsWritten outcome → Stands w (store_of self.old)
-            → Meets memory_fault w (store_of self.old) (store_of self.new) result (view_made outcome def w.visible) }
-        ensures settings { (store_of self.new).settings ≡ (store_of self.old).settings }
-        ensures whole { IsEngine self.new }
-    {
-        what_is_made_stands();
-        let def = created_at(def, self.base.last());
-        self.reserve_view(alloc, &def.name)?;
-        let rows = self.evaluated(alloc, &def, steps)?;
-        self.add_view(def, rows);
-        Ok(())
-    }
+/// CREATE VIEW.
+pub(crate) fn create_view<D: Disk, L: Ledger>(
+    alloc: Global,
+    store: &mut Store,
+    journal: &mut Journal<D>,
+    def: ViewDef,
+    steps: &mut Steps<L>,
+) -> Result<(), CreateFault>
+    requires whole { IsStore store.old }
+    requires bound { IsBoundView (store_of store.old).tables (store_of store.old).views def }
+    requires nobody { live_kept (store_of store.old).sessions ≡ [] }
+    ensures case { (w : World) (settings : schema.Settings) → settings.limit ≡ (store_of store.old).settings.log_limit → Stands w (engine_of store.old journal.old)
+        → Meets create_fault w (engine_of store.old journal.old) (engine_of store.new journal.new) result (view_made (outcome_of settings (fails create_fault result) w.upkeep) def w.visible) }
+    ensures log { (w : World) (settings : schema.Settings) → settings.limit ≡ (store_of store.old).settings.log_limit → Stands w (engine_of store.old journal.old)
+        → let made = view_made (outcome_of settings (fails create_fault result) w.upkeep) def w.visible in LogsCase D.seen D.may_leave create_fault result made.attempted made.written journal.old journal.new }
+    ensures settings { (store_of store.new).settings ≡ (store_of store.old).settings }
+    ensures later { D.failures journal.old.disk ≤ D.failures journal.new.disk }
+    ensures cause { result ≡ Err CreateFault.Store → Rose (D.failures journal.old.disk) (D.failures journal.new.disk) }
+    ensures whole { IsStore store.new }
+{
+    written_records_can_be_kept();
+    let ready = store.prepare_view(alloc, def, steps)?;
+    let rec = view_record(alloc, &ready.def)?;
+    write(alloc, journal, store.settings.log_limit, &rec)?;
+    store.add_view(ready);
+    Ok(())
 }

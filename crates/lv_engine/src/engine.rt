@@ -1,167 +1,213 @@
 //! The engine.
-ghost use Rattle.std.specs.Prelude.{◌≡◌, ℕ, ◌<◌, Ok, Some, None, true, is_some, map, length, slice_index, slice_set, option_map, [], IfOk, OnErr};
+ghost use Rattle.std.specs.Prelude.{◌≡◌, ◌≤◌, ◌≢◌, ℕ, ◌<◌, Ok, Some, None, Err, true, is_some, map, length, slice_index, slice_set, option_map, [], IfOk, OnErr};
+ghost use Rattle.lv_journal.specs.declared.writer.Writer.{Writer};
+ghost use Rattle.lv_outside.specs.Causes.{Rose};
 ghost use Rattle.lv_schema.specs.declared.rec.Rec.{Rec};
 ghost use Rattle.lv_schema.specs.Bound.{IsBoundTable, IsBoundView, IsBoundChange, IsBoundQuery};
-ghost use Rattle.lv_schema.specs.Cases.{Outcome, table_made, view_made, began, rolled_back, changed, committed};
+ghost use Rattle.lv_schema.specs.Cases.{table_made, view_made, began, rolled_back, changed, committed};
 ghost use Rattle.lv_schema.specs.Tasks.{pending_tasks};
-ghost use Rattle.lv_schema.specs.UpkeepCases.{cleaning, fetching, forced_by, installing, released};
+ghost use Rattle.lv_schema.specs.UpkeepCases.{cleaning, fetching, forced_by, installing, marking, outcome_of, released};
 ghost use Rattle.lv_schema.specs.WholeWorld.{maintained, querying, with_upkeep, world_after};
-ghost use Rattle.lv_schema.specs.World.{World, empty_world};
+ghost use Rattle.lv_schema.specs.World.{World};
 ghost use Rattle.lv_schema.specs.World as schema;
 ghost use Rattle.lv_txn.specs.Kept.{IsLive, begun, live_kept, transaction_at, transaction_of};
-ghost use Rattle.lv_engine.specs.Answering.{IsWritten, Meets, GivesQuery, ReadsNoTable, StandsForSome, input_between, memory_fault, effect_fault, commit_fault};
-ghost use Rattle.lv_engine.specs.Maintaining.{GivesCleaned, GivesFetch, GivesInstall, KeepsNoneBelow};
-ghost use Rattle.lv_engine.specs.Store.{Stands, kept};
+ghost use Rattle.lv_store.specs.Answering.{ReadsNoTable, effect_fault, input_between};
+ghost use Rattle.lv_store.specs.Kept.{IsStore, kept, store_of};
+ghost use Rattle.lv_store.specs.Maintaining.{KeepsNoneBelow};
+ghost use Rattle.lv_engine.specs.Answering.{GivesCleaned, GivesFetch, GivesInstall, GivesQuery, LogsCase, Meets, MeetsMark, commit_fault, create_fault, fails};
+ghost use Rattle.lv_replay.specs.Runs.{mark_written};
+ghost use Rattle.lv_engine.specs.Kept.{IsSame, Stands, StandsForSome, length_of};
 ghost use Rattle.lv_stands.specs.Moves.{least_read};
 ghost use Rattle.lv_upkeep.specs.Kept.{claim_kept};
 
-use crate::answer::Answer;
-use crate::cleaned::Cleaned;
-use crate::fault::CommitFault;
-use crate::installed::Installed;
-use crate::parts::Parts;
-use crate::settings::Settings;
+use crate::committing::commit;
+use crate::creating::{create_table, create_view};
+use crate::fault::{CommitFault, CreateFault};
+use crate::marking::mark;
 use lv_effect::EffectFault;
+use lv_journal::Journal;
 use lv_maint::{JobInput, JobResult};
+use lv_outside::Disk;
 use lv_picker::Picker;
 use lv_schema::{Change, Forced, Query, Schema, TableDef, ViewDef};
+use lv_store::{Answer, Cleaned, Installed, Settings, Store};
 use lv_values::{Items, NoMemory, Steps};
 use std::alloc::Global;
 use std::marker::Model;
 use std::sync::ledger::Ledger;
 
-/// Tables with their committed states, live transactions, and views whose rows are kept. Sessions are 0, the setup, to
-/// 16, and workers 1 to 8. Contracts see what is kept, and say of each call for which worlds the engine stands then, of those that it stood
-/// for before.
+/// Tables with their committed states, live transactions, and views whose rows are kept, over a journal on a disk. Sessions
+/// are 0, the setup, to 16, and workers 1 to 8. Contracts see what is kept in memory and the journal; they say of each call
+/// for which worlds the engine stands then, of those that it stood for before, and which records the journal has then.
 #[derive(Drop)]
-pub struct Engine {
-    parts: Parts,
+pub struct Engine<D: Disk> {
+    store: Store,
+    journal: Journal<D>,
 }
 
-impl Model for Engine {
-    ghost use Rattle.lv_engine.specs.Store.{Store, IsEngine, store_of};
+impl<D: Disk> Model for Engine<D> {
+    ghost use Rattle.lv_engine.specs.Kept.{EngineView, engine_of};
+    ghost use Rattle.lv_store.specs.Kept.{IsStore};
     ghost use Rattle.std.specs.Coded.{codes};
     ghost use Rattle.lv_schema.specs.contracts.cond.Cond as cond;
 
-    ghost Value = { Store };
+    ghost Value = { EngineView D };
 
     ghost coded = { Prim.hlevel (codes, cond.the_row.coded) };
 
-    ghost view = { λ e. store_of e.parts };
+    ghost view = { λ e. engine_of e.store e.journal };
 
-    ghost invariant = { λ e. IsEngine e.parts };
+    ghost invariant = { λ e. IsStore e.store };
 }
 
-impl Engine {
-    /// No tables, no views, no commits, and nobody live: it stands for the empty world.
-    pub fn new(alloc: Global, settings: Settings) -> Result<Engine, NoMemory>
-        requires { 0 < settings.combine }
-        ensures settings { IfOk result (λ e. e.settings ≡ settings) }
-        ensures stands { IfOk result (λ e. Stands empty_world e) }
+impl<D: Disk> Engine<D> {
+    /// What lies in memory, over a journal.
+    pub fn open(store: Store, journal: Journal<D>) -> Engine<D>
+        requires whole { IsStore store }
+        ensures store { result.store ≡ store_of store }
+        ensures journal { result.journal ≡ journal }
     {
-        let parts = Parts::new(alloc, settings)?;
-        Ok(Engine { parts })
+        Engine { store, journal }
     }
 
     /// It stands for a world: a law, and the call does nothing.
     pub fn known(&self)
         ensures { StandsForSome self.now }
     {
-        let _ = &self.parts;
+        let _ = &self.store;
     }
 
     /// What it is run with.
     pub fn settings(&self) -> Settings
-        ensures { result ≡ self.now.settings }
+        ensures { result ≡ self.now.store.settings }
     {
-        self.parts.settings
+        self.store.settings
     }
 
     /// The tables and views by name.
     pub fn schema(&self) -> &Schema
-        ensures tables { result.now.tables ≡ self.now.tables }
-        ensures views { result.now.views ≡ self.now.views }
+        ensures tables { result.now.tables ≡ self.now.store.tables }
+        ensures views { result.now.views ≡ self.now.store.views }
     {
-        &self.parts.schema
+        &self.store.schema
     }
 
     /// The number of the last commit.
     pub fn last(&self) -> u64
-        ensures { result ≡ self.now.base.number }
+        ensures { result ≡ self.now.store.base.number }
     {
-        self.parts.base.last()
+        self.store.base.last()
     }
 
     /// The commit to which a view is maintained.
     pub fn point(&self, view: u32) -> u64
-        requires { view < length self.now.views }
-        ensures { result ≡ slice_index self.now.upkeep.points view }
+        requires { view < length self.now.store.views }
+        ensures { result ≡ slice_index self.now.store.upkeep.points view }
     {
-        self.parts.point(view)
+        self.store.point(view)
+    }
+
+    /// The commit to which a view is marked as maintained.
+    pub fn marked(&self, view: u32) -> u64
+        requires { view < length self.now.store.views }
+        ensures { result ≡ slice_index self.now.store.upkeep.marks view }
+    {
+        self.store.marked(view)
     }
 
     /// The snapshot of a session, none exactly where it is not live.
     pub fn live(&self, session: u32) -> Option<u64>
-        ensures { result ≡ option_map (λ t. t.snapshot) (transaction_at self.now.sessions session) }
+        ensures { result ≡ option_map (λ t. t.snapshot) (transaction_at self.now.store.sessions session) }
     {
-        self.parts.txns.live(session)
+        self.store.txns.live(session)
+    }
+
+    /// The length of the journal, which ends with its closed gate. Cost: constant.
+    pub fn length(&self) -> u64
+        ensures { result ≡ length_of self.now.journal }
+    {
+        self.journal.length()
+    }
+
+    /// The disk's count of failures.
+    pub fn faults(&self) -> u64
+        ensures { result ≡ D.failures self.now.journal.disk }
+    {
+        self.journal.faults()
+    }
+
+    /// The disk.
+    pub fn into_disk(self) -> D
+        ensures { result ≡ self.journal.disk }
+    {
+        let Engine { journal, .. } = self;
+        journal.into_disk()
     }
 
     /// The pending tasks of all views, by view and then by commit. Cost: linear in them.
     pub fn tasks(&self, alloc: Global) -> Result<Items<(u32, u64)>, NoMemory>
         ensures { (w : World) → Stands w self.now → IfOk result (λ list. list ≡ pending_tasks w) }
     {
-        self.parts.tasks(alloc)
+        self.store.tasks(alloc)
     }
 
-    /// CREATE TABLE: the table is empty at every commit. Cost: a copy of its definition.
-    pub fn create_table(&mut self, alloc: Global, def: TableDef) -> Result<(), NoMemory>
-        requires bound { IsBoundTable self.old.tables self.old.views def }
-        ensures case { (w : World) (outcome : Rec → Outcome) → IsWritten outcome → Stands w self.old
-            → Meets memory_fault w self.old self.new result (table_made outcome def w.visible) }
-        ensures settings { self.new.settings ≡ self.old.settings }
+    /// CREATE TABLE: its record is written, and the table is empty at every commit. A refusal changes nothing.
+    /// Cost: a copy of its definition, and two syncs.
+    pub fn create_table(&mut self, alloc: Global, def: TableDef) -> Result<(), CreateFault>
+        requires bound { IsBoundTable self.old.store.tables self.old.store.views def }
+        ensures case { (w : World) (settings : schema.Settings) → settings.limit ≡ self.old.store.settings.log_limit → Stands w self.old
+            → Meets create_fault w self.old self.new result (table_made (outcome_of settings (fails create_fault result) w.upkeep) def w.visible) }
+        ensures log { (w : World) (settings : schema.Settings) → settings.limit ≡ self.old.store.settings.log_limit → Stands w self.old
+            → let made = table_made (outcome_of settings (fails create_fault result) w.upkeep) def w.visible in LogsCase D.seen D.may_leave create_fault result made.attempted made.written self.old.journal self.new.journal }
+        ensures settings { self.new.store.settings ≡ self.old.store.settings }
+        ensures later { D.failures self.old.journal.disk ≤ D.failures self.new.journal.disk }
+        ensures cause { result ≡ Err CreateFault.Store → Rose (D.failures self.old.journal.disk) (D.failures self.new.journal.disk) }
     {
-        self.parts.create_table(alloc, def)
+        create_table(alloc, &mut self.store, &mut self.journal, def)
     }
 
-    /// CREATE VIEW, where nobody is live: its rows are evaluated at the last commit. Cost: that of the join, and of a
-    /// scan of its tables.
+    /// CREATE VIEW, where nobody is live: its rows are evaluated at the last commit, and its record is written. A refusal
+    /// changes nothing. Cost: that of the join and of a scan of its tables, and two syncs.
     pub fn create_view<L: Ledger>(
         &mut self,
         alloc: Global,
         def: ViewDef,
         steps: &mut Steps<L>,
-    ) -> Result<(), NoMemory>
-        requires bound { IsBoundView self.old.tables self.old.views def }
-        requires nobody { live_kept self.old.sessions ≡ [] }
-        ensures case { (w : World) (outcome : Rec → Outcome) → IsWritten outcome → Stands w self.old
-            → Meets memory_fault w self.old self.new result (view_made outcome def w.visible) }
-        ensures settings { self.new.settings ≡ self.old.settings }
+    ) -> Result<(), CreateFault>
+        requires bound { IsBoundView self.old.store.tables self.old.store.views def }
+        requires nobody { live_kept self.old.store.sessions ≡ [] }
+        ensures case { (w : World) (settings : schema.Settings) → settings.limit ≡ self.old.store.settings.log_limit → Stands w self.old
+            → Meets create_fault w self.old self.new result (view_made (outcome_of settings (fails create_fault result) w.upkeep) def w.visible) }
+        ensures log { (w : World) (settings : schema.Settings) → settings.limit ≡ self.old.store.settings.log_limit → Stands w self.old
+            → let made = view_made (outcome_of settings (fails create_fault result) w.upkeep) def w.visible in LogsCase D.seen D.may_leave create_fault result made.attempted made.written self.old.journal self.new.journal }
+        ensures settings { self.new.store.settings ≡ self.old.store.settings }
+        ensures later { D.failures self.old.journal.disk ≤ D.failures self.new.journal.disk }
+        ensures cause { result ≡ Err CreateFault.Store → Rose (D.failures self.old.journal.disk) (D.failures self.new.journal.disk) }
     {
-        self.parts.create_view(alloc, def, steps)
+        create_view(alloc, &mut self.store, &mut self.journal, def, steps)
     }
 
     /// BEGIN: the session is live, and its snapshot is the last commit, which is answered. It takes no memory.
     /// Cost: constant.
     pub fn begin(&mut self, session: u32) -> u64
         requires session { session < 17 }
-        requires free { transaction_at self.old.sessions session ≡ None }
+        requires free { transaction_at self.old.store.sessions session ≡ None }
         ensures case { (w : World) → Stands w self.old → (Ok result ≡ (began session w.visible).answer) × Stands (world_after (began session w.visible) w) self.new }
-        ensures live { transaction_at self.new.sessions session ≡ Some (begun self.old.base.number) }
-        ensures others { self.new ≡ record self.old { sessions = slice_set self.old.sessions session (transaction_at self.new.sessions session) } }
+        ensures live { transaction_at self.new.store.sessions session ≡ Some (begun self.old.store.base.number) }
+        ensures others { self.new ≡ record self.old { store = record self.old.store { sessions = slice_set self.old.store.sessions session (transaction_at self.new.store.sessions session) } } }
     {
-        self.parts.begin(session)
+        self.store.begin(session)
     }
 
     /// ROLLBACK: the session is not live, and its writes are gone. It takes no memory. Cost: linear in what it wrote.
     pub fn rollback(&mut self, session: u32)
         requires session { session < 17 }
-        requires live { IsLive self.old.sessions session }
+        requires live { IsLive self.old.store.sessions session }
         ensures case { (w : World) → Stands w self.old → Stands (world_after (rolled_back session w.visible) w) self.new }
-        ensures free { transaction_at self.new.sessions session ≡ None }
-        ensures others { self.new ≡ record self.old { sessions = slice_set self.old.sessions session (transaction_at self.new.sessions session) } }
+        ensures free { transaction_at self.new.store.sessions session ≡ None }
+        ensures others { self.new ≡ record self.old { store = record self.old.store { sessions = slice_set self.old.store.sessions session (transaction_at self.new.store.sessions session) } } }
     {
-        self.parts.rollback(session)
+        self.store.rollback(session)
     }
 
     /// INSERT, UPDATE or DELETE in a session's transaction. It answers the number of rows. A refusal changes nothing.
@@ -174,31 +220,52 @@ impl Engine {
         steps: &mut Steps<L>,
     ) -> Result<u64, EffectFault>
         requires session { session < 17 }
-        requires live { IsLive self.old.sessions session }
-        requires few { (transaction_of self.old.sessions session).changes < 4294967295 }
-        requires bound { IsBoundChange self.old.tables change.now }
+        requires live { IsLive self.old.store.sessions session }
+        requires few { (transaction_of self.old.store.sessions session).changes < 4294967295 }
+        requires bound { IsBoundChange self.old.store.tables change.now }
         ensures case { (w : World) → Stands w self.old → Meets effect_fault w self.old self.new result (changed session change.now w.visible) }
         ensures refused { OnErr result (self.new ≡ self.old) }
-        ensures others { self.new ≡ record self.old { sessions = slice_set self.old.sessions session (transaction_at self.new.sessions session) } }
+        ensures others { self.new ≡ record self.old { store = record self.old.store { sessions = slice_set self.old.store.sessions session (transaction_at self.new.store.sessions session) } } }
     {
-        self.parts.change(alloc, session, change, steps)
+        self.store.change(alloc, session, change, steps)
     }
 
-    /// COMMIT of a session's transaction. It answers the number of the commit, none where the transaction has no
-    /// action. A conflict or a full table rolls it back. No view is brought up to date: its point and its rows stay, and
-    /// each view on whose tables it acts has one more pending task.
+    /// COMMIT of a session's transaction: its record is written, and no view is brought up to date: its point and its rows stay,
+    /// and each view on whose tables it acts has one more pending task. It answers the number of the commit, none where the
+    /// transaction has no action. A conflict or a full table rolls it back; after any other refusal it is live, and nothing
+    /// has changed.
     /// Cost: what the conflict's and the net change's searches cost, for c actions c log c comparisons of keys, a
-    /// search and a move of small numbers each, and a look at each view.
+    /// search and a move of small numbers each, a look at each view, and two syncs.
     pub fn commit(&mut self, alloc: Global, session: u32) -> Result<Option<u64>, CommitFault>
         requires session { session < 17 }
-        requires live { IsLive self.old.sessions session }
-        ensures case { (w : World) (outcome : Rec → Outcome) → IsWritten outcome → Stands w self.old
-            → Meets commit_fault w self.old self.new result (committed outcome session w.visible) }
-        ensures rows { self.new.rows ≡ self.old.rows }
-        ensures points { self.new.upkeep.points ≡ self.old.upkeep.points }
-        ensures settings { self.new.settings ≡ self.old.settings }
+        requires live { IsLive self.old.store.sessions session }
+        ensures case { (w : World) (settings : schema.Settings) → settings.limit ≡ self.old.store.settings.log_limit → Stands w self.old
+            → Meets commit_fault w self.old self.new result (committed (outcome_of settings (fails commit_fault result) w.upkeep) session w.visible) }
+        ensures log { (w : World) (settings : schema.Settings) → settings.limit ≡ self.old.store.settings.log_limit → Stands w self.old
+            → let done = committed (outcome_of settings (fails commit_fault result) w.upkeep) session w.visible in LogsCase D.seen D.may_leave commit_fault result done.attempted done.written self.old.journal self.new.journal }
+        ensures rows { self.new.store.rows ≡ self.old.store.rows }
+        ensures points { self.new.store.upkeep.points ≡ self.old.store.upkeep.points }
+        ensures settings { self.new.store.settings ≡ self.old.store.settings }
+        ensures later { D.failures self.old.journal.disk ≤ D.failures self.new.journal.disk }
+        ensures cause { result ≡ Err CommitFault.Store → Rose (D.failures self.old.journal.disk) (D.failures self.new.journal.disk) }
     {
-        self.parts.commit(alloc, session)
+        commit(alloc, &mut self.store, &mut self.journal, session)
+    }
+
+    /// Marks a view as maintained to its point, by a record. It answers the point, none exactly where the view was marked there
+    /// already. A refusal changes nothing. Cost: two syncs.
+    pub fn mark(&mut self, alloc: Global, view: u32) -> Result<Option<u64>, CreateFault>
+        requires view { view < length self.old.store.views }
+        ensures case { (w : World) (settings : schema.Settings) → settings.limit ≡ self.old.store.settings.log_limit → Stands w self.old
+            → MeetsMark w self.old self.new result (marking (outcome_of settings (fails create_fault result) w.upkeep) view w.upkeep) }
+        ensures log { (w : World) (settings : schema.Settings) → settings.limit ≡ self.old.store.settings.log_limit → Stands w self.old
+            → let done = marking (outcome_of settings (fails create_fault result) w.upkeep) view w.upkeep in LogsCase D.seen D.may_leave create_fault result done.attempted (mark_written done) self.old.journal self.new.journal }
+        ensures sessions { self.new.store.sessions ≡ self.old.store.sessions }
+        ensures settings { self.new.store.settings ≡ self.old.store.settings }
+        ensures later { D.failures self.old.journal.disk ≤ D.failures self.new.journal.disk }
+        ensures cause { result ≡ Err CreateFault.Store → Rose (D.failures self.old.journal.disk) (D.failures self.new.journal.disk) }
+    {
+        mark(alloc, &mut self.store, &mut self.journal, view)
     }
 
     /// What the steps are computed from that a query of the session would force now, views in the order of their
@@ -212,11 +279,11 @@ impl Engine {
         steps: &mut Steps<L>,
     ) -> Result<Items<JobInput>, NoMemory>
         requires session { session < 17 }
-        requires bound { IsBoundQuery self.now.tables self.now.views query.now }
-        ensures inputs { (w : World) (settings : schema.Settings) → settings.combine ≡ self.now.settings.combine → Stands w self.now
+        requires bound { IsBoundQuery self.now.store.tables self.now.store.views query.now }
+        ensures inputs { (w : World) (settings : schema.Settings) → settings.combine ≡ self.now.store.settings.combine → Stands w self.now
             → IfOk result (λ inputs. inputs ≡ map (input_between w.visible) (forced_by settings session query.now w)) }
     {
-        self.parts.stale(alloc, session, query, steps)
+        self.store.stale(alloc, session, query, steps)
     }
 
     /// A query of a session that is live: the views that it reads are brought up to its snapshot, and it reads its
@@ -236,24 +303,25 @@ impl Engine {
         steps: &mut Steps<L>,
     ) -> Result<Answer, NoMemory>
         requires session { session < 17 }
-        requires live { IsLive self.old.sessions session }
-        requires bound { IsBoundQuery self.old.tables self.old.views query.now }
-        ensures done { (w : World) (settings : schema.Settings) → settings.combine ≡ self.old.settings.combine → Stands w self.old
+        requires live { IsLive self.old.store.sessions session }
+        requires bound { IsBoundQuery self.old.store.tables self.old.store.views query.now }
+        ensures done { (w : World) (settings : schema.Settings) → settings.combine ≡ self.old.store.settings.combine → Stands w self.old
             → IfOk result (λ answer. GivesQuery (querying settings session query.now w) answer self.new) }
         ensures refused { OnErr result (self.new ≡ self.old) }
-        ensures sessions { self.new.sessions ≡ self.old.sessions }
-        ensures settings { self.new.settings ≡ self.old.settings }
+        ensures sessions { self.new.store.sessions ≡ self.old.store.sessions }
+        ensures settings { self.new.store.settings ≡ self.old.store.settings }
+        ensures journal { self.new.journal ≡ self.old.journal }
         ensures fresh { (w : World) → Stands w self.old → ReadsNoTable session query.now w → steps.new ≡ steps.old }
     {
-        self.parts.query(alloc, session, query, offers, steps)
+        self.store.query(alloc, session, query, offers, steps)
     }
 
     /// The step that a worker, 1 to 8, has claimed; none exactly where it has no claim. Cost: constant.
     pub fn claim(&self, worker: u32) -> Option<Forced>
         requires { worker < 9 }
-        ensures { result ≡ claim_kept self.now.upkeep worker }
+        ensures { result ≡ claim_kept self.now.store.upkeep worker }
     {
-        self.parts.claim(worker)
+        self.store.claim(worker)
     }
 
     /// A worker, 1 to 8, that has no claim fetches a step: of the views that nobody has claimed and that have pending
@@ -269,13 +337,13 @@ impl Engine {
         steps: &mut Steps<L>,
     ) -> Result<Option<JobInput>, NoMemory>
         requires worker { worker < 9 }
-        requires free { claim_kept self.old.upkeep worker ≡ None }
-        ensures done { (w : World) (settings : schema.Settings) → settings.combine ≡ self.old.settings.combine → settings.policy ≡ picker.now.kind → Stands w self.old
+        requires free { claim_kept self.old.store.upkeep worker ≡ None }
+        ensures done { (w : World) (settings : schema.Settings) → settings.combine ≡ self.old.store.settings.combine → settings.policy ≡ picker.now.kind → Stands w self.old
             → IfOk result (λ input. GivesFetch w.visible (maintained (fetching settings worker w) w) input self.new) }
         ensures refused { OnErr result (self.new ≡ self.old) }
-        ensures others { self.new ≡ record self.old { upkeep = self.new.upkeep } }
+        ensures others { self.new ≡ record self.old { store = record self.old.store { upkeep = self.new.store.upkeep } } }
     {
-        self.parts.fetch(alloc, worker, picker, steps)
+        self.store.fetch(alloc, worker, picker, steps)
     }
 
     /// A worker, 1 to 8, installs the step that it has claimed, where its view still stands where the step begins; where
@@ -291,23 +359,23 @@ impl Engine {
         steps: &mut Steps<L>,
     ) -> Result<Installed, NoMemory>
         requires worker { worker < 9 }
-        requires claimed { is_some (claim_kept self.old.upkeep worker) ≡ true }
+        requires claimed { is_some (claim_kept self.old.store.upkeep worker) ≡ true }
         ensures done { (w : World) → Stands w self.old → IfOk result (λ answer. GivesInstall (maintained (installing worker w.upkeep) w) answer self.new) }
         ensures refused { OnErr result (self.new ≡ self.old) }
-        ensures others { self.new ≡ record self.old { upkeep = self.new.upkeep; rows = self.new.rows } }
+        ensures others { self.new ≡ record self.old { store = record self.old.store { upkeep = self.new.store.upkeep; rows = self.new.store.rows } } }
     {
-        self.parts.install(alloc, worker, offer, steps)
+        self.store.install(alloc, worker, offer, steps)
     }
 
     /// A worker, 1 to 8, gives its claim up. It takes no memory. Cost: constant.
     pub fn release(&mut self, worker: u32)
         requires worker { worker < 9 }
-        requires claimed { is_some (claim_kept self.old.upkeep worker) ≡ true }
+        requires claimed { is_some (claim_kept self.old.store.upkeep worker) ≡ true }
         ensures case { (w : World) → Stands w self.old → Stands (with_upkeep (released worker w.upkeep) w) self.new }
-        ensures others { self.new ≡ record self.old { upkeep = self.new.upkeep } }
-        ensures free { claim_kept self.new.upkeep worker ≡ None }
+        ensures others { self.new ≡ record self.old { store = record self.old.store { upkeep = self.new.store.upkeep } } }
+        ensures free { claim_kept self.new.store.upkeep worker ≡ None }
     {
-        self.parts.release(worker);
+        self.store.release(worker);
     }
 
     /// Drops what nobody needs: the row versions and delta entries below the floor, which is the least of the live
@@ -317,9 +385,9 @@ impl Engine {
     /// dropped, averaged over many calls.
     pub fn clean(&mut self, alloc: Global) -> Cleaned
         ensures case { (w : World) → Stands w self.old → GivesCleaned (maintained (cleaning w) w) result self.new }
-        ensures rows { KeepsNoneBelow (least_read (kept 0 self.old)) self.new.rows }
-        ensures others { self.new ≡ record self.old { base = self.new.base; rows = self.new.rows } }
+        ensures rows { KeepsNoneBelow (least_read (kept 0 self.old.store)) self.new.store.rows }
+        ensures others { self.new ≡ record self.old { store = record self.old.store { base = self.new.store.base; rows = self.new.store.rows } } }
     {
-        self.parts.clean(alloc)
+        self.store.clean(alloc)
     }
 }

@@ -1,33 +1,14 @@
-//! The store of tables and views: commits touch no view, idle workers bring views up to date, a query first brings the
-//! views that it reads up to its snapshot, and a clean-up drops what nobody needs.
+//! The running store over a disk: each commit, table, view and mark is in the journal before it is done.
 #![tactic(auto)]
 
-mod answer;
-mod changing;
-mod cleaned;
-mod cleaning;
 mod committing;
 mod creating;
 mod engine;
 mod fault;
-mod inputs;
-mod installed;
-mod installing;
-mod joining;
-mod making;
-mod own;
-mod parts;
-mod planning;
-mod querying;
-mod reading;
-mod settings;
-mod stepping;
-mod transactions;
-mod workers;
+mod laws;
+mod marking;
+mod writing;
 
-pub use answer::Answer;
-pub use cleaned::Cleaned;
 pub use engine::Engine;
-pub use fault::CommitFault;
-pub use installed::Installed;
-pub use settings::Settings;
+pub use fault::{CommitFault, CreateFault};
+pub use laws::fresh_engines_stand_for_one_world;

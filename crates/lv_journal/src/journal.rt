@@ -86,6 +86,13 @@ impl<D: Disk> Journal<D> {
         self.writer.meaning();
     }
 
+    /// The length of the journal, which ends with its closed gate, or the greatest number where that is greater.
+    pub fn length(&self) -> u64
+        ensures { result ≡ min (journal_length self.now) (2 ^ 64 - 1) }
+    {
+        self.writer.gate.saturating_add(1)
+    }
+
     /// The disk's count of failures.
     pub fn faults(&self) -> u64
         ensures { result ≡ D.failures self.now.disk }

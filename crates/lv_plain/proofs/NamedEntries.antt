@@ -8,15 +8,13 @@ use Rattle.std.specs.declared.cmp.Ordering.TheVariants.{Less, Equal, Greater}
 use Rattle.std.specs.FinMap.Entries.{by_order}
 use Rattle.std.specs.Str.{bytes_eq}
 use Rattle.std.proofs.lemmas.Bool.Decides.{nat_tests}
-use Rattle.std.proofs.lemmas.List.{get_or_past, length-append, length-map}
+use Rattle.std.proofs.lemmas.List.{get_or_past, length-map}
 use Rattle.std.proofs.lemmas.List.Quantifiers.{position-Some}
 use Rattle.lv_schema.specs.declared.bound.Bound.{Bound}
 use Rattle.lv_schema.specs.declared.bound.Bound.TheVariants as bound
-use Rattle.lv_schema.specs.declared.change.Change.{Change}
 use Rattle.lv_schema.specs.declared.fault.Fault.{Fault}
 use Rattle.lv_schema.specs.declared.fault.Fault.TheVariants as fault
 use Rattle.lv_schema.specs.declared.forced.Forced.{Forced}
-use Rattle.lv_schema.specs.declared.open.Open.{Open}
 use Rattle.lv_schema.specs.declared.pending.Pending.{Pending}
 use Rattle.lv_schema.specs.declared.query.Rel.{Rel}
 use Rattle.lv_schema.specs.declared.query.Rel.TheVariants as rel
@@ -24,13 +22,11 @@ use Rattle.lv_schema.specs.declared.rec.Rec.{Rec}
 use Rattle.lv_schema.specs.declared.table.TableDef.{TableDef}
 use Rattle.lv_schema.specs.declared.view.ViewDef.{ViewDef}
 use Rattle.lv_schema.specs.Bound.{IsBound, rel_in_use}
-use Rattle.lv_schema.specs.Cases.{Outcome, good, failed, full, Case, alone, alone_committed, answered, began, changed, changed_by, closed, committed, committed_unless, if_written, table_made, view_made, with_commit, with_count, with_table, with_view}
+use Rattle.lv_schema.specs.Cases.{Outcome, good, failed, full, alone, changed, committed, table_made, view_made, with_table, with_view}
 use Rattle.lv_schema.specs.Catalog.{view_named}
-use Rattle.lv_schema.specs.Commits.{conflict_of, merged_full}
-use Rattle.lv_schema.specs.Effects.{Effect, effect_of, first_fault}
 use Rattle.lv_schema.specs.Once.{once, put_once}
 use Rattle.lv_schema.specs.Policies.{chosen, unclaimed}
-use Rattle.lv_schema.specs.Records.{commit_record, table_record, view_record}
+use Rattle.lv_schema.specs.Records.{table_record, view_record}
 use Rattle.lv_schema.specs.SoundWorld.{IsSound}
 use Rattle.lv_schema.specs.Steady.{IsStep, IsSteady}
 use Rattle.lv_schema.specs.StepPlans.{forced_from, planned, view_point}
@@ -58,6 +54,7 @@ use Rattle.lv_plain.specs.Named.{Counts, in_use, nothing_in_use, AreNamed, IsNam
 use Rattle.lv_plain.specs.Programs.{Places, has_more, lines_of, may_turn, next_line, no_script, session_count}
 use Rattle.lv_plain.specs.Rules.{Rules}
 use Rattle.lv_plain.specs.Turns.{IsBinding, bound_line, bound_turn, is_open, read_turn, reply_or, turn_by}
+use Rattle.lv_plain.proofs.Fronts.{after_grows, entry_grows, front_length, grows_on}
 use Rattle.lv_plain.proofs.NamedFaults.{IsNamedAnswer, alone_named, changed_named, committed_named, written_named}
 use Rattle.lv_plain.proofs.SoundTurns.{each_line}
 use Rattle.lv_plain.proofs.SteadyTurns.{given_steady}
@@ -120,85 +117,6 @@ entry_more m n (entry.Released worker) more h = tt
 entry_more m n (entry.Marked view o) more h = (omega (arith, h.0, more.views), outcome_more m n o more h.1)
 entry_more m n (entry.MarkUnknown name) more h = tt
 entry_more m n (entry.Cleaned floor versions deltas) more h = tt
-
--- ---- no statement drops a table or a view
-record Grows (s t : Visible) : Type 0 where
-  pub tables : length s.tables ≤ length t.tables
-  pub views : length s.views ≤ length t.views
-
-grown : (s : Visible) → Grows s s
-grown s = record { tables = omega arith; views = omega arith }
-
-grows_on : (s t u : Visible) → Grows s t → Grows t u → Grows s u
-grows_on s t u f g = record { tables = omega (arith, f.tables, g.tables); views = omega (arith, f.views, g.views) }
-
-written_grows : {A : Type 0} (out : Outcome) (rec : Rec) (a : A) (next s : Visible) → Grows s next → Grows s (if_written out rec a next s).next
-written_grows good rec a next s g = g
-written_grows failed rec a next s g = grown s
-written_grows (full need limit) rec a next s g = grown s
-
-table_grows : (def : TableDef) (s : Visible) → Grows s (with_table def s)
-table_grows def s = record { tables = omega (arith, length-append s.tables (def ∷ [])); views = omega arith }
-
-view_grows : (def : ViewDef) (s : Visible) → Grows s (with_view def s)
-view_grows def s = record { tables = omega arith; views = omega (arith, length-append s.views (record def { created = last s } ∷ [])) }
-
-changed_grows : (session : ℕ) (change : Change) (s : Visible) → Grows s (changed session change s).next
-changed_grows session change s = by (effect_of s.tables change (transaction session s).own)
-  where
-    by : (r : Result Effect Fault) → Grows s (changed_by r session (transaction session s) s).next
-    by (Ok effect) = record { tables = omega arith; views = omega arith }
-    by (Err f) = grown s
-
-committed_grows : (outcome : Rec → Outcome) (session : ℕ) (s : Visible) → Grows s (committed outcome session s).next
-committed_grows outcome session s = by (length o.actions == 0)
-  where
-    o : Open
-    o = transaction session s
-
-    same : Grows s (closed session s)
-    same = record { tables = omega arith; views = omega arith }
-
-    unless : (f : Option Fault) → Grows s (committed_unless f outcome session o s).next
-    unless None = written_grows (outcome (commit_record o s)) (commit_record o s) (Some (last s + 1)) (with_commit session o s) s (record { tables = omega arith; views = omega arith })
-    unless (Some f) = same
-
-    by : (b : Bool) → Grows s (cond {A = Case (Option ℕ)} b (answered None (closed session s)) (committed_unless (first_fault (conflict_of s o) (merged_full s o)) outcome session o s)).next
-    by true = same
-    by false = unless (first_fault (conflict_of s o) (merged_full s o))
-
-alone_grows : (outcome : Rec → Outcome) (session : ℕ) (change : Change) (s : Visible) → Grows s (alone outcome session change s).next
-alone_grows outcome session change s = by change_case.answer
-  where
-    change_case : Case ℕ
-    change_case = changed session change (began session s).next
-
-    first : Grows s (changed session change (began session s).next).next
-    first = grows_on s (began session s).next (changed session change (began session s).next).next (record { tables = omega arith; views = omega arith }) (changed_grows session change (began session s).next)
-
-    counted : (count : ℕ) (commit : Case (Option ℕ)) (answer : Result (Option ℕ) Fault) → Grows s commit.next → Grows s (with_count count answer commit s).next
-    counted count commit (Ok number) g = g
-    counted count commit (Err f) g = grown s
-
-    by : (answer : Result ℕ Fault) → Grows s (alone_committed answer outcome session change_case.next s).next
-    by (Ok count) =
-        let commit = committed outcome session change_case.next in
-        counted count commit commit.answer (grows_on s change_case.next commit.next first (committed_grows outcome session change_case.next))
-    by (Err f) = grown s
-
-turn_grows : (outcome : Rec → Outcome) (tasks : List (ℕ × ℕ)) (session : ℕ) (statement : Bound) (s : Visible) → Grows s (bound_turn outcome tasks session statement s).next
-turn_grows outcome tasks session (bound.Table def) s = written_grows {A = Unit {0}} (outcome (table_record def)) (table_record def) tt (with_table def s) s (table_grows def s)
-turn_grows outcome tasks session (bound.View def) s = written_grows {A = Unit {0}} (outcome (view_record def s)) (view_record def s) tt (with_view def s) s (view_grows def s)
-turn_grows outcome tasks session (bound.Change change) s = by (is_open session s)
-  where
-    by : (b : Bool) → Grows s (if b then turn_by reply.Changed (changed session change s) else turn_by (λ done. reply.Alone done.0 done.1) (alone outcome session change s)).next
-    by true = changed_grows session change s
-    by false = alone_grows outcome session change s
-turn_grows outcome tasks session (bound.Query query) s = grown s
-turn_grows outcome tasks session (bound.Begin) s = record { tables = omega arith; views = omega arith }
-turn_grows outcome tasks session (bound.Commit) s = committed_grows outcome session s
-turn_grows outcome tasks session (bound.Rollback) s = record { tables = omega arith; views = omega arith }
-turn_grows outcome tasks session (bound.Tasks) s = grown s
 
 -- ---- the reply to a statement
 reply_named : {A : Type 0} (n : Counts) (reply : A → Reply) (answer : Result A Fault) → ((a : A) → IsNamedReply n (reply a)) → IsNamedAnswer n answer → IsNamedReply n (reply_or reply answer)
@@ -385,35 +303,6 @@ module _ (rules : Rules) (binds : IsBinding rules.reading) (names : NamesNoTable
   given_named fails (mark_of name) s steady may = mark_named fails name s
   given_named fails clean_up s steady may = tt
 
-  given_grows : (fails : Bool) (event : Event) (s : State) → Grows s.world.visible (give rules fails event s).next.world.visible
-  given_grows fails (turn_of session) s = by (bound_line rules.reading session (next_line rules.program s.places session) s.world.visible)
-    where
-      by : (r : Result Bound Fault) → Grows s.world.visible (read_turn (outcome_of rules.settings fails s.world.upkeep) (pending_tasks s.world) session r s.world.visible).next
-      by (Ok b) = turn_grows (outcome_of rules.settings fails s.world.upkeep) (pending_tasks s.world) session b s.world.visible
-      by (Err f) = grown s.world.visible
-  given_grows fails (fetch_of worker) s = grown s.world.visible
-  given_grows fails (install_of worker) s = grown s.world.visible
-  given_grows fails (release_of worker) s = grown s.world.visible
-  given_grows fails (mark_of name) s = by (view_named s.world.visible.views name)
-    where
-      by : (x : Option ℕ) → Grows s.world.visible (mark_by rules fails x name s).next.world.visible
-      by None = grown s.world.visible
-      by (Some v) = grown s.world.visible
-  given_grows fails clean_up s = grown s.world.visible
-
-  entry_grows : (s : State) (e : Entry) → Grows s.world.visible (after_entry rules s e).world.visible
-  entry_grows s e = by (event_of s e)
-    where
-      by : (x : Option Event) → Grows s.world.visible (after_by rules x s e).world.visible
-      by None = grown s.world.visible
-      by (Some event) = given_grows (shows_failure e) event s
-
-  after_grows : (s : State) (es : List Entry) → Grows s.world.visible (after rules s es).world.visible
-  after_grows s [] = grown s.world.visible
-  after_grows s (e ∷ es) =
-      grows_on s.world.visible (after_entry rules s e).world.visible (after rules (after_entry rules s e) es).world.visible (entry_grows s e)
-      (after_grows (after_entry rules s e) es)
-
   entry_named : (s : State) (e : Entry) → IsSteady s.world → MayCome rules s e → IsNamedEntry (in_use rules.program s.world.visible) e
   entry_named s e steady may = by (event_of s e) may
     where
@@ -433,7 +322,7 @@ module _ (rules : Rules) (binds : IsBinding rules.reading) (names : NamesNoTable
   entries_named s (e ∷ es) steady legal =
       let next = after_entry rules s e in
       let end = (after rules next es).world.visible in
-      let more = grows_on s.world.visible next.world.visible end (entry_grows s e) (after_grows next es) in (
-        entry_more (in_use rules.program s.world.visible) (in_use rules.program end) e (record { sessions = omega arith; tables = more.tables; views = more.views }) (entry_named s e steady legal.0),
+      let more = grows_on s.world.visible next.world.visible end (entry_grows rules s e) (after_grows rules next es) in (
+        entry_more (in_use rules.program s.world.visible) (in_use rules.program end) e (record { sessions = omega arith; tables = front_length s.world.visible.tables end.tables more.0; views = front_length s.world.visible.views end.views more.1 }) (entry_named s e steady legal.0),
         entries_named next es (entry_steady s e steady) legal.1,
       )

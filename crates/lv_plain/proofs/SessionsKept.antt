@@ -20,7 +20,7 @@ use Rattle.lv_schema.specs.Effects.{Effect, effect_of, first_fault}
 use Rattle.lv_schema.specs.Records.{commit_record, table_record, view_record}
 use Rattle.lv_schema.specs.Tasks.{pending_tasks}
 use Rattle.lv_schema.specs.UpkeepCases.{outcome_of}
-use Rattle.lv_schema.specs.World.{Visible, empty_world, last, opened, transaction}
+use Rattle.lv_schema.specs.World.{Visible, World, last, opened, transaction}
 use Rattle.lv_plain.specs.declared.entry.Entry.{Entry}
 use Rattle.lv_plain.specs.declared.entry.Reply.TheVariants.{Changed, Alone}
 use Rattle.lv_plain.specs.declared.program.Program.{Program}
@@ -311,10 +311,11 @@ module _ (rules : Rules) (fails : Bool) where
       by (Some v) = record { count = kept.count; few = kept.few; first = kept.first }
   given_keeps clean_up s may kept = record { count = kept.count; few = kept.few; first = kept.first }
 
+-- nobody is live in an empty world
 abbrev none : Option Open
 none = None
 
-none_live : (n k : ℕ) → get_or (replicate n none) k none ≡ none
+pub none_live : (n k : ℕ) → get_or (replicate n none) k none ≡ none
 none_live zero k = refl
 none_live (suc n) zero = refl
 none_live (suc n) (suc k) = none_live n k
@@ -332,15 +333,38 @@ module _ (rules : Rules) where
       by None may = absurd may
       by (Some event) may = given_keeps rules (shows_failure e) event s may.0 kept
 
-  start_kept : Kept rules.program (begun rules empty_world)
-  start_kept = record {
-    count = length_all (session_count rules.program) 0;
-    few = λ k. subst (λ o. Few o (slice_index (begun rules empty_world).places k)) (sym (none_live 17 k)) tt;
-    first = λ open_yet k pos. none_live 17 k;
-  }
+  -- a run begins where nobody is live
+  module _ (w : World) (nobody : (session : ℕ) → slice_index_or w.visible.sessions session None ≡ None) where
+    start_kept : Kept rules.program (begun rules w)
+    start_kept = record {
+      count = length_all (session_count rules.program) 0;
+      few = λ k. subst (λ o. Few o (slice_index (begun rules w).places k)) (sym (nobody k)) tt;
+      first = λ open_yet k pos. nobody k;
+    }
 
-  pub sessions_kept : (es : List Entry) → Legal rules (begun rules empty_world) es → Kept rules.program (after rules (begun rules empty_world) es)
-  sessions_kept es legal = entries_keep (begun rules empty_world) es legal start_kept
+    pub sessions_kept : (es : List Entry) → Legal rules (begun rules w) es → Kept rules.program (after rules (begun rules w) es)
+    sessions_kept es legal = entries_keep (begun rules w) es legal start_kept
+
+  -- each session keeps its place
+  given_count : (fails : Bool) (event : Event) (s : State) → length (give rules fails event s).next.places ≡ length s.places
+  given_count fails (turn_of session) s = length-set s.places session (slice_index s.places session + 1)
+  given_count fails (fetch_of worker) s = refl
+  given_count fails (install_of worker) s = refl
+  given_count fails (release_of worker) s = refl
+  given_count fails (mark_of name) s = by (view_named s.world.visible.views name)
+    where
+      by : (v : Option ℕ) → length (mark_by rules fails v name s).next.places ≡ length s.places
+      by None = refl
+      by (Some v) = refl
+  given_count fails clean_up s = refl
+
+  entries_count : (s : State) (es : List Entry) → length (after rules s es).places ≡ length s.places
+  entries_count s [] = refl
+  entries_count s (e ∷ es) = entries_count (after_entry rules s e) es ∙ by (event_of s e)
+    where
+      by : (event : Option Event) → length (after_by rules event s e).places ≡ length s.places
+      by None = refl
+      by (Some event) = given_count (shows_failure e) event s
 
 few_changes : (p : Program) (s : State) (session : ℕ) → Kept p s → (transaction session s.world.visible).changes ≤ slice_index s.places session
 few_changes p s session kept = by (get_or s.world.visible.sessions session None) (kept.few session)
@@ -349,15 +373,14 @@ few_changes p s session kept = by (get_or s.world.visible.sessions session None)
     by None h = omega arith
     by (Some o) h = h
 
-pub runs_count : (rules : Rules) (es : List Entry) → Legal rules (begun rules empty_world) es
-    → length (after rules (begun rules empty_world) es).places ≡ session_count rules.program
-runs_count rules es legal = (sessions_kept rules es legal).count
+pub runs_count : (rules : Rules) (w : World) (es : List Entry) → length (after rules (begun rules w) es).places ≡ session_count rules.program
+runs_count rules w es = entries_count rules (begun rules w) es ∙ length_all (session_count rules.program) 0
 
-pub runs_change_little : (rules : Rules) (es : List Entry) (session : ℕ) → Legal rules (begun rules empty_world) es
-    → (transaction session (after rules (begun rules empty_world) es).world.visible).changes ≤ slice_index (after rules (begun rules empty_world) es).places session
-runs_change_little rules es session legal = few_changes rules.program (after rules (begun rules empty_world) es) session (sessions_kept rules es legal)
+pub runs_change_little : (rules : Rules) (w : World) (es : List Entry) (session : ℕ) → ((k : ℕ) → slice_index_or w.visible.sessions k None ≡ None) → Legal rules (begun rules w) es
+    → (transaction session (after rules (begun rules w) es).world.visible).changes ≤ slice_index (after rules (begun rules w) es).places session
+runs_change_little rules w es session nobody legal = few_changes rules.program (after rules (begun rules w) es) session (sessions_kept rules w nobody es legal)
 
-pub setups_come_first : (rules : Rules) (es : List Entry) (session : ℕ) → Legal rules (begun rules empty_world) es
-    → setup_answered rules.program (after rules (begun rules empty_world) es).places ≡ false → 0 < session
-    → slice_index_or (after rules (begun rules empty_world) es).world.visible.sessions session None ≡ None
-setups_come_first rules es session legal open_yet pos = (sessions_kept rules es legal).first open_yet session pos
+pub setups_come_first : (rules : Rules) (w : World) (es : List Entry) (session : ℕ) → ((k : ℕ) → slice_index_or w.visible.sessions k None ≡ None) → Legal rules (begun rules w) es
+    → setup_answered rules.program (after rules (begun rules w) es).places ≡ false → 0 < session
+    → slice_index_or (after rules (begun rules w) es).world.visible.sessions session None ≡ None
+setups_come_first rules w es session nobody legal open_yet pos = (sessions_kept rules w nobody es legal).first open_yet session pos

@@ -10,3 +10,5 @@ pub mod Following
 pub mod Limits
 pub mod SessionNames
 pub mod GivenEntries
+pub mod WrittenRecords
+pub mod Fronts

@@ -1,5 +1,9 @@
-pub mod Built
+pub mod Begun
+pub mod Ends
 pub mod Following
+pub mod Opened
 pub mod Output
-pub mod Run
+pub mod Plan
 pub mod Status
+pub mod Words
+pub mod Written

@@ -1,87 +1,136 @@
-//! The events of a program, one after another.
-ghost use Rattle.std.specs.Prelude.{◌≡◌, ◌<◌, [], IfOk, OnOk};
-ghost use Rattle.lv_core.specs.Run.{Gave, state_of};
-ghost use Rattle.lv_plain.specs.Following.{IsFollowable};
+//! The events of a program, one after another, each with its text.
+ghost use Rattle.std.specs.Prelude.{◌≡◌, ◌≤◌, ◌∷◌, ◌++◌, [], List, Err, IsTrue, OnErr, OnOk};
+ghost use Rattle.std.specs.Io.KnownBytes.{Appends};
+ghost use Rattle.lv_core.specs.Run.{Gave, IsSame, state_of};
+ghost use Rattle.lv_lines.specs.Transcript.{entry_text};
+ghost use Rattle.lv_outside.specs.Causes.{AppendsFront, Rose};
+ghost use Rattle.lv_plain.specs.declared.entry.Entry.{Entry as AnEntry};
 ghost use Rattle.lv_plain.specs.Legal.{MayHappen};
-ghost use Rattle.lv_plain.specs.Limits.{IsWithinLimits};
-ghost use Rattle.lv_runner.specs.Built.{IsBuilt};
-ghost use Rattle.lv_runner.specs.Following.{HasFollowed, IsDoneEvent, IsRunOfProgram, MayFollow};
+ghost use Rattle.lv_runner.specs.Following.{GoesOn, HasAnswered, HasFollowed, HasStopped, HasStoppedAt, IsScheduled, MayFollow, WereNames, names_now, text_now};
+ghost use Rattle.lv_runner.specs.declared.writing.Stop.TheVariants as stop;
 
+use crate::naming::{names_of, renew_names};
+use crate::writing::{Stop, write_last};
 use lv_core::Core;
-use lv_engine::{Engine, Settings};
-use lv_order::{each_event_may_come, events_in_order};
-use lv_picker::Picker;
-use lv_plain::{Event, Program};
+use lv_lines::Names;
+use lv_namelaw::more_names_give_the_same_text;
+use lv_outside::{Disk, Sink};
+use lv_plain::Event;
 use lv_values::{Items, NoMemory, Steps};
 use std::alloc::Global;
-use std::sync::ledger::{Blank, Ledger};
+use std::sync::ledger::Ledger;
 
-/// How many pending tasks of a view one step may combine.
-const COMBINE: u32 = 16;
-
-/// Answers an event.
-fn answer_event<L: Ledger>(
+/// Answers an event. Want of memory changes nothing.
+fn answer_event<D: Disk, L: Ledger>(
     alloc: Global,
-    core: &mut Core,
+    core: &mut Core<D>,
     event: &Event,
     steps: &mut Steps<L>,
 ) -> Result<(), NoMemory>
     requires may { MayHappen core.old.run.program (state_of core.old.run) event.now }
-    requires done { IsDoneEvent event.now }
-    ensures { OnOk result (Gave event.now core.old.run core.new.run) }
+    requires scheduled { IsScheduled event.now }
+    ensures gave { OnOk result (Gave D.seen D.may_leave D.failures event.now core.old.run core.new.run) }
+    ensures same { OnErr result (IsSame core.old.run core.new.run) }
 {
     core.known();
     match event {
         Event::Turn { session } => core.turn(alloc, *session, Items::new(alloc), steps),
         Event::Fetch { worker } => core.fetch(alloc, *worker, steps),
         Event::Install { worker } => core.install_slot(alloc, *worker, steps),
+        Event::Mark { view } => core.mark(alloc, view),
         Event::Clean => core.clean(alloc),
-        Event::Release { .. } | Event::Mark { .. } => Ok(()),
+        Event::Release { .. } => Ok(()),
     }
 }
 
-/// Answers these events, one after another, from the begin of the program.
-fn follow<L: Ledger>(
+/// Writes the entry that an event has added, under the names that there are then.
+fn write_entry<K: Sink, D: Disk>(
     alloc: Global,
-    core: &mut Core,
-    events: &[Event],
+    core: &Core<D>,
+    names: &mut Names,
+    sink: &mut K,
+) -> Result<(), Stop>
+    requires { WereNames names.old core.now.run }
+    ensures names { OnOk result (names.new ≡ names_now core.now.run) }
+    ensures all { (es : List AnEntry) (e : AnEntry) → core.now.run.entries ≡ es ++ e ∷ [] → OnOk result (Appends (K.written sink.old) (K.written sink.new) (entry_text (names_now core.now.run) e)) }
+    ensures part { (es : List AnEntry) (e : AnEntry) → core.now.run.entries ≡ es ++ e ∷ [] → AppendsFront (K.written sink.old) (K.written sink.new) (entry_text (names_now core.now.run) e) }
+    ensures later { K.faults sink.old ≤ K.faults sink.new }
+    ensures cause { result ≡ Err stop.Sink → Rose (K.faults sink.old) (K.faults sink.new) }
+{
+    renew_names(alloc, core, names)?;
+    write_last(alloc, core, names, sink)
+}
+
+/// Answers an event and writes its entry.
+fn follow_event<K: Sink, D: Disk, L: Ledger>(
+    alloc: Global,
+    core: &mut Core<D>,
+    names: &mut Names,
+    event: &Event,
+    sink: &mut K,
     steps: &mut Steps<L>,
-) -> Result<(), NoMemory>
+) -> Result<(), Stop>
+    requires may { MayHappen core.old.run.program (state_of core.old.run) event.now }
+    requires scheduled { IsScheduled event.now }
+    requires names { names.old ≡ names_now core.old.run }
+    ensures all { OnOk result (HasAnswered D.seen D.may_leave D.failures event.now core.old.run core.new.run (K.written sink.old) (K.written sink.new)) }
+    ensures names { OnOk result (names.new ≡ names_now core.new.run) }
+    ensures part { OnErr result (HasStoppedAt D.seen D.may_leave D.failures event.now core.old.run core.new.run (K.written sink.old) (K.written sink.new)) }
+    ensures later { K.faults sink.old ≤ K.faults sink.new }
+    ensures cause { result ≡ Err stop.Sink → Rose (K.faults sink.old) (K.faults sink.new) }
+{
+    answer_event(alloc, core, event, steps)?;
+    write_entry(alloc, core, names, sink)
+}
+
+/// Answers these events, one after another, from the begin of the program, and writes the entry of each.
+fn follow<K: Sink, D: Disk, L: Ledger>(
+    alloc: Global,
+    core: &mut Core<D>,
+    names: &mut Names,
+    events: &[Event],
+    sink: &mut K,
+    steps: &mut Steps<L>,
+) -> Result<(), Stop>
     requires fresh { core.old.run.entries ≡ [] }
     requires may { MayFollow core.old.run.program events.now }
-    ensures program { OnOk result (core.new.run.program ≡ core.old.run.program) }
-    ensures settings { OnOk result (core.new.run.settings ≡ core.old.run.settings) }
+    requires names { names.old ≡ names_now core.old.run }
+    ensures same { GoesOn core.old.run core.new.run }
     ensures followed { OnOk result (HasFollowed core.new.run events.now) }
+    ensures all { OnOk result (Appends (K.written sink.old) (K.written sink.new) (text_now core.new.run)) }
+    ensures part { OnErr result (HasStopped core.new.run events.now (K.written sink.old) (K.written sink.new)) }
+    ensures later { K.faults sink.old ≤ K.faults sink.new }
+    ensures cause { result ≡ Err stop.Sink → Rose (K.faults sink.old) (K.faults sink.new) }
 {
+    more_names_give_the_same_text();
     core.known();
     for event in events {
-        answer_event(alloc, core, event, steps)?;
+        follow_event(alloc, core, names, event, sink, steps)?;
     }
     Ok(())
 }
 
-/// The run of a whole program: each event of its schedule is answered, in order. Nobody looks at the count of the rows that
-/// are read.
-pub(crate) fn run_program<L: Ledger>(
+/// Answers these events and writes the entry of each; at the end all of it is flushed.
+pub(crate) fn write_run<K: Sink, D: Disk, L: Ledger>(
     alloc: Global,
-    program: Program,
-    picker: Picker,
-    blank: Blank,
-) -> Result<Core, NoMemory>
-    requires name { blank.name ≡ L.name }
-    requires parts { blank.parts ≡ L.parts }
-    requires some { 0 < blank.parts }
-    requires within { IsWithinLimits program }
-    requires followable { IsFollowable program }
-    requires built { IsBuilt program }
-    requires policy { picker.kind ≡ 0 }
-    ensures { IfOk result (λ core. IsRunOfProgram program core.run) }
+    core: &mut Core<D>,
+    events: &[Event],
+    sink: &mut K,
+    steps: &mut Steps<L>,
+) -> Result<(), Stop>
+    requires fresh { core.old.run.entries ≡ [] }
+    requires may { MayFollow core.old.run.program events.now }
+    ensures same { GoesOn core.old.run core.new.run }
+    ensures followed { OnOk result (HasFollowed core.new.run events.now) }
+    ensures all { OnOk result (Appends (K.written sink.old) (K.written sink.new) (text_now core.new.run)) }
+    ensures flushed { OnOk result (IsTrue (K.is_flushed sink.new)) }
+    ensures part { OnErr result (HasStopped core.new.run events.now (K.written sink.old) (K.written sink.new)) }
+    ensures later { K.faults sink.old ≤ K.faults sink.new }
+    ensures cause { result ≡ Err stop.Sink → Rose (K.faults sink.old) (K.faults sink.new) }
 {
-    each_event_may_come();
-    let events = events_in_order(alloc, &program)?;
-    let engine = Engine::new(alloc, Settings { combine: COMBINE })?;
-    let mut core = Core::new(alloc, engine, program, picker)?;
-    let mut steps = Steps::<L>::new(blank);
-    follow(alloc, &mut core, events.as_slice(), &mut steps)?;
-    Ok(core)
+    core.known();
+    let mut names = names_of(alloc, core)?;
+    follow(alloc, core, &mut names, events, sink, steps)?;
+    sink.flush()?;
+    Ok(())
 }

@@ -9,13 +9,16 @@ pub enum Status {
     /// The words are refused.
     Words,
     /// The script is refused: the first line with a fault, counted from 1, and the lowest kind of its faults, 1 to 12.
-    /// A script that is too long has kind 2 at line 0. Kind 0 is no fault: all of the script is read, and the line is the
-    /// first up to which it says a program that is not run yet.
+    /// A script that is too long has kind 2 at line 0.
     Script { line: u64, kind: u8 },
     /// The source failed.
     SourceFault,
     /// The sink failed.
     SinkFault,
+    /// The journal is bad at this place.
+    BadJournal { offset: u64 },
+    /// No disk was handed out, or the one that was could not be read.
+    OpenFault,
     /// Memory was refused.
     NoMemory,
 }
@@ -33,6 +36,8 @@ impl Status {
             Status::Script { line: _, kind: _ } => 2,
             Status::SourceFault => 3,
             Status::SinkFault => 4,
+            Status::BadJournal { offset: _ } => 5,
+            Status::OpenFault => 6,
             Status::NoMemory => 8,
         }
     }

@@ -1,117 +1,111 @@
 //! The top call.
-ghost use Rattle.std.specs.Prelude.{◌≡◌, ◌≤◌, ◌<◌, ◌↔◌, ◌∷◌, ℕ, [], IsTrue, MatchResult, OnOk, length, map};
-ghost use Rattle.std.specs.Io.KnownBytes.{Appends, Consumes, IsAtEnd, Keeps};
-ghost use Rattle.lv_outside.specs.Causes.{AppendsFront, HasCause, Rose};
-ghost use Rattle.lv_runner.specs.Output.{limit};
-ghost use Rattle.lv_runner.specs.Run.{Did, DidPart, Ends, HasText, Outside, Refused, WhyNone};
+ghost use Rattle.std.specs.Prelude.{◌≡◌, ◌≤◌, ◌<◌, ◌-◌, ◌^◌, ◌↔◌, ◌⊎◌, ◌∷◌, ℕ, [], false, IsTrue, Option, None, IfSome, List, map, option_map};
+ghost use Rattle.std.specs.Io.KnownBytes.{Keeps};
+ghost use Rattle.lv_outside.specs.Causes.{Rose};
+ghost use Rattle.lv_recover.specs.Opening.{BadAt};
+ghost use Rattle.lv_runner.specs.Ends.{DidAll, DidPart, Ends, FailedOpening, HandedOut, NotAsked, Refused, TurnedAway, unread_as};
+ghost use Rattle.lv_runner.specs.Words.{are_accepted, path_in};
 
-use crate::output::{NoText, output};
+use crate::opening::open_and_run;
+use crate::ran::Ran;
+use crate::reading::{Unread, read_plan};
 use crate::status::Status;
-use lv_outside::{Ended, Failed, ReadFault, Sink, Source, read_whole, write_whole};
+use crate::words::{WordsRefused, read_words};
+use lv_outside::{Disks, Sink, Source};
 use lv_picker::Picker;
-use lv_values::{Bytes, Items, Text};
+use lv_values::{Items, Text};
 use std::alloc::Global;
 
-/// The most bytes of a script.
-const LIMIT: usize = 16777216;
-
-/// Reads the bytes of a script.
-#[tactic(auto, using(crate::proofs::Written::past_limit))]
-fn read_bytes<S: Source>(alloc: Global, source: &mut S) -> Result<Bytes, NoText>
-    ensures read { MatchResult result (λ bytes. Consumes (S.left source.old) (S.left source.new) bytes × IsAtEnd (S.left source.new) × (length bytes ≤ limit))
-        (WhyNone (S.left source.old) (S.left source.new) (S.faults source.old) (S.faults source.new)) }
-    ensures count { S.faults source.old ≤ S.faults source.new }
-{
-    match read_whole(alloc, source, LIMIT) {
-        Ok((bytes, Ended::AtEnd)) => Ok(bytes),
-        Ok((_, Ended::PastLimit)) => Err(NoText::Script { line: 0, kind: 2 }),
-        Err(ReadFault::Failed) => Err(NoText::Source),
-        Err(ReadFault::NoMemory) => Err(NoText::NoMemory),
-    }
-}
-
-/// Reads a script and answers it.
-#[tactic(auto, using(crate::proofs::Ends::text_read))]
-fn read_text<S: Source>(alloc: Global, source: &mut S, picker: Picker) -> Result<Bytes, NoText>
-    requires policy { picker.kind ≡ 0 }
-    ensures text { MatchResult result (HasText (S.left source.old) (S.left source.new)) (WhyNone (S.left source.old) (S.left source.new) (S.faults source.old) (S.faults source.new)) }
-    ensures count { S.faults source.old ≤ S.faults source.new }
-{
-    let bytes = read_bytes(alloc, source)?;
-    output(alloc, bytes.as_slice(), picker)
-}
-
-/// Writes a text and flushes it.
-fn write_text<K: Sink>(sink: &mut K, text: &[u8]) -> Result<(), Failed>
-    ensures all { OnOk result (Appends (K.written sink.old) (K.written sink.new) text.now × IsTrue (K.is_flushed sink.new)) }
-    ensures part { AppendsFront (K.written sink.old) (K.written sink.new) text.now }
-    ensures cause { HasCause (K.faults sink.old) (K.faults sink.new) result }
-{
-    write_whole(sink, text)?;
-    sink.flush()
-}
-
-/// The status where there is no text.
-fn status_of(why: NoText) -> Status
-    ensures { (old new : Outside) → WhyNone old.left new.left old.source_faults new.source_faults why → Keeps old.written new.written → Ends old new result }
+/// The status where there is no program.
+fn status_of(why: Unread) -> Status
+    ensures { result ≡ unread_as why }
 {
     match why {
-        NoText::Script { line, kind } => Status::Script { line, kind },
-        NoText::Source => Status::SourceFault,
-        NoText::NoMemory => Status::NoMemory,
+        Unread::Script { line, kind } => Status::Script { line, kind },
+        Unread::Source => Status::SourceFault,
+        Unread::NoMemory => Status::NoMemory,
     }
 }
 
-/// Reads a script, answers it and writes its transcript.
-#[tactic(auto, using(crate::proofs::Ends::did_text, crate::proofs::Ends::did_part))]
-fn answer<S: Source, K: Sink>(alloc: Global, source: &mut S, sink: &mut K, picker: Picker) -> Status
+/// Reads a script and runs it over the disk of a path.
+fn answer<S: Source, K: Sink, O: Disks>(
+    alloc: Global,
+    source: &mut S,
+    sink: &mut K,
+    disks: &mut O,
+    path: Option<&Text>,
+    picker: Picker,
+) -> Ran<O::Disk>
+    requires asked { (O.openings disks.old).asked < 2 ^ 64 - 1 }
     requires policy { picker.kind ≡ 0 }
-    ensures ends { Ends
-        (record { left = S.left source.old; source_faults = S.faults source.old; written = K.written sink.old; is_flushed = K.is_flushed sink.old; sink_faults = K.faults sink.old })
-        (record { left = S.left source.new; source_faults = S.faults source.new; written = K.written sink.new; is_flushed = K.is_flushed sink.new; sink_faults = K.faults sink.new })
-        result }
+    ensures ends { Ends O.Disk.seen O.Disk.failures (O.holds disks.old (option_map (λ p. p.now) path.entry)) (option_map (λ p. p.now) path.entry)
+        (record { left = S.left source.old; source_faults = S.faults source.old; written = K.written sink.old; is_flushed = K.is_flushed sink.old; sink_faults = K.faults sink.old; disks_faults = O.failures disks.old; openings = O.openings disks.old })
+        (record { left = S.left source.new; source_faults = S.faults source.new; written = K.written sink.new; is_flushed = K.is_flushed sink.new; sink_faults = K.faults sink.new; disks_faults = O.failures disks.new; openings = O.openings disks.new })
+        result.disk result.status }
     ensures source_count { S.faults source.old ≤ S.faults source.new }
     ensures sink_count { K.faults sink.old ≤ K.faults sink.new }
+    ensures disks_count { O.failures disks.old ≤ O.failures disks.new }
 {
-    match read_text(alloc, source, picker) {
-        Ok(text) => match write_text(sink, text.as_slice()) {
-            Ok(()) => Status::Done,
-            Err(Failed) => Status::SinkFault,
+    match read_plan(alloc, source) {
+        Ok(plan) => open_and_run(alloc, plan, picker, sink, disks, path),
+        Err(why) => Ran {
+            status: status_of(why),
+            disk: None,
         },
-        Err(why) => status_of(why),
     }
 }
 
-/// Reads a script and writes its transcript.
+/// Reads a script, opens a journal, and writes the script's transcript.
 ///
-/// The statements of the setup and the sessions are answered in the order of the program's schedule, each transaction on
-/// the snapshot at its start with its own writes, and each view as by its definition over the snapshot that a query reads.
-/// A query first brings the views that it reads up to its snapshot, and the transcript shows by which steps. What workers
-/// and clean-ups do between statements the transcript shows too, and no reply depends on it. The pickers are three, of
-/// kinds 0, 1 and 2; workers take the view with the oldest task. The whole text stands before the first write, so want of
-/// memory writes nothing. Cost: linear in the script, and what each event takes.
-#[tactic(auto, using(crate::proofs::Ends::is_done, crate::proofs::Ends::not_words, crate::proofs::Ends::is_script, crate::proofs::Ends::is_source, crate::proofs::Ends::is_sink, crate::proofs::Ends::kept_unless))]
-pub fn run<S: Source, K: Sink>(
+/// The words are none, or `--log` and the path of the journal; without a path it is empty and lies in memory. The statements
+/// of the setup and the sessions are answered in the order of the program's schedule, over the world that the journal's
+/// records make: each transaction on the snapshot at its start with its own writes, and each view as by its definition over
+/// the snapshot that a query reads. A query first brings the views that it reads up to its snapshot, and the transcript shows
+/// by which steps. What workers, marks and clean-ups do between statements the transcript shows too, and no reply depends on
+/// it but that of a full journal. Each entry is written as one piece, right after the call that gave it; so where the run ends
+/// early, whole entries and perhaps a part of one more are written, and the disk has their records. The disk comes back
+/// wherever one was handed out. The pickers are three, of kinds 0, 1 and 2; workers take the view with the oldest task.
+/// Cost: linear in the script and the journal, and what each event takes.
+#[tactic(auto, using(crate::proofs::Ended::is_done, crate::proofs::Ended::not_words, crate::proofs::Ended::is_script, crate::proofs::Ended::is_source, crate::proofs::Ended::is_sink, crate::proofs::Ended::is_bad, crate::proofs::Ended::is_open, crate::proofs::Ended::is_short, crate::proofs::Ended::at_most_once, crate::proofs::Ended::kept_unless))]
+pub fn run<S: Source, K: Sink, O: Disks>(
     alloc: Global,
     words: &[Text],
     source: &mut S,
     sink: &mut K,
+    disks: &mut O,
     mut pickers: Items<Picker>,
-) -> Status
+) -> Ran<O::Disk>
     requires pickers { map (λ p. p.kind) pickers ≡ 0 ∷ 1 ∷ 2 ∷ [] }
-    ensures done { result ≡ Status.Done → Did (S.left source.old) (S.left source.new) (K.written sink.old) (K.written sink.new) }
-    ensures flushed { result ≡ Status.Done → IsTrue (K.is_flushed sink.new) }
-    ensures words { (result ≡ Status.Words) ↔ (0 < length words.now) }
-    ensures script { (line kind : ℕ) → result ≡ Status.Script line kind → Refused (S.left source.old) (S.left source.new) line kind }
-    ensures source { result ≡ Status.SourceFault → Rose (S.faults source.old) (S.faults source.new) }
-    ensures sink { result ≡ Status.SinkFault → Rose (K.faults sink.old) (K.faults sink.new) }
-    ensures part { result ≡ Status.SinkFault → DidPart (S.left source.old) (S.left source.new) (K.written sink.old) (K.written sink.new) }
-    ensures nothing { (result ≡ Status.Done → ⊥) → (result ≡ Status.SinkFault → ⊥) → Keeps (K.written sink.old) (K.written sink.new) }
+    requires asked { (O.openings disks.old).asked < 2 ^ 64 - 1 }
+    // Done: the whole text was written and flushed.
+    ensures done { result.status ≡ Status.Done → DidAll O.Disk.seen O.Disk.failures (O.holds disks.old (path_in words.now)) (S.left source.old) (S.left source.new) (K.written sink.old) (K.written sink.new) (O.openings disks.new).count result.disk }
+    ensures flushed { result.status ≡ Status.Done → IsTrue (K.is_flushed sink.new) }
+    ensures words { (result.status ≡ Status.Words) ↔ (are_accepted words.now ≡ false) }
+    ensures script { (line kind : ℕ) → result.status ≡ Status.Script line kind → Refused (S.left source.old) (S.left source.new) line kind }
+    ensures source { result.status ≡ Status.SourceFault → Rose (S.faults source.old) (S.faults source.new) }
+    // A failing sink took a part of the text.
+    ensures sink { result.status ≡ Status.SinkFault → Rose (K.faults sink.old) (K.faults sink.new) }
+    ensures part { result.status ≡ Status.SinkFault → DidPart O.Disk.seen O.Disk.failures (O.holds disks.old (path_in words.now)) (S.left source.old) (S.left source.new) (K.written sink.old) (K.written sink.new) (O.openings disks.new).count result.disk }
+    ensures bad { (offset : ℕ) → result.status ≡ Status.BadJournal offset → IfSome (O.holds disks.old (path_in words.now)) (λ bytes. BadAt bytes offset) }
+    ensures open { result.status ≡ Status.OpenFault → FailedOpening O.Disk.failures (O.failures disks.old) (O.failures disks.new) (O.openings disks.new).count result.disk }
+    // Want of memory has no cause; before the first event it writes nothing.
+    ensures short { result.status ≡ Status.NoMemory → Keeps (K.written sink.old) (K.written sink.new)
+        ⊎ DidPart O.Disk.seen O.Disk.failures (O.holds disks.old (path_in words.now)) (S.left source.old) (S.left source.new) (K.written sink.old) (K.written sink.new) (O.openings disks.new).count result.disk }
+    ensures nothing { (result.status ≡ Status.Done → ⊥) → (result.status ≡ Status.SinkFault → ⊥) → (result.status ≡ Status.NoMemory → ⊥) → Keeps (K.written sink.old) (K.written sink.new) }
+    // Which openings were asked, and when the disk comes back.
+    ensures unasked { (result.status ≡ Status.Words) ⊎ ((line kind : ℕ) × (result.status ≡ Status.Script line kind)) ⊎ (result.status ≡ Status.SourceFault) → NotAsked (O.openings disks.old) (O.openings disks.new) result.disk }
+    ensures opened { (result.status ≡ Status.Done) ⊎ (result.status ≡ Status.SinkFault) ⊎ ((offset : ℕ) × (result.status ≡ Status.BadJournal offset)) → HandedOut (path_in words.now) (O.openings disks.old) (O.openings disks.new) result.disk }
+    ensures once { result.status ≡ Status.OpenFault → HandedOut (path_in words.now) (O.openings disks.old) (O.openings disks.new) result.disk ⊎ TurnedAway (path_in words.now) (O.openings disks.old) (O.openings disks.new) result.disk }
+    ensures at_most_once { result.status ≡ Status.NoMemory → NotAsked (O.openings disks.old) (O.openings disks.new) result.disk ⊎ HandedOut (path_in words.now) (O.openings disks.old) (O.openings disks.new) result.disk }
     ensures source_count { S.faults source.old ≤ S.faults source.new }
     ensures sink_count { K.faults sink.old ≤ K.faults sink.new }
+    ensures disks_count { O.failures disks.old ≤ O.failures disks.new }
 {
-    if !words.is_empty() {
-        return Status::Words;
+    match read_words(words) {
+        Ok(path) => answer(alloc, source, sink, disks, path, pickers.remove(0)),
+        Err(WordsRefused) => Ran {
+            status: Status::Words,
+            disk: None,
+        },
     }
-    answer(alloc, source, sink, pickers.remove(0))
 }

@@ -3,7 +3,7 @@ use Rattle.std.specs.Prelude.{IfOk, Result}
 use Rattle.lv_schema.specs.declared.bound.Bound.{Bound}
 use Rattle.lv_schema.specs.declared.fault.Fault.{Fault}
 use Rattle.lv_plain.specs.Machine.{steps_of}
-use Rattle.lv_engine.specs.Answering.{input_between}
+use Rattle.lv_store.specs.Answering.{input_between}
 use Rattle.lv_core.proofs.Standing.{line_told, live_told}
 use Rattle.lv_core.proofs.answering.stale_line.Goals as goal
 

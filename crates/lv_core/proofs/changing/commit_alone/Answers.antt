@@ -1,20 +1,23 @@
-use Rattle.std.proofs.Common.{◌≡◌, None, refl, sym, ◌∙◌, subst}
-use Rattle.lv_schema.specs.Cases.{committed, good}
-use Rattle.lv_plain.specs.declared.entry.Reply.TheVariants as reply
-use Rattle.lv_txn.specs.Kept.{IsLive}
-use Rattle.lv_engine.specs.Answering.{commit_fault}
-use Rattle.lv_engine.specs.Store.{Store}
-use Rattle.lv_core.proofs.CaseAnswers.{gives, refused_same}
+use Rattle.std.proofs.Common.{false, subst}
+use Rattle.std.specs.Prelude.{Option}
+use Rattle.lv_schema.specs.declared.fault.Fault.{Fault}
+use Rattle.lv_schema.specs.Cases.{committed}
+use Rattle.lv_schema.specs.UpkeepCases.{outcome_of}
+use Rattle.lv_engine.specs.Answering.{commit_fault, shows_store}
+use Rattle.lv_core.specs.Answering.{IsRefusal}
+use Rattle.lv_core.proofs.CaseAnswers.{alone_ok, alone_refused, commit_store, errs, given_up}
 use Rattle.lv_core.proofs.changing.commit_alone.Goals as goal
 
-pub not_committed-requires-clause-live : goal.not_committed-requires-clause-live
-not_committed-requires-clause-live c = λ none.
-    let w = c.known.ensures.0 in
-    let is_none : commit_fault c.in-Err.fault ≡ None = sym c.fault_of_commit.ensures ∙ none in
-    let same = refused_same (commit_fault c.in-Err.fault) w c.args.engine.now c.commit.new.self (committed (λ _. good) c.args.session w.visible) is_none (c.in-Err.ensures.case w (λ _. good) (λ _. refl) c.known.ensures.1) in
-    subst (λ (e : Store). IsLive e.sessions c.args.session) (sym same) c.requires.live
-
 pub returns-in-Ok-clause-case : goal.returns-in-Ok-clause-case
-returns-in-Ok-clause-case c = λ w outcome written stands.
-    gives (reply.Alone c.args.count) (committed outcome c.args.session w.visible) w c.commit.new.self c.replied.result c.replied.ensures.forced c.in-Ok.number c.replied.ensures.reply
-    (c.in-Ok.ensures.case w outcome written stands)
+returns-in-Ok-clause-case g c = λ w settings limit stands.
+    alone_ok g.D.Disk.seen g.D.Disk.may_leave g.D.Disk.failures c.args.count c.args.session w c.args.engine.now (λ fails. committed (outcome_of settings fails w.upkeep) c.args.session w.visible) false c.commit.new.self c.replied.result c.in-Ok.number
+    c.replied.ensures.forced c.replied.ensures.reply (c.in-Ok.ensures.case w settings limit stands) (record { logs = c.in-Ok.ensures.log w settings limit stands; later = c.in-Ok.ensures.later }) (λ fails. absurd cc)
+
+pub returns-in-Err-clause-case : goal.returns-in-Err-clause-case
+returns-in-Err-clause-case g c = λ w settings limit stands.
+    let e = c.in-Err.fault in
+    alone_refused g.D.Disk.seen g.D.Disk.may_leave g.D.Disk.failures c.args.count c.args.session w c.args.engine.now (λ fails. committed (outcome_of settings fails w.upkeep) c.args.session w.visible) (shows_store (commit_fault e)) c.commit.new.self c.give_up.new.engine
+    c.in-Err.ensures.later (λ is. c.in-Err.ensures.cause (errs e _ (commit_store e is))) c.give_up.ensures.others c.give_up.ensures.case
+    (λ f is. given_up (outcome_of settings (shows_store (commit_fault e)) w.upkeep) c.args.session w f is)
+    c.refusal.result (commit_fault e) (subst (λ (f : Option Fault). IsRefusal f c.refusal.result) c.fault_of_commit.ensures c.refusal.ensures) (c.in-Err.ensures.case w settings limit stands)
+    (c.in-Err.ensures.log w settings limit stands)

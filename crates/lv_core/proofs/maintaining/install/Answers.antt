@@ -6,7 +6,7 @@ use Rattle.lv_core.proofs.maintaining.install.Goals as goal
 
 pub returns-then-is_none-clause-entry : goal.returns-then-is_none-clause-entry
 returns-then-is_none-clause-entry g c = λ rules s stands.
-    let none : claim_kept c.args.engine.now.upkeep c.args.worker ≡ None = sym c.claim.ensures ∙ none_is c.claim.result c.if-is_none.ensures in
+    let none : claim_kept c.args.engine.now.store.upkeep c.args.worker ≡ None = sym c.claim.ensures ∙ none_is c.claim.result c.if-is_none.ensures in
     empty_gives rules s c.args.engine.now c.args.worker stands none
 
 pub returns-clause-entry : goal.returns-clause-entry

@@ -1,26 +1,26 @@
-use Rattle.std.proofs.Common.{◌≡◌, ℕ, List, length, map, refl, sym, subst}
-use Rattle.std.specs.Prelude.{◌<◌, IfOk}
+use Rattle.std.proofs.Common.{◌≡◌, ◌<◌, ℕ, List, length, map, refl, sym, subst}
+use Rattle.std.specs.Prelude.{IfOk}
 use Rattle.lv_plain.specs.Machine.{steps_of}
 use Rattle.lv_plain.specs.Turns.{bound_line}
 use Rattle.lv_bind.specs.Reads.{reads}
-use Rattle.lv_engine.specs.Answering.{input_between}
-use Rattle.lv_core.specs.Run.{CoreView, next_steps, state_of}
-use Rattle.lv_core.proofs.Held.{place_held, view}
-use Rattle.lv_core.proofs.Turns.{next_line_is}
+use Rattle.lv_store.specs.Answering.{input_between}
+use Rattle.lv_core.specs.Run.{next_steps, state_of, view_of}
+use Rattle.lv_core.proofs.Turns.{next_line_is, place_held}
 use Rattle.lv_core.proofs.running.Run.stale.Goals as goal
 
 pub place_of-place-requires : goal.place_of-place-requires
 place_of-place-requires g c =
-    subst (λ (ps : List ℕ). c.args.session < length ps) (sym c.as_slice.ensures) (place_held c.self.inside c.args.self.now c.self.invariant c.self.view_is c.args.session c.requires.may)
+    let r = c.self.inside in
+    subst (λ (ps : List ℕ). c.args.session < length ps) (sym c.as_slice.ensures) (place_held g.D.Disk.seen g.D.Disk.may_leave g.D.Disk.failures r.policy r.program r.engine r.opening.engine.value r.places r.entries.list c.args.self.now c.self.invariant.roomy.run c.self.view_is c.args.session c.requires.may)
 
 pub returns : goal.returns
 returns g c =
     let r = c.self.inside in
-    let v = view r in
+    let v = view_of r.policy r.program r.engine r.opening.engine.value r.places r.entries.list in
     let w = (state_of v).world in
     let line = next_line_is r.program r.places c.as_slice.result.now c.args.session c.place_of-place.result c.line_left-line.result.now c.as_slice.ensures c.place_of-place.ensures c.line_left-line.ensures.line in
     record {
-      inputs = subst (λ (x : CoreView). IfOk c.stale_line.result (λ inputs. inputs ≡ map (input_between (state_of x).world.visible) (next_steps x c.args.session))) c.self.view_is
+      inputs = subst (λ x. IfOk c.stale_line.result (λ inputs. inputs ≡ map (input_between (state_of x).world.visible) (next_steps x c.args.session))) c.self.view_is
           (subst (λ (l : List ℕ). IfOk c.stale_line.result (λ inputs. inputs ≡ map (input_between w.visible) (steps_of v.settings c.args.session (bound_line reads c.args.session l w.visible) w))) line
-          (c.stale_line.ensures w v.settings refl c.self.invariant.run.stands));
+          (c.stale_line.ensures w v.settings refl c.self.invariant.roomy.run.stands));
     }

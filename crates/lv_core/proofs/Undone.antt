@@ -1,0 +1,68 @@
+-- A run in which want of memory has left all but the room in the journal goes on.
+use Rattle.std.proofs.Common.{◌≡◌, ℕ, ◌≤◌, List, ◌++◌, Option, refl, sym, ap, ◌∙◌, subst, arith}
+use Rattle.std.specs.Prelude.{◌+◌, ◌-◌, ◌^◌, min}
+use Rattle.lv_schema.specs.World.{World}
+use Rattle.lv_plain.specs.declared.entry.Entry.{Entry}
+use Rattle.lv_plain.specs.declared.program.Program.{Program}
+use Rattle.lv_plain.specs.Programs.{Places}
+use Rattle.lv_store.specs.Kept.{StoreKept}
+use Rattle.lv_store.specs.Kept as store
+use Rattle.lv_engine.specs.Kept.{EngineView, IsSame, Stands}
+use Rattle.lv_core.specs.Answering.{IsUndone}
+use Rattle.lv_core.specs.Run.{CoreView, IsRoomy, IsRun, failures_shown, settings_of, state_of, view_of, written_of}
+use Rattle.lv_core.specs.Run as run
+
+stands_yet : {D : Type 0} (w : World) (old new : EngineView D) → IsSame old new → Stands w old → Stands w new
+stands_yet w old new same h = record {
+  store_stands = subst (λ (s : StoreKept). store.Stands w s) (sym same.store_is) h.store_stands;
+  journal_is = same.length_is ∙ h.journal_is;
+}
+
+still_caused : (shown old new : ℕ) → min shown (2 ^ 64 - 1) ≤ old → old ≤ new → min shown (2 ^ 64 - 1) ≤ new
+still_caused shown old new le later = omega (arith, le, later)
+
+-- the run over another engine
+abbrev pub over : {D : Type 0} → CoreView D → EngineView D → CoreView D
+over c new = record c { engine = new }
+
+module _ {D : Type 0} (seen : D → Option (List ℕ)) (may_leave : D → List ℕ → Type 0) (failures : D → ℕ) where
+  module _ (c : CoreView D) (new : EngineView D) (undone : IsUndone seen may_leave failures c.engine new) where
+    pub same_run : run.IsSame c (over c new)
+    same_run = record { settings = refl; program = refl; opened = refl; places = refl; entries = refl; store = undone.same.store_is }
+
+    held_yet : IsRun seen may_leave failures c → IsRun seen may_leave failures (over c new)
+    held_yet held = record {
+      within = held.within;
+      settings_are = held.settings_are ∙ ap (λ (s : StoreKept). settings_of s.settings c.settings.policy) (sym undone.same.store_is);
+      opening = held.opening;
+      begins = held.begins;
+      legal = held.legal;
+      places_are = held.places_are;
+      claims = held.claims;
+      stands = stands_yet (state_of c).world c.engine new undone.same held.stands;
+      records = λ recs has. let before = held.records recs has in (before.0, undone.journal.logs (recs ++ written_of c) before.0 before.1);
+      caused = still_caused (failures c.opened.journal.disk + failures_shown c.entries) (failures c.engine.journal.disk) (failures new.journal.disk) held.caused undone.journal.later;
+    }
+
+    pub roomy_yet : (spare more : ℕ) → IsRoomy seen may_leave failures c spare → spare ≤ more → IsRoomy seen may_leave failures (over c new) more
+    roomy_yet spare more held le = record {
+      run = held_yet held.run;
+      room = omega (arith, held.room, le, ap (λ (s : StoreKept). run.claim_count s.upkeep.claims) undone.same.store_is);
+    }
+
+  -- what a run keeps then
+  module _ (policy : ℕ) (p : Program) (old new opened : EngineView D) (places : Places) (es later : List Entry) (c : CoreView D) (is : view_of policy p old opened places es ≡ c) (same : later ≡ es) (undone : IsUndone seen may_leave failures old new) where
+    abbrev seen_with : StoreKept → List Entry → CoreView D
+    seen_with s later = record { settings = settings_of s.settings policy; program = p; places = places; entries = later; engine = new; opened = opened }
+
+    over_is : view_of policy p new opened places later ≡ over c new
+    over_is = (λ i. seen_with (undone.same.store_is i) (same i)) ∙ ap (λ (v : CoreView D). over v new) is
+
+    undone_here : IsUndone seen may_leave failures c.engine new
+    undone_here = subst (λ (v : CoreView D). IsUndone seen may_leave failures v.engine new) is undone
+
+    pub same_undone : run.IsSame c (view_of policy p new opened places later)
+    same_undone = subst (λ (v : CoreView D). run.IsSame c v) (sym over_is) (same_run c new undone_here)
+
+    pub roomy_undone : (spare more : ℕ) → IsRoomy seen may_leave failures c spare → spare ≤ more → IsRoomy seen may_leave failures (view_of policy p new opened places later) more
+    roomy_undone spare more held le = subst (λ (v : CoreView D). IsRoomy seen may_leave failures v more) (sym over_is) (roomy_yet c new undone_here spare more held le)

@@ -1,6 +1,0 @@
-use Rattle.std.proofs.Common.{◌≡◌, map, take}
-use Rattle.lv_engine.specs.Querying.{input_in}
-use Rattle.lv_engine.proofs.parts.Parts.inputs.Given as goal
-
-abbrev pub invariant-loop-step : goal.invariant-loop-step
-invariant-loop-step g l = l.inputs ≡ map (input_in l.self) (take l.step-index l.forced)

@@ -1,8 +1,0 @@
-use Rattle.std.proofs.Common.{arith}
-use Rattle.lv_engine.proofs.OwnReads.{snapshot_within}
-use Rattle.lv_engine.proofs.parts.Parts.own_rows.Goals as goal
-
-pub merged_rows-requires-clause-floor : goal.merged_rows-requires-clause-floor
-merged_rows-requires-clause-floor g c =
-    let whole = c.requires.whole in
-    omega (arith, c.versions-versions.ensures.floor, c.snapshot-snapshot.ensures.live c.requires.live, snapshot_within c.args.self.now whole.world whole.stands c.args.session c.requires.live)

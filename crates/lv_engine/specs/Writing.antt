@@ -1,0 +1,22 @@
+-- What becomes of a record that is written.
+use Rattle.std.specs.Prelude.{◌≡◌, ℕ, List, Option, Some, None, Result, Ok, Err}
+use Rattle.lv_schema.specs.declared.rec.Rec.{Rec}
+use Rattle.lv_schema.specs.Cases.{Outcome, good, failed, full}
+use Rattle.lv_journal.specs.declared.writer.Writer.{Writer}
+use Rattle.lv_engine.specs.declared.fault.CreateFault.{CreateFault}
+use Rattle.lv_engine.specs.declared.fault.CreateFault.TheVariants.{Store, Full, NoMemory}
+use Rattle.lv_engine.specs.Records.{Logs}
+
+-- the outcome that an answer tells; want of memory tells none
+abbrev pub TellsOutcome : Result (Unit {0}) CreateFault → Outcome → Type 0
+TellsOutcome (Ok a) out = out ≡ good
+TellsOutcome (Err Store) out = out ≡ failed
+TellsOutcome (Err (Full need limit)) out = out ≡ full need limit
+TellsOutcome (Err NoMemory) out = Unit {0}
+
+-- and what the journal has then
+abbrev pub LogsWrite : {D : Type 0} → (D → Option (List ℕ)) → (D → List ℕ → Type 0) → Result (Unit {0}) CreateFault → Rec → Writer D → Writer D → Type 0
+LogsWrite seen may_leave (Ok a) rec old new = Logs seen may_leave (Some rec) (Some rec) old new
+LogsWrite seen may_leave (Err Store) rec old new = Logs seen may_leave (Some rec) None old new
+LogsWrite seen may_leave (Err (Full need limit)) rec old new = Logs seen may_leave None None old new
+LogsWrite seen may_leave (Err NoMemory) rec old new = Logs seen may_leave None None old new

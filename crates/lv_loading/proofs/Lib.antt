@@ -1,0 +1,12 @@
+pub mod Acting
+pub mod AddedTasks
+pub mod Fits
+pub mod Free
+pub mod MadeViews
+pub mod Opened
+pub mod Standing
+pub mod Taken
+pub mod TakenCommits
+pub mod TakenMarks
+pub mod TakenTables
+pub mod TakenViews

@@ -1,0 +1,50 @@
+//! The rows of all views, once the records are taken.
+ghost use Rattle.std.specs.Prelude.{◌≡◌, ◌<◌, ◌≤◌, length, IfOk};
+ghost use Rattle.lv_loading.specs.Making.{AreMade, IsMadeAt};
+ghost use Rattle.lv_loading.specs.Taking.{IsWhole};
+
+use crate::making::{made_view, parts_at};
+use crate::parts::Parts;
+use lv_values::{Copying, NoMemory, Room, Steps};
+use lv_viewrows::ViewRows;
+use std::alloc::Global;
+use std::sync::ledger::Ledger;
+
+impl Parts {
+    /// A view by its definition at the commit to which it is maintained. Cost: that of the join, and of a scan of its
+    /// tables.
+    fn evaluated<L: Ledger>(
+        &self,
+        alloc: Global,
+        view: u32,
+        steps: &mut Steps<L>,
+    ) -> Result<ViewRows, NoMemory>
+        requires whole { IsWhole self.now }
+        requires in_use { view < length self.now.schema.views }
+        ensures { IfOk result (IsMadeAt self.now view) }
+    {
+        let def = self.schema.view(view);
+        let commit = self.upkeep.point(view);
+        let parts = parts_at(alloc, &self.base, commit, def.tables.as_slice(), steps)?;
+        let copied = def.copy(alloc)?;
+        made_view(alloc, copied, commit, parts.as_slice())
+    }
+
+    /// All views by their definitions, each at the commit to which it is maintained.
+    pub(crate) fn evaluate_all<L: Ledger>(
+        &self,
+        alloc: Global,
+        steps: &mut Steps<L>,
+    ) -> Result<Room<ViewRows>, NoMemory>
+        requires whole { IsWhole self.now }
+        ensures { IfOk result (λ rows. AreMade self.now (length self.now.schema.views) rows.list) }
+    {
+        let mut rows = Room::new(alloc);
+        for view in 0..self.schema.views() {
+            let made = self.evaluated(alloc, view, steps)?;
+            rows.reserve(1)?;
+            rows.push(made);
+        }
+        Ok(rows)
+    }
+}

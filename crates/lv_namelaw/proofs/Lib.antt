@@ -1,0 +1,2 @@
+mod KeptTexts
+mod NamedAtMost

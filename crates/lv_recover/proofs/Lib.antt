@@ -1,0 +1,5 @@
+pub mod FreshStores
+pub mod OneWay
+pub mod Places
+pub mod Told
+pub mod Whole

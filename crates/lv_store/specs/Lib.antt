@@ -1,0 +1,6 @@
+pub mod Answering
+pub mod Committing
+pub mod MadeViews
+pub mod Maintaining
+pub mod Querying
+pub mod Kept

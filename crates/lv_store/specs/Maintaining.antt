@@ -1,0 +1,77 @@
+-- What the calls of workers and clean-ups say of the plain machine, in each world that the engine stood for.
+use Rattle.std.specs.Prelude.{◌≡◌, ℕ, min, List, [], ◌∷◌, slice_set, Option, Some, None, IsTrue}
+use Rattle.std.specs.List.{AllByRecursion}
+use Rattle.lv_schema.specs.declared.forced.Forced.{Forced}
+use Rattle.lv_schema.specs.declared.pending.Pending.{Pending}
+use Rattle.lv_schema.specs.StepPlans.{is_inside}
+use Rattle.lv_schema.specs.UpkeepCases.{Fetched, busy, idle, fetched, Installed, installed, moved}
+use Rattle.lv_schema.specs.UpkeepCases as schema
+use Rattle.lv_schema.specs.Versions.{ends_after}
+use Rattle.lv_schema.specs.WholeWorld.{Done}
+use Rattle.lv_schema.specs.World.{Visible}
+use Rattle.lv_maint.specs.Inputs.{Input}
+use Rattle.lv_stands.specs.Kept.{ViewKept}
+use Rattle.lv_stands.specs.Moves.{ViewCleaned, view_chosen}
+use Rattle.lv_txn.specs.Kept.{live_kept}
+use Rattle.lv_upkeep.specs.Kept.{planned_in, unclaimed_in}
+use Rattle.lv_viewrows.specs.Kept as viewrows
+use Rattle.lv_store.specs.declared.cleaned.Cleaned.{Cleaned}
+use Rattle.lv_store.specs.declared.installed.Installed.{Installed as InstallAnswer}
+use Rattle.lv_store.specs.declared.installed.Installed.TheVariants as answer
+use Rattle.lv_store.specs.declared.store.Store.{Store}
+use Rattle.lv_store.specs.Answering.{input_between}
+use Rattle.lv_store.specs.Kept.{StoreKept, Stands, kept, rows_in, rows_of, store_of}
+
+-- what a worker is given: what its step is computed from, if it is given one
+abbrev pub given_input : Visible → Fetched → Option Input
+given_input s busy = None
+given_input s idle = None
+given_input s (fetched f) = Some (input_between s f)
+
+pub record GivesFetch (s : Visible) (done : Done Fetched) (input : Option Input) (new : StoreKept) : Type 0 where
+  pub input_is : input ≡ given_input s done.answer
+  pub stands : Stands done.next new
+
+-- what became of a step that was claimed
+abbrev pub told : InstallAnswer → Installed
+told (answer.Done view lo hi) = installed (record { view = view; lo = lo; hi = hi })
+told (answer.Moved view lo hi point) = moved (record { view = view; lo = lo; hi = hi }) point
+
+pub record GivesInstall (done : Done Installed) (a : InstallAnswer) (new : StoreKept) : Type 0 where
+  pub answer_is : told a ≡ done.answer
+  pub stands : Stands done.next new
+
+-- what a clean-up shows
+abbrev pub shown_by : Cleaned → schema.Cleaned
+shown_by c = record { floor = c.floor; versions = c.versions; deltas = c.deltas }
+
+pub record GivesCleaned (done : Done schema.Cleaned) (a : Cleaned) (new : StoreKept) : Type 0 where
+  pub answer_is : shown_by a ≡ done.answer
+  pub stands : Stands done.next new
+
+-- no version of a view's rows is kept that ended at or below a number
+abbrev pub KeepsNoneBelow : ℕ → List ViewKept → Type 0
+KeepsNoneBelow number rows = AllByRecursion (λ k. AllByRecursion (λ v. IsTrue (ends_after number v.until)) k.versions) rows
+
+-- ---- told from the parts
+-- the step that a worker would be given: the planned step of the view that a policy of this kind chooses
+abbrev pub next_among : List Pending → ℕ → Store → Option Forced
+next_among [] kind p = None
+next_among (q ∷ qs) kind p = planned_in (is_inside (live_kept p.txns)) p.settings.combine p.upkeep.kept (view_chosen kind (kept 0 (store_of p))) p.base.number
+
+abbrev pub next_in : ℕ → Store → Option Forced
+next_in kind p = next_among (unclaimed_in p.upkeep.kept) kind p
+
+-- one of the views has other room, and nothing else changes
+abbrev pub RoomChanges : ℕ → List viewrows.ViewKept → List viewrows.ViewKept → Type 0
+RoomChanges view old new = (spare : ℕ) × (new ≡ slice_set old view (record (rows_in old view) { spare = spare }))
+
+-- the rows of a view lose the versions that ended at or below a number
+pub record RowsPruned (number : ℕ) (old new : viewrows.ViewKept) : Type 0 where
+  pub def_stays : new.def ≡ old.def
+  pub cleaned : ViewCleaned number (rows_of old) (rows_of new)
+
+-- the lesser of a number and another one, if there is another
+abbrev pub lesser : ℕ → Option ℕ → ℕ
+lesser n None = n
+lesser n (Some k) = min n k

@@ -1,0 +1,128 @@
+-- Queries: what a transaction reads, and the steps that bring views up to its snapshot, told from what is kept.
+use Rattle.std.specs.Prelude.{◌≡◌, ℕ, ◌<◌, ◌≤◌, Bool, false, not, if◌then◌else◌, List, [], ◌∷◌, length, map, slice_set, Option, unwrap_or, option_map}
+use Rattle.std.specs.List.{list_any}
+use Rattle.lv_values.specs.declared.value.Value.{Value}
+use Rattle.lv_schema.specs.declared.forced.Forced.{Forced}
+use Rattle.lv_schema.specs.declared.part.Part.{Part}
+use Rattle.lv_schema.specs.declared.query.Query.{Query}
+use Rattle.lv_schema.specs.declared.query.Rel.{Rel}
+use Rattle.lv_schema.specs.declared.query.Rel.TheVariants.{Table, View}
+use Rattle.lv_schema.specs.declared.signed.SignedRow.{SignedRow}
+use Rattle.lv_schema.specs.Applicable.{with_changes}
+use Rattle.lv_schema.specs.Differences.{difference}
+use Rattle.lv_schema.specs.Groups.{view_rows_over}
+use Rattle.lv_schema.specs.Jobs.{old_sides, new_sides}
+use Rattle.lv_schema.specs.Keys.{writes_table}
+use Rattle.lv_schema.specs.StepPlans.{is_inside}
+use Rattle.lv_schema.specs.UpkeepCases.{views_of, with_steps}
+use Rattle.lv_schema.specs.World.{World, table_at, view_at}
+use Rattle.lv_maint.specs.Inputs.{Fit, Input}
+use Rattle.lv_overlay.specs.Puts.{rows_over}
+use Rattle.lv_txn.specs.Kept.{live_kept, transaction_at, transaction_of}
+use Rattle.lv_upkeep.specs.Kept.{UpkeepKept, forced_in}
+use Rattle.lv_upkeep.specs.Moves.{upkeep_stepped}
+use Rattle.lv_viewrows.specs.Changed.{CanInstall, groups_with}
+use Rattle.lv_viewrows.specs.Kept.{ViewKept, groups_at, shown}
+use Rattle.lv_stands.specs.Kept as stands
+use Rattle.lv_stands.specs.Moves.{StepsFollow, part_in}
+use Rattle.lv_base.specs.Bases.{base_of, table_in}
+use Rattle.lv_store.specs.declared.store.Store.{Store}
+use Rattle.lv_store.specs.Kept.{rows_in}
+
+-- ---- what a session reads
+-- its snapshot; a session that is not live would read the last commit
+abbrev pub snapshot_in : Store → ℕ → ℕ
+snapshot_in p session = unwrap_or (option_map (λ t. t.snapshot) (transaction_at p.txns session)) p.base.number
+
+-- a table's rows at the snapshot of its transaction, with the transaction's own writes over them
+abbrev pub own_rows_in : Store → ℕ → ℕ → List (List Value)
+own_rows_in p session t =
+    let k = transaction_of p.txns session in
+    rows_over (table_at p.schema.tables t).key k.puts t (stands.shown k.snapshot (table_in p.base.tables t).versions)
+
+-- whether the transaction wrote a table of a view
+abbrev pub has_written : Store → ℕ → ℕ → Bool
+has_written p session v = list_any (writes_table (transaction_of p.txns session).actions) (view_at p.schema.views v).tables
+
+-- a view's rows: by its definition over the transaction's own rows, where it wrote one of the view's tables; else those
+-- that are kept
+abbrev pub view_rows_in : Store → ℕ → List ViewKept → ℕ → List (List Value)
+view_rows_in p session rows v =
+    if has_written p session v
+    then view_rows_over (view_at p.schema.views v) (map (own_rows_in p session) (view_at p.schema.views v).tables)
+    else shown (transaction_of p.txns session).snapshot (rows_in rows v)
+
+abbrev pub rel_rows_in : Store → ℕ → List ViewKept → Rel → List (List Value)
+rel_rows_in p session rows (Table t) = own_rows_in p session t
+rel_rows_in p session rows (View v) = view_rows_in p session rows v
+
+-- whether no table is read for it
+abbrev pub reads_kept : Store → ℕ → Rel → Bool
+reads_kept p session (Table t) = false
+reads_kept p session (View v) = not (has_written p session v)
+
+-- ---- the steps that a query forces
+abbrev pub steps_in : Store → ℕ → Query → List Forced
+steps_in p session query = forced_in (is_inside (live_kept p.txns)) p.settings.combine p.upkeep.kept (views_of query) (snapshot_in p session)
+
+-- steps that can be taken in place of others: each begins where its view stands then, and all views end at the same points
+pub record InPlaceOf (w : World) (steps taken : List Forced) : Type 0 where
+  pub follow : StepsFollow w taken
+  pub same : with_steps taken w.upkeep ≡ with_steps steps w.upkeep
+
+-- what a step is computed from, and the difference that it gives
+abbrev pub parts_in : Store → Forced → List Part
+parts_in p f = map (part_in p.schema.tables (base_of p.base) f.lo f.hi) (view_at p.schema.views f.view).tables
+
+abbrev pub input_in : Store → Forced → Input
+input_in p f = record { def = view_at p.schema.views f.view; lo = f.lo; hi = f.hi; parts = parts_in p f }
+
+abbrev pub changes_in : Store → Forced → List SignedRow
+changes_in p f = difference (view_at p.schema.views f.view) (old_sides (parts_in p f)) (new_sides (parts_in p f))
+
+-- a step whose input is kept
+pub record CanCompute (p : Store) (f : Forced) : Type 0 where
+  pub in_use : f.view < length p.schema.views
+  pub kept : p.base.pruned ≤ f.lo
+  pub fit : Fit (view_at p.schema.views f.view) (parts_in p f)
+
+-- ---- what steps make of the rows of views
+-- the rows of a view take a difference
+pub record RowsInstall (hi : ℕ) (changes : List SignedRow) (old new : ViewKept) : Type 0 where
+  pub def_stays : new.def ≡ old.def
+  pub at_is : new.at ≡ hi
+  pub before : (n : ℕ) → n < hi → groups_at n new.versions ≡ groups_at n old.versions
+  pub from : (n : ℕ) → hi ≤ n → groups_at n new.versions ≡ groups_with changes (groups_at old.at old.versions)
+  pub rows : old.def.grouped ≡ false → (n : ℕ) → hi ≤ n → shown n new ≡ with_changes changes (shown old.at old)
+
+-- one of the views takes a difference
+abbrev pub ViewInstalled : ℕ → List SignedRow → ℕ → List ViewKept → List ViewKept → Type 0
+ViewInstalled hi changes view rows last = (new : ViewKept) × RowsInstall hi changes (rows_in rows view) new × (last ≡ slice_set rows view new)
+
+-- a step with its difference, and steps, one after another
+module _ (changes : Forced → List SignedRow) where
+  abbrev pub StepInstalls : Forced → List ViewKept → List ViewKept → Type 0
+  StepInstalls f rows last = ViewInstalled f.hi (changes f) f.view rows last
+
+  abbrev pub StepsInstall : List Forced → List ViewKept → List ViewKept → Type 0
+  StepsInstall [] rows last = last ≡ rows
+  StepsInstall (f ∷ fs) rows last = (new : ViewKept) × RowsInstall f.hi (changes f) (rows_in rows f.view) new × StepsInstall fs (slice_set rows f.view new) last
+
+  -- and each can be installed where the steps before it are
+  abbrev pub CanInstallAll : List Forced → List ViewKept → Type 0
+  CanInstallAll [] rows = Unit {0}
+  CanInstallAll (f ∷ fs) rows =
+      (f.view < length rows)
+      × CanInstall (rows_in rows f.view) f.hi (changes f)
+      × ((new : ViewKept) → RowsInstall f.hi (changes f) (rows_in rows f.view) new → CanInstallAll fs (slice_set rows f.view new))
+
+-- the points and tasks after steps
+abbrev pub upkeep_after : List Forced → UpkeepKept → UpkeepKept
+upkeep_after [] u = u
+upkeep_after (f ∷ fs) u = upkeep_after fs (upkeep_stepped f u)
+
+-- the rows of views where some have a new value
+abbrev pub installed : List (Option ViewKept) → List ViewKept → List ViewKept
+installed [] rows = rows
+installed (a ∷ ahead) [] = []
+installed (a ∷ ahead) (r ∷ rows) = unwrap_or a r ∷ installed ahead rows

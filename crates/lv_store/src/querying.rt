@@ -1,0 +1,129 @@
+//! Queries.
+ghost use Rattle.std.specs.Prelude.{◌≡◌, ◌<◌, true, [], length, map, nat_lt, IfOk, OnErr};
+ghost use Rattle.std.specs.List.{list_all};
+ghost use Rattle.lv_schema.specs.declared.forced.Forced.{Forced};
+ghost use Rattle.lv_schema.specs.Answers.{answer_over};
+ghost use Rattle.lv_schema.specs.Bound.{IsBoundQuery};
+ghost use Rattle.lv_schema.specs.UpkeepCases.{forced_by};
+ghost use Rattle.lv_schema.specs.WholeWorld.{querying};
+ghost use Rattle.lv_schema.specs.World.{World};
+ghost use Rattle.lv_schema.specs.World as schema;
+ghost use Rattle.lv_txn.specs.Kept.{IsLive};
+ghost use Rattle.lv_store.specs.Answering.{GivesQuery, ReadsNoTable, input_between};
+ghost use Rattle.lv_store.specs.Querying.{InPlaceOf, StepsInstall, changes_in, installed, reads_kept, rel_rows_in, steps_in, upkeep_after};
+ghost use Rattle.lv_store.specs.Kept.{IsStore, Stands, rows_of, store_of};
+
+use crate::answer::Answer;
+use crate::stepping::{Ahead, advance_each, place_ahead};
+use crate::store::Store;
+use lv_maint::{JobInput, JobResult};
+use lv_schema::{Forced, ForcedSteps, Query};
+use lv_values::{Items, NoMemory, Rows, Steps};
+use std::alloc::Global;
+use std::sync::ledger::Ledger;
+
+/// The steps that a query forces and those that are taken for them, what they make of the views, and the answer, before
+/// anything is changed.
+struct Found {
+    forced: ForcedSteps,
+    taken: ForcedSteps,
+    ahead: Ahead,
+    rows: Rows,
+}
+
+impl Store {
+    /// Finds the answer of a query, and the steps that it forces.
+    fn find<L: Ledger>(
+        &self,
+        alloc: Global,
+        session: u32,
+        query: &Query,
+        offers: Items<JobResult>,
+        steps: &mut Steps<L>,
+    ) -> Result<Found, NoMemory>
+        requires whole { IsStore self.now }
+        requires live { IsLive self.now.txns session }
+        requires bound { IsBoundQuery self.now.schema.tables self.now.schema.views query.now }
+        ensures forced { IfOk result (λ found. found.forced ≡ steps_in self.now session query.now) }
+        ensures taken { (w : World) → Stands w (store_of self.now) → IfOk result (λ found. InPlaceOf w found.forced found.taken) }
+        ensures all { IfOk result (λ found. length found.ahead ≡ length self.now.rows.list) }
+        ensures steps { IfOk result (λ found. StepsInstall (changes_in self.now) found.taken self.now.rows.list (installed found.ahead self.now.rows.list)) }
+        ensures rows { IfOk result (λ found. found.rows ≡ answer_over query.now (map (rel_rows_in self.now session (installed found.ahead self.now.rows.list)) query.now.rels)) }
+        ensures cost { steps_in self.now session query.now ≡ [] → list_all (reads_kept self.now session) query.now.rels ≡ true → steps.new ≡ steps.old }
+    {
+        let forced = self.forced(alloc, session, query)?;
+        let taken = self.to_take(alloc, &forced, &offers)?;
+        let ahead = self.steps_ahead(alloc, taken.as_slice(), offers, steps)?;
+        let rows = self.answer_ahead(alloc, session, &ahead, query, steps)?;
+        Ok(Found {
+            forced,
+            taken,
+            ahead,
+            rows,
+        })
+    }
+
+    /// Takes steps that are installed ahead. It takes no memory.
+    fn take_steps(&mut self, taken: &[Forced], ahead: Ahead)
+        requires all { length ahead ≡ length self.old.rows.list }
+        requires views { list_all (λ (f : Forced). nat_lt f.view (length self.old.upkeep.kept.points)) taken.now ≡ true }
+        ensures rows { self.new.rows.list ≡ installed ahead self.old.rows.list }
+        ensures store { store_of self.new ≡ record (store_of self.old) { upkeep = upkeep_after taken.now self.old.upkeep.kept; rows = map rows_of (installed ahead self.old.rows.list) } }
+        ensures settings { self.new.settings ≡ self.old.settings }
+        ensures schema { self.new.schema ≡ self.old.schema }
+        ensures txns { self.new.txns ≡ self.old.txns }
+    {
+        place_ahead(ahead, &mut self.rows);
+        advance_each(taken, &mut self.upkeep);
+    }
+
+    /// What the steps are computed from that a query would force now.
+    pub fn stale<L: Ledger>(
+        &self,
+        alloc: Global,
+        session: u32,
+        query: &Query,
+        steps: &mut Steps<L>,
+    ) -> Result<Items<JobInput>, NoMemory>
+        requires whole { IsStore self.now }
+        requires session { session < 17 }
+        requires bound { IsBoundQuery (store_of self.now).tables (store_of self.now).views query.now }
+        ensures inputs { (w : World) (settings : schema.Settings) → settings.combine ≡ (store_of self.now).settings.combine → Stands w (store_of self.now)
+            → IfOk result (λ inputs. inputs ≡ map (input_between w.visible) (forced_by settings session query.now w)) }
+    {
+        let forced = self.forced(alloc, session, query)?;
+        self.inputs(alloc, forced.as_slice(), steps)
+    }
+
+    /// A query of a session that is live.
+    pub fn query<L: Ledger>(
+        &mut self,
+        alloc: Global,
+        session: u32,
+        query: &Query,
+        offers: Items<JobResult>,
+        steps: &mut Steps<L>,
+    ) -> Result<Answer, NoMemory>
+        requires whole { IsStore self.old }
+        requires session { session < 17 }
+        requires live { IsLive (store_of self.old).sessions session }
+        requires bound { IsBoundQuery (store_of self.old).tables (store_of self.old).views query.now }
+        ensures done { (w : World) (settings : schema.Settings) → settings.combine ≡ (store_of self.old).settings.combine → Stands w (store_of self.old)
+            → IfOk result (λ answer. GivesQuery (querying settings session query.now w) answer (store_of self.new)) }
+        ensures refused { OnErr result (store_of self.new ≡ store_of self.old) }
+        ensures sessions { (store_of self.new).sessions ≡ (store_of self.old).sessions }
+        ensures settings { (store_of self.new).settings ≡ (store_of self.old).settings }
+        ensures fresh { (w : World) → Stands w (store_of self.old) → ReadsNoTable session query.now w → steps.new ≡ steps.old }
+        ensures whole { IsStore self.new }
+    {
+        let found = self.find(alloc, session, query, offers, steps)?;
+        let Found {
+            forced,
+            taken,
+            ahead,
+            rows,
+        } = found;
+        self.take_steps(taken.as_slice(), ahead);
+        Ok(Answer { forced, rows })
+    }
+}

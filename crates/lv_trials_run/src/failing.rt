@@ -1,0 +1,208 @@
+//! One call of the outside fails.
+
+use crate::runs::{Given, Left, run_on, run_over};
+use lv_outside::MemDisks;
+use lv_runner::Status;
+use lv_values::{Items, NoMemory};
+use std::alloc::Global;
+use std::test::Fail;
+
+/// A commit that meets a failing disk, and is tried again.
+const TWICE: &[u8] = b"@setup
+create table item (id int, price int, primary key (id))
+@session a
+begin
+insert into item values (1, 10)
+commit
+commit
+select * from item
+";
+
+/// The journal of it: a table and a commit.
+const WORKED: &[u8] =
+    b"LVJRNL01\x01\x14\x00\x00\x00\x01\x04item\x02\x02id\x01\x05price\x01\x01\x00\x01&\x00\x00\x00\x03\x01\x00\x00\x00\x00\x00\x00\x00\x01\x00\x00\x00\x00\x01\x00\x00\x00\x01\x02\x01\x01\x00\x00\x00\x00\x00\x00\x00\x01\x0a\x00\x00\x00\x00\x00\x00\x00\x00";
+
+/// Commits, a forced step and a mark.
+const SHOP: &[u8] = b"@setup
+create table item (id int, price int, primary key (id))
+create table sale (no int, item int, qty int, primary key (no))
+create view per_item as select s.item, sum(s.qty) as total, count(*) as n from sale s, item i where s.item = i.id group by s.item
+create view lines as select s.no, i.id, i.price, s.qty from sale s, item i where s.item = i.id
+@session a
+insert into item values (1, 10)
+insert into sale values (100, 1, 5)
+select * from per_item
+insert into item values (2, 20)
+insert into item values (3, 30)
+@order a a a mark per_item
+";
+
+/// All rows of the two tables.
+const LOOK: &[u8] = b"@session a
+select * from item
+select * from sale
+";
+
+/// A table that is there already, and what is in it.
+const AGAIN: &[u8] = b"@session a
+select id from item
+";
+
+/// How often a text has a word.
+fn count_of(text: &[u8], word: &[u8]) -> usize {
+    text.windows(word.len())
+        .filter(|piece| *piece == word)
+        .count()
+}
+
+/// What a run over one disk left, where memory was found.
+fn left_by(
+    alloc: Global,
+    script: &[u8],
+    bytes: &[u8],
+    fails: &[(u8, u64)],
+    sink_fails: &[u64],
+) -> Option<Left> {
+    run_on(alloc, script, bytes, fails, sink_fails).ok()
+}
+
+#[test]
+fn a_commit_whose_gate_is_in_doubt_is_tried_again(rt: HostRuntime) -> Result<(), Fail> {
+    let want: &[u8] = b"setup 1 ok
+a 1 begin 0
+a 2 ok 1
+a 3 fault 17 store fault
+a 4 commit 1
+a 5 rows 1
+| 1 | 10
+";
+    let Some(left) = left_by(rt.alloc(), TWICE, b"", &[(4, 5)], &[]) else {
+        return Err(Fail::from(NoMemory));
+    };
+    assert_eq!(rt; left.status, Status::Done);
+    assert!(rt; left.text.as_slice() == want);
+    assert!(rt; left.disk.is_some_and(|bytes| bytes.as_slice() == WORKED));
+    Ok(())
+}
+
+#[test]
+fn what_was_written_before_a_sink_failed_is_in_the_journal(rt: HostRuntime) -> Result<(), Fail> {
+    let want: &[u8] = b"setup 1 ok
+setup 2 ok
+setup 3 ok
+setup 4 ok
+a 1 ok 1 commit 1
+a 2 ok 1 commit 2
+";
+    let rows: &[u8] = b"a 1 rows 1
+| 1 | 10
+a 2 rows 1
+| 100 | 1 | 5
+";
+    let Some(left) = left_by(rt.alloc(), SHOP, b"", &[], &[7]) else {
+        return Err(Fail::from(NoMemory));
+    };
+    assert_eq!(rt; left.status, Status::SinkFault);
+    assert!(rt; left.text.as_slice() == want);
+    let Some(bytes) = left.disk else {
+        return Err(Fail::from(NoMemory));
+    };
+    let Some(again) = left_by(rt.alloc(), LOOK, bytes.as_slice(), &[], &[]) else {
+        return Err(Fail::from(NoMemory));
+    };
+    assert_eq!(rt; again.status, Status::Done);
+    assert!(rt; again.text.as_slice() == rows);
+    Ok(())
+}
+
+/// Whether a run of which one call of the disk fails ends well, or as one whose journal could not be opened; and whether the disk
+/// then has the rows of all that was accepted, and at most one more.
+fn survives(alloc: Global, kind: u8, number: u64) -> bool {
+    let Some(left) = left_by(alloc, SHOP, b"", &[(kind, number)], &[]) else {
+        return false;
+    };
+    if left.status == Status::OpenFault {
+        return left.text.as_slice().is_empty();
+    }
+    let accepted = count_of(left.text.as_slice(), b" ok 1 commit ");
+    let Some(bytes) = left.disk else {
+        return false;
+    };
+    let Some(again) = left_by(alloc, LOOK, bytes.as_slice(), &[], &[]) else {
+        return false;
+    };
+    let rows = count_of(again.text.as_slice(), b"\n| ");
+    let failures = count_of(left.text.as_slice(), b" fault 17 store fault");
+    left.status == Status::Done
+        && again.status == Status::Done
+        && failures <= 1
+        && (rows == accepted || rows == accepted + failures)
+}
+
+#[test]
+fn each_failing_call_of_the_disk_is_survived(rt: HostRuntime) -> Result<(), Fail> {
+    for kind in 1..5u8 {
+        for number in 1..24u64 {
+            assert!(rt;
+                survives(rt.alloc(), kind, number),
+                "kind {kind} call {number}"
+            );
+        }
+    }
+    Ok(())
+}
+
+/// The status of a run over empty disks in memory.
+fn status_over(
+    alloc: Global,
+    words: &[&str],
+    script: &[u8],
+    source_fails: &[u64],
+    disk_fails: u64,
+) -> Result<Status, NoMemory> {
+    let mut fails = Items::new(alloc);
+    fails.push(disk_fails)?;
+    let mut disks = MemDisks::new(alloc, fails);
+    let given = Given {
+        words,
+        script,
+        source_fails,
+        sink_fails: &[],
+    };
+    let left = run_over(alloc, &given, &mut disks)?;
+    Ok(left.status)
+}
+
+#[test]
+fn each_status_comes_before_the_next(rt: HostRuntime) -> Result<(), Fail> {
+    let alloc = rt.alloc();
+    assert_eq!(rt;
+        status_over(alloc, &["--combine", "0"], b"\xff", &[1], 1),
+        Ok(Status::Words)
+    );
+    assert_eq!(rt;
+        status_over(alloc, &["--log"], b"", &[], 9),
+        Ok(Status::Words)
+    );
+    assert_eq!(rt;
+        status_over(alloc, &["--log", ""], b"", &[], 9),
+        Ok(Status::Words)
+    );
+    assert_eq!(rt;
+        status_over(alloc, &[], AGAIN, &[2], 1),
+        Ok(Status::SourceFault)
+    );
+    assert_eq!(rt;
+        status_over(alloc, &[], b"\xff", &[], 1),
+        Ok(Status::Script { line: 1, kind: 1 })
+    );
+    assert_eq!(rt;
+        status_over(alloc, &[], AGAIN, &[], 1),
+        Ok(Status::OpenFault)
+    );
+    assert_eq!(rt;
+        status_over(alloc, &["--log", "x"], AGAIN, &[], 9),
+        Ok(Status::Done)
+    );
+    Ok(())
+}

@@ -1,0 +1,125 @@
+//! Runs over a source, a sink and a disk in memory.
+ghost use Rattle.std.specs.Prelude.{◌≡◌};
+ghost use Rattle.lv_picker.specs.Choices.{IsChoice};
+ghost use Rattle.lv_schema.specs.Policies.{chosen};
+
+use lv_outside::{Disks, MemDisk, MemSink, MemSource, OneDisk};
+use lv_picker::{Choice, Picker, place_of_first, place_of_most, place_of_oldest};
+use lv_runner::{Ran, Status, run};
+use lv_schema::Pending;
+use lv_values::{Bytes, Items, NoMemory, Text};
+use std::alloc::Global;
+
+/// The words, the bytes of the script, and the calls of source and sink that fail, by their numbers.
+#[derive(Clone, Copy)]
+pub(crate) struct Given<'a> {
+    pub words: &'a [&'a str],
+    pub script: &'a [u8],
+    pub source_fails: &'a [u64],
+    pub sink_fails: &'a [u64],
+}
+
+/// How a run ended, what it wrote, and what its disk holds, if one came back.
+#[derive(Drop)]
+pub(crate) struct Left {
+    pub status: Status,
+    pub text: Bytes,
+    pub disk: Option<Bytes>,
+}
+
+/// These numbers.
+fn numbers(alloc: Global, list: &[u64]) -> Result<Items<u64>, NoMemory> {
+    let mut items = Items::new(alloc);
+    for number in list {
+        items.push(*number)?;
+    }
+    Ok(items)
+}
+
+/// A disk in memory with these bytes, of which these calls fail: each a kind (1 length, 2 read, 3 write, 4 sync) and its number among
+/// the calls of that kind.
+pub(crate) fn disk_of(
+    alloc: Global,
+    bytes: &[u8],
+    fails: &[(u8, u64)],
+) -> Result<MemDisk, NoMemory> {
+    let mut list = Items::new(alloc);
+    for call in fails {
+        list.push(*call)?;
+    }
+    Ok(MemDisk::new(Bytes::from_slice(alloc, bytes)?, list))
+}
+
+/// Runs a script over disks.
+pub(crate) fn run_over<O: Disks<Disk = MemDisk>>(
+    alloc: Global,
+    given: &Given<'_>,
+    disks: &mut O,
+) -> Result<Left, NoMemory> {
+    let mut words = Items::new(alloc);
+    for word in given.words {
+        words.push(Text::from_str(alloc, word)?)?;
+    }
+    let oldest: Choice = Box::new(
+        alloc,
+        |list: &[Pending]| -> usize
+            requires { IsChoice list.now }
+            ensures { result ≡ chosen 0 list.now }
+        { place_of_oldest(list) },
+    )?;
+    let most: Choice = Box::new(
+        alloc,
+        |list: &[Pending]| -> usize
+            requires { IsChoice list.now }
+            ensures { result ≡ chosen 1 list.now }
+        { place_of_most(list) },
+    )?;
+    let first: Choice = Box::new(
+        alloc,
+        |list: &[Pending]| -> usize
+            requires { IsChoice list.now }
+            ensures { result ≡ chosen 2 list.now }
+        { place_of_first(list) },
+    )?;
+    let mut pickers = Items::new(alloc);
+    pickers.push(Picker::new(0, oldest))?;
+    pickers.push(Picker::new(1, most))?;
+    pickers.push(Picker::new(2, first))?;
+    let mut source = MemSource::new(
+        Bytes::from_slice(alloc, given.script)?,
+        numbers(alloc, given.source_fails)?,
+    );
+    let mut sink = MemSink::new(alloc, numbers(alloc, given.sink_fails)?);
+    let Ran { status, disk } = run(
+        alloc,
+        words.as_slice(),
+        &mut source,
+        &mut sink,
+        disks,
+        pickers,
+    );
+    let text = Bytes::from_slice(alloc, sink.written())?;
+    let disk = match disk {
+        Some(disk) => Some(Bytes::from_slice(alloc, disk.bytes())?),
+        None => None,
+    };
+    Ok(Left { status, text, disk })
+}
+
+/// The same over one disk that holds these bytes, without words.
+pub(crate) fn run_on(
+    alloc: Global,
+    script: &[u8],
+    bytes: &[u8],
+    fails: &[(u8, u64)],
+    sink_fails: &[u64],
+) -> Result<Left, NoMemory> {
+    let mut disks = OneDisk::new(alloc, disk_of(alloc, bytes, fails)?);
+    let given = Given {
+        words: &[],
+        script,
+        source_fails: &[],
+        sink_fails,
+    };
+    run_over(alloc, &given, &mut disks)
+}
