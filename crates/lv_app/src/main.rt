@@ -1,17 +1,20 @@
-//! The command `lazyview`: it runs the script on standard input and writes the transcript to standard output.
+//! The command `lazyview`: it runs the script on standard input, or one that it makes, and writes the transcript, or the summary,
+//! to standard output.
 #![tactic(auto)]
 
 ghost use Rattle.std.specs.Prelude.{◌≡◌};
 ghost use Rattle.lv_schema.specs.Policies.{chosen};
 ghost use Rattle.lv_picker.specs.Choices.{IsChoice};
 
-use lv_outside::{HostDisks, StdSink, StdSource};
+use lv_outside::{FreeGate, HostDisks, StdSink, StdSource};
 use lv_picker::{Choice, Picker, place_of_first, place_of_most, place_of_oldest};
 use lv_runner::{Status, run};
 use lv_schema::Pending;
 use lv_values::{Items, NoMemory, Text};
 use std::env::{Env, FillError};
 use std::process::ExitCode;
+use std::sync::Wait;
+use std::thread::Threads;
 use std::{env, io};
 
 /// What stands for the words where one of them is not UTF-8.
@@ -47,8 +50,9 @@ fn words_of(rt: &HostRuntime) -> Result<Items<Text>, NoMemory> {
     Ok(words)
 }
 
-/// Runs the script on standard input, with the three policies by which a worker chooses a view.
-fn run_script(rt: &HostRuntime) -> Result<Status, NoMemory> {
+/// Runs the script on standard input, with the three policies by which a worker chooses a view; the threads are those of the
+/// runtime.
+fn run_script<T: Threads + Wait + Sync>(rt: &HostRuntime, threads: &T) -> Result<Status, NoMemory> {
     let alloc = rt.alloc();
     let words = words_of(rt)?;
     let oldest: Choice = Box::new(
@@ -80,26 +84,28 @@ fn run_script(rt: &HostRuntime) -> Result<Status, NoMemory> {
     let mut sink = StdSink::new(io::writer(rt));
     let mut disks = HostDisks::new(rt.clone()?);
     let ran = run(
+        threads,
         alloc,
         words.as_slice(),
         &mut source,
         &mut sink,
         &mut disks,
         pickers,
+        &FreeGate,
     );
     Ok(ran.status)
 }
 
 /// How the run ends.
-fn status_of(rt: &HostRuntime) -> Status {
-    match run_script(rt) {
+fn status_of<T: Threads + Wait + Sync>(rt: &HostRuntime, threads: &T) -> Status {
+    match run_script(rt, threads) {
         Ok(status) => status,
         Err(NoMemory) => Status::NoMemory,
     }
 }
 
 /// Says on standard error how the run ended, unless it is done.
-fn tell(rt: &HostRuntime, status: Status) -> io::Result<()> {
+fn tell(rt: &HostRuntime, status: &Status) -> io::Result<()> {
     match status {
         Status::Done => Ok(()),
         Status::Words => eprintln!(rt; "lazyview: words refused"),
@@ -112,12 +118,15 @@ fn tell(rt: &HostRuntime, status: Status) -> io::Result<()> {
             eprintln!(rt; "lazyview: bad journal at offset {offset}")
         }
         Status::OpenFault => eprintln!(rt; "lazyview: cannot open the journal"),
+        Status::Differ { session, place, .. } => {
+            eprintln!(rt; "lazyview: programs differ at session {session} place {place}")
+        }
         Status::NoMemory => eprintln!(rt; "lazyview: out of memory"),
     }
 }
 
 fn main(rt: HostRuntime) -> ExitCode {
-    let status = status_of(&rt);
-    let _ = tell(&rt, status);
+    let status = status_of(&rt, &rt);
+    let _ = tell(&rt, &status);
     ExitCode::from(status.number())
 }

@@ -104,6 +104,8 @@ module _ {D : Type 0} (seen : D → Option (List ℕ)) (may_leave : D → List �
           within = held.within;
           settings_are = held.settings_are ∙ ap (λ s. settings_of s c.settings.policy) (sym came.settings);
           opening = held.opening;
+          recs = held.recs;
+          opened_by = held.opened_by;
           begins = held.begins;
           legal = Legal-snoc rules (first_state c) c.entries given.entry held.legal comes.0;
           places_are = ap (λ (s : State). s.places) (sym (state_gone new));

@@ -35,6 +35,8 @@ module _ {D : Type 0} (seen : D → Option (List ℕ)) (may_leave : D → List �
       within = held.within;
       settings_are = held.settings_are ∙ ap (λ (s : StoreKept). settings_of s.settings c.settings.policy) (sym undone.same.store_is);
       opening = held.opening;
+      recs = held.recs;
+      opened_by = held.opened_by;
       begins = held.begins;
       legal = held.legal;
       places_are = held.places_are;

@@ -23,10 +23,10 @@ use Rattle.lv_engine.specs.Kept.{EngineView, Stands}
 use Rattle.lv_core.specs.Answering.{GivesEntry}
 
 -- a worker's claim that is kept is the world's
-claim_is : {D : Type 0} (w : World) (e : EngineView D) (worker : ℕ) → Stands w e → claim_kept e.store.upkeep worker ≡ claim_of w.upkeep worker
+pub claim_is : {D : Type 0} (w : World) (e : EngineView D) (worker : ℕ) → Stands w e → claim_kept e.store.upkeep worker ≡ claim_of w.upkeep worker
 claim_is w e worker stands = ap (λ (claims : List (Option Forced)). slice_index_or claims worker None) stands.store_stands.upkeep_stands.claims_are
 
-worker_there : {D : Type 0} (w : World) (e : EngineView D) (worker : ℕ) → Stands w e → worker ≤ 8 → worker < length w.upkeep.claims
+pub worker_there : {D : Type 0} (w : World) (e : EngineView D) (worker : ℕ) → Stands w e → worker ≤ 8 → worker < length w.upkeep.claims
 worker_there w e worker stands le = let nine = stands.store_stands.steady.workers in omega (arith, nine, le)
 
 -- ---- what a fetch answers tells of the claim: it was there before, or it is the step

@@ -1,3 +1,4 @@
+pub mod Actors
 pub mod Answering
 pub mod Run
 pub mod Slots

@@ -1,8 +1,9 @@
 //! The calls of a core.
-ghost use Rattle.std.specs.Prelude.{◌≡◌, [], true, is_some, replicate, None, Ok, OnErr, OnOk, IfErr, IfOk, map};
+ghost use Rattle.std.specs.Prelude.{◌≡◌, [], List, true, is_some, replicate, None, Ok, OnErr, OnOk, IfErr, IfOk, map};
 ghost use Rattle.lv_values.specs.Names.{is_lower_name};
 ghost use Rattle.lv_schema.specs.declared.bound.Bound.TheVariants as bound;
 ghost use Rattle.lv_schema.specs.declared.query.Query.{Query as AQuery};
+ghost use Rattle.lv_schema.specs.declared.rec.Rec.{Rec};
 ghost use Rattle.lv_plain.specs.declared.event.Event.TheVariants.{Turn as turn_of, Fetch as fetch_of, Install as install_of, Release as release_of, Mark as mark_of, Clean as clean_up};
 ghost use Rattle.lv_plain.specs.Legal.{IsWorker};
 ghost use Rattle.lv_plain.specs.Limits.{IsWithinLimits};
@@ -10,7 +11,7 @@ ghost use Rattle.lv_plain.specs.Programs.{may_turn, setup_answered};
 ghost use Rattle.lv_upkeep.specs.Kept.{claim_kept};
 ghost use Rattle.lv_store.specs.Answering.{ReadsNoTable, input_between};
 ghost use Rattle.lv_engine.specs.Kept.{length_of};
-ghost use Rattle.lv_core.specs.Run.{Gave, IsOpening, IsRun, IsSame, next_bound, next_steps, settings_of, state_of};
+ghost use Rattle.lv_core.specs.Run.{Gave, IsOpenedBy, IsOpening, IsRun, IsSame, next_bound, next_steps, settings_of, state_of};
 ghost use Rattle.lv_core.specs.Slots.{next_input, slot_of, slots_given, slots_without};
 
 use crate::machine::Core;
@@ -29,7 +30,7 @@ use std::sync::ledger::Ledger;
 
 impl<D: Disk> Core<D> {
     /// A program of which no statement is answered, over an engine in which nobody is live, nothing is claimed or dropped,
-    /// and each view is where it is marked. Every slot is empty. The error is want of memory, and gives the engine back.
+    /// and each view is where it is marked, as it is opened from some records. Every slot is empty. The error is want of memory, and gives the engine back.
     pub fn new(
         alloc: Global,
         engine: Engine<D>,
@@ -38,6 +39,7 @@ impl<D: Disk> Core<D> {
     ) -> Result<Core<D>, Engine<D>>
         requires within { IsWithinLimits program }
         requires opening { IsOpening engine }
+        requires records { (recs : List Rec) × IsOpenedBy D.seen D.may_leave recs engine }
         ensures program { IfOk result (λ core. core.run.program ≡ program) }
         ensures settings { IfOk result (λ core. core.run.settings ≡ settings_of engine.store.settings picker.kind) }
         ensures entries { IfOk result (λ core. core.run.entries ≡ []) }
@@ -50,7 +52,12 @@ impl<D: Disk> Core<D> {
             return Err(engine);
         };
         let run = Run::new(alloc, engine, program, picker.kind())?;
-        Ok(Core { run, picker, slots })
+        Ok(Core {
+            run,
+            picker,
+            slots,
+            alloc,
+        })
     }
 
     /// What the core keeps of its run: its entries are legal, and its engine stands for the world after them. It is a law,

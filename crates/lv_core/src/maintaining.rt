@@ -1,5 +1,5 @@
 //! What the calls of workers and a clean-up are answered.
-ghost use Rattle.std.specs.Prelude.{◌≡◌, true, false, is_some, IfOk, OnErr};
+ghost use Rattle.std.specs.Prelude.{◌≡◌, true, false, is_some, None, IfOk, OnErr};
 ghost use Rattle.lv_schema.specs.UpkeepCases.{fetching};
 ghost use Rattle.lv_plain.specs.declared.entry.Entry.TheVariants as entry;
 ghost use Rattle.lv_plain.specs.declared.event.Event.TheVariants.{Fetch as fetch_of, Install as install_of, Release as release_of, Clean as clean_up};
@@ -9,6 +9,7 @@ ghost use Rattle.lv_plain.specs.Rules.{Rules};
 ghost use Rattle.lv_upkeep.specs.Kept.{claim_kept};
 ghost use Rattle.lv_store.specs.Maintaining.{given_input, told};
 ghost use Rattle.lv_engine.specs.Kept.{Stands};
+ghost use Rattle.lv_core.specs.Actors.{shows_install};
 ghost use Rattle.lv_core.specs.Answering.{GivesEntry};
 
 use lv_engine::Engine;
@@ -22,7 +23,8 @@ use lv_values::{NoMemory, Steps};
 use std::alloc::Global;
 use std::sync::ledger::Ledger;
 
-/// What a fetch is answered: its entry and, where a step is fetched, what that is computed from.
+/// What a fetch is answered: its entry and, where a step is fetched, what that is computed from. Where none is, nothing has
+/// changed.
 #[derive(Drop)]
 pub struct Given {
     pub entry: Entry,
@@ -55,6 +57,7 @@ pub fn fetch<D: Disk, L: Ledger>(
         → IfOk result (λ given. GivesEntry (give rules false (fetch_of worker) s) engine.new given.entry) }
     ensures input { (rules : Rules) (s : State) → rules.settings.combine ≡ engine.old.store.settings.combine → rules.settings.policy ≡ picker.now.kind → Stands s.world engine.old
         → IfOk result (λ given. given.input ≡ given_input s.world.visible (fetching rules.settings worker s.world).0) }
+    ensures idle { IfOk result (λ given. given.input ≡ None → engine.new ≡ engine.old) }
     ensures refused { OnErr result (engine.new ≡ engine.old) }
     ensures settings { engine.new.store.settings ≡ engine.old.store.settings }
     ensures journal { engine.new.journal ≡ engine.old.journal }
@@ -105,6 +108,13 @@ fn installed(worker: u32, installed: Installed) -> Entry
             point,
         },
     }
+}
+
+/// Whether an entry shows that a step was installed.
+pub fn is_installed(entry: &Entry) -> bool
+    ensures { result ≡ shows_install entry.now }
+{
+    matches!(entry, Entry::Installed { .. })
 }
 
 /// A worker installs the step that it has claimed, if it has. An offer is used where it is of the step. Want of memory

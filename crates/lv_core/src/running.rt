@@ -1,21 +1,26 @@
 //! The run of a program over an engine. Each event adds its entry; once it has come nothing takes memory.
-ghost use Rattle.std.specs.Prelude.{◌≡◌, ◌<◌, ◌≤◌, [], true, is_some, Ok, OnErr, OnOk, IfErr, IfOk, length, map, slice_index};
+ghost use Rattle.std.specs.Prelude.{◌≡◌, ◌<◌, ◌≤◌, ◌+◌, ◌↔◌, [], List, None, Some, true, is_some, Ok, OnErr, OnOk, IfErr, IfOk, length, map, slice_index};
 ghost use Rattle.lv_values.specs.Names.{is_lower_name};
 ghost use Rattle.lv_schema.specs.declared.bound.Bound.TheVariants as bound;
 ghost use Rattle.lv_schema.specs.declared.query.Query.{Query as AQuery};
+ghost use Rattle.lv_schema.specs.declared.rec.Rec.{Rec};
+ghost use Rattle.lv_schema.specs.Policies.{unclaimed};
+ghost use Rattle.lv_schema.specs.UpkeepCases.{claim_of};
+ghost use Rattle.lv_maint.specs.Inputs.{Input};
 ghost use Rattle.lv_plain.specs.declared.event.Event.TheVariants.{Turn as turn_of, Fetch as fetch_of, Install as install_of, Release as release_of, Mark as mark_of, Clean as clean_up};
 ghost use Rattle.lv_plain.specs.Legal.{IsWorker};
 ghost use Rattle.lv_plain.specs.Limits.{IsWithinLimits};
-ghost use Rattle.lv_plain.specs.Programs.{first_places, has_more, may_turn, setup_answered};
+ghost use Rattle.lv_plain.specs.Programs.{all_answered, first_places, has_more, may_turn, setup_answered};
 ghost use Rattle.lv_upkeep.specs.Kept.{claim_kept};
 ghost use Rattle.lv_store.specs.Answering.{ReadsNoTable, input_between};
 ghost use Rattle.lv_engine.specs.Kept.{length_of};
+ghost use Rattle.lv_core.specs.Actors.{Frees, HasFetched, Installs, views_for};
 ghost use Rattle.lv_core.specs.Slots.{next_input};
-ghost use Rattle.lv_core.specs.Run.{Gave, IsOpening, IsRun, IsSame, next_bound, next_steps, settings_of, state_of, view_of};
+ghost use Rattle.lv_core.specs.Run.{Gave, IsOpenedBy, IsOpening, IsRun, IsSame, next_bound, next_steps, settings_of, state_of, view_of};
 
 use crate::answering::{answer_line, stale_line};
-use crate::lines::{line_count, line_left};
-use crate::maintaining::{clean, fetch, install, release};
+use crate::lines::{all_answered, has_more, line_left};
+use crate::maintaining::{Given, clean, fetch, install, is_installed, release};
 use crate::marking::{mark_view, view_of_name};
 use crate::opening::{Opened, Opening};
 use lv_engine::Engine;
@@ -76,18 +81,19 @@ fn place_of(places: &[u32], session: usize) -> u32
     places[session]
 }
 
-/// Makes room for the entry of a call, and for those of eight workers that may give their claims up after it.
-fn make_room(entries: &mut Room<Entry>) -> Result<(), NoMemory>
+/// Makes room for the entries of a call, one or two, and for those of eight workers that may give their claims up after it.
+fn make_room(entries: &mut Room<Entry>, count: u64) -> Result<(), NoMemory>
+    requires { count ≤ 2 }
     ensures same { entries.new.list ≡ entries.old.list }
-    ensures room { OnOk result (9 ≤ entries.new.spare) }
+    ensures room { OnOk result (count + 8 ≤ entries.new.spare) }
     ensures kept { entries.old.spare ≤ entries.new.spare }
 {
-    entries.reserve(9)
+    entries.reserve(count + 8)
 }
 
 impl<D: Disk> Run<D> {
     /// A program of which no statement is answered, over an engine in which nobody is live, nothing is claimed or dropped,
-    /// and each view is where it is marked. Want of memory gives the engine back.
+    /// and each view is where it is marked, as it is opened from some records. Want of memory gives the engine back.
     pub fn new(
         alloc: Global,
         engine: Engine<D>,
@@ -96,6 +102,7 @@ impl<D: Disk> Run<D> {
     ) -> Result<Run<D>, Engine<D>>
         requires within { IsWithinLimits program }
         requires opening { IsOpening engine }
+        requires records { (recs : List Rec) × IsOpenedBy D.seen D.may_leave recs engine }
         ensures program { IfOk result (λ run. run.program ≡ program) }
         ensures settings { IfOk result (λ run. run.settings ≡ settings_of engine.store.settings policy) }
         ensures entries { IfOk result (λ run. run.entries ≡ []) }
@@ -173,11 +180,21 @@ impl<D: Disk> Run<D> {
     fn has_more(&self, session: usize) -> bool
         ensures { result ≡ has_more self.now.program self.now.places session }
     {
-        let place = match self.places.as_slice().get(session) {
-            Some(place) => *place,
-            None => 0,
-        };
-        (place as usize) < line_count(&self.program, session)
+        has_more(&self.program, self.places.as_slice(), session)
+    }
+
+    /// Whether the setup is answered. Cost: constant.
+    pub fn is_set_up(&self) -> bool
+        ensures { result ≡ setup_answered self.now.program self.now.places }
+    {
+        !self.has_more(0)
+    }
+
+    /// Whether every statement is answered. Cost: linear in the sessions.
+    pub fn is_answered(&self) -> bool
+        ensures { result ≡ all_answered self.now.program self.now.places }
+    {
+        all_answered(&self.program, self.places.as_slice())
     }
 
     /// Whether a session has a statement to be answered now. Cost: constant.
@@ -217,7 +234,7 @@ impl<D: Disk> Run<D> {
         ensures kept { OnErr result (IsSame self.old self.new) }
         ensures fresh { (query : AQuery) → next_bound self.old session ≡ Ok (bound.Query query) → ReadsNoTable session query (state_of self.old).world → steps.new ≡ steps.old }
     {
-        make_room(&mut self.entries)?;
+        make_room(&mut self.entries, 1)?;
         let at = session as usize;
         let place = place_of(self.places.as_slice(), at);
         let line = line_left(&self.program, at, place as usize);
@@ -248,10 +265,37 @@ impl<D: Disk> Run<D> {
         ensures input { IfOk result (λ input. input ≡ next_input self.old worker) }
         ensures kept { OnErr result (self.new ≡ self.old) }
     {
-        make_room(&mut self.entries)?;
+        make_room(&mut self.entries, 1)?;
         let given = fetch(&mut self.engine, alloc, worker, picker, steps)?;
         self.entries.push(given.entry);
         Ok(given.input)
+    }
+
+    /// A worker, 1 to 8, that has no claim fetches a step, if there is one; else no entry comes, and the run stays as it is.
+    /// Want of memory changes nothing.
+    pub fn fetch_any<L: Ledger>(
+        &mut self,
+        alloc: Global,
+        worker: u32,
+        picker: &Picker,
+        steps: &mut Steps<L>,
+    ) -> Result<Option<JobInput>, NoMemory>
+        requires worker { IsWorker worker }
+        requires setup { setup_answered self.old.program self.old.places ≡ true }
+        requires policy { self.old.settings.policy ≡ picker.now.kind }
+        requires free { claim_of (state_of self.old).world.upkeep worker ≡ None }
+        ensures fetched { IfOk result (λ given. (input : Input) → given ≡ Some input → HasFetched D.seen D.may_leave D.failures worker self.old self.new input) }
+        ensures idle { IfOk result (λ given. given ≡ None → self.new ≡ self.old) }
+        ensures none { IfOk result (λ given. (given ≡ None) ↔ (unclaimed (state_of self.old).world ≡ [])) }
+        ensures kept { OnErr result (self.new ≡ self.old) }
+    {
+        make_room(&mut self.entries, 1)?;
+        let Given { entry, input } = fetch(&mut self.engine, alloc, worker, picker, steps)?;
+        let Some(input) = input else {
+            return Ok(None);
+        };
+        self.entries.push(entry);
+        Ok(Some(input))
     }
 
     /// A worker, 1 to 8, installs the step that it has claimed. Want of memory changes nothing.
@@ -267,9 +311,34 @@ impl<D: Disk> Run<D> {
         ensures done { OnOk result (Gave D.seen D.may_leave D.failures (install_of worker) self.old self.new) }
         ensures kept { OnErr result (self.new ≡ self.old) }
     {
-        make_room(&mut self.entries)?;
+        make_room(&mut self.entries, 1)?;
         let entry = install(&mut self.engine, alloc, worker, offer, steps)?;
         self.entries.push(entry);
+        Ok(())
+    }
+
+    /// The same, and where the step is installed a clean-up follows. Want of memory changes nothing.
+    pub fn install_and_clean<L: Ledger>(
+        &mut self,
+        alloc: Global,
+        worker: u32,
+        offer: Option<JobResult>,
+        steps: &mut Steps<L>,
+    ) -> Result<(), NoMemory>
+        requires worker { IsWorker worker }
+        requires setup { setup_answered self.old.program self.old.places ≡ true }
+        ensures done { OnOk result (Installs D.seen D.may_leave D.failures worker self.old self.new) }
+        ensures free { OnOk result (claim_of (state_of self.new).world.upkeep worker ≡ None) }
+        ensures kept { OnErr result (self.new ≡ self.old) }
+    {
+        make_room(&mut self.entries, 2)?;
+        let entry = install(&mut self.engine, alloc, worker, offer, steps)?;
+        let cleans = is_installed(&entry);
+        self.entries.push(entry);
+        if cleans {
+            let entry = clean(&mut self.engine, alloc);
+            self.entries.push(entry);
+        }
         Ok(())
     }
 
@@ -283,6 +352,21 @@ impl<D: Disk> Run<D> {
         self.entries.push(entry);
     }
 
+    /// The claim ends that a worker, 1 to 8, may have. It takes no memory.
+    pub fn end_claim(&mut self, worker: u32)
+        requires { IsWorker worker }
+        ensures done { Frees D.seen D.may_leave D.failures worker self.old self.new }
+        ensures free { claim_of (state_of self.new).world.upkeep worker ≡ None }
+        ensures views { unclaimed (state_of self.new).world ≡ views_for worker (state_of self.old).world }
+        ensures program { self.new.program ≡ self.old.program }
+        ensures places { self.new.places ≡ self.old.places }
+    {
+        if self.engine.claim(worker).is_none() {
+            return;
+        }
+        self.release(worker);
+    }
+
     /// Marks a view as maintained to its point. After want of memory nothing has come.
     pub fn mark(&mut self, alloc: Global, view: &Text) -> Result<(), NoMemory>
         requires setup { setup_answered self.old.program self.old.places ≡ true }
@@ -290,7 +374,7 @@ impl<D: Disk> Run<D> {
         ensures done { OnOk result (Gave D.seen D.may_leave D.failures (mark_of view.now) self.old self.new) }
         ensures kept { OnErr result (IsSame self.old self.new) }
     {
-        make_room(&mut self.entries)?;
+        make_room(&mut self.entries, 1)?;
         let Some(number) = view_of_name(self.engine.schema(), view) else {
             let name = view.copy(alloc)?;
             self.entries.push(Entry::MarkUnknown { name });
@@ -307,7 +391,7 @@ impl<D: Disk> Run<D> {
         ensures done { OnOk result (Gave D.seen D.may_leave D.failures clean_up self.old self.new) }
         ensures kept { OnErr result (self.new ≡ self.old) }
     {
-        make_room(&mut self.entries)?;
+        make_room(&mut self.entries, 1)?;
         let entry = clean(&mut self.engine, alloc);
         self.entries.push(entry);
         Ok(())

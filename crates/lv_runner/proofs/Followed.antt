@@ -11,12 +11,12 @@ use Rattle.lv_plain.specs.declared.program.OrderItem.{OrderItem}
 use Rattle.lv_plain.specs.declared.program.OrderItem.TheVariants as item
 use Rattle.lv_plain.specs.declared.program.Program.{Program}
 use Rattle.lv_plain.specs.declared.event.Event.{Event}
-use Rattle.lv_plain.specs.declared.event.Event.TheVariants.{Turn as turn_of}
+use Rattle.lv_plain.specs.declared.event.Event.TheVariants.{Turn as turn_of, Fetch as fetch_of, Install as install_of, Mark as mark_of, Clean as clean_up}
 use Rattle.lv_plain.specs.Events.{greatest, item_events, left_over, round, rounds, schedule}
 use Rattle.lv_plain.specs.Following.{IsFollowable}
 use Rattle.lv_plain.specs.Legal.{MayHappen, events_by, events_of}
 use Rattle.lv_plain.specs.Machine.{State, give}
-use Rattle.lv_plain.specs.Programs.{Places, may_turn}
+use Rattle.lv_plain.specs.Programs.{Places, may_turn, setup_answered}
 use Rattle.lv_plain.proofs.GivenEntries.{its_event}
 use Rattle.lv_plain.proofs.LegalLaws.{events_of-append}
 use Rattle.lv_schema.proofs.Apart.{all_append}
@@ -138,3 +138,24 @@ followed_same old new events same followed = record {
 pub turn_now : {D : Type 0} (c : CoreView D) (e : Event) (session : ℕ) → c.places ≡ (state_of c).places → MayHappen c.program (state_of c) e → e ≡ turn_of session → may_turn c.program c.places session ≡ true
 turn_now c e session places may is =
     subst (λ (ps : Places). may_turn c.program ps session ≡ true) (sym places) (subst (MayHappen c.program (state_of c)) is may)
+
+-- what a worker does, a mark and a clean-up, may be asked once the setup is answered
+module _ {D : Type 0} (c : CoreView D) (places : c.places ≡ (state_of c).places) where
+  answered_now : setup_answered c.program (state_of c).places ≡ true → setup_answered c.program c.places ≡ true
+  answered_now h = subst (λ (ps : Places). setup_answered c.program ps ≡ true) (sym places) h
+
+  pub fetch_now : (e : Event) (worker : ℕ) → MayHappen c.program (state_of c) e → e ≡ fetch_of worker → setup_answered c.program c.places ≡ true
+  fetch_now e worker may is = answered_now (subst (MayHappen c.program (state_of c)) is may).1
+
+  pub install_now : (e : Event) (worker : ℕ) → MayHappen c.program (state_of c) e → e ≡ install_of worker → setup_answered c.program c.places ≡ true
+  install_now e worker may is = answered_now (subst (MayHappen c.program (state_of c)) is may).1
+
+  pub mark_now : (e : Event) (name : List ℕ) → MayHappen c.program (state_of c) e → e ≡ mark_of name → setup_answered c.program c.places ≡ true
+  mark_now e name may is = answered_now (subst (MayHappen c.program (state_of c)) is may).1
+
+  pub clean_now : (e : Event) → MayHappen c.program (state_of c) e → e ≡ clean_up → setup_answered c.program c.places ≡ true
+  clean_now e may is = answered_now (subst (MayHappen c.program (state_of c)) is may)
+
+-- a run that met want of memory goes on
+pub goes_on_same : {D : Type 0} (old new : CoreView D) → IsSame old new → GoesOn old new
+goes_on_same old new same = record { program = same.program; settings = same.settings; opened = same.opened }

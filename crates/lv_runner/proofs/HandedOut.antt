@@ -1,5 +1,5 @@
 -- How a run ends, from the disk's hand-out on.
-use Rattle.std.proofs.Common.{◌≡◌, ℕ, Bool, List, Option, Some, None, inl, inr, refl, sym, ap, ◌∙◌, subst}
+use Rattle.std.proofs.Common.{◌≡◌, ℕ, Bool, true, false, List, Option, Some, None, inl, inr, refl, sym, ap, ◌∙◌, subst}
 use Rattle.std.specs.Prelude.{◌⊎◌, IfSome}
 use Rattle.std.specs.Io.KnownBytes.{Keeps}
 use Rattle.std.proofs.KnownBytes.{Keeps-refl}
@@ -15,9 +15,10 @@ use Rattle.lv_schema.specs.declared.rec.Rec.{Rec}
 use Rattle.lv_runner.specs.declared.reading.Unread.{Unread}
 use Rattle.lv_runner.specs.declared.reading.Unread.TheVariants as why
 use Rattle.lv_runner.specs.declared.status.Status.{Status}
-use Rattle.lv_runner.specs.declared.status.Status.TheVariants.{Done, Words, Script, SourceFault, SinkFault, BadJournal, OpenFault, NoMemory}
-use Rattle.lv_runner.specs.Begun.{EndsOpened, EndsOver, TellsAtLeast, unopened_as}
-use Rattle.lv_runner.specs.Ends.{Ends, HasRead, Outside, Part, WhyUnread, unread_as}
+use Rattle.lv_runner.specs.declared.status.Status.TheVariants.{Done, Words, Script, SourceFault, SinkFault, BadJournal, OpenFault, Differ, NoMemory}
+use Rattle.lv_words.specs.declared.words.Words.{Words as SaidWords}
+use Rattle.lv_runner.specs.Begun.{EndsOpened, EndsOver, IsShort, TellsAtLeast, unopened_as}
+use Rattle.lv_runner.specs.Ends.{Ends, HasInput, Outside, Part, WhyNone, unread_as}
 use Rattle.lv_runner.specs.Written.{HasWrittenPart}
 
 -- ---- what is told of the disk's path
@@ -30,10 +31,10 @@ module _ {D : Type 0} (seen : D → Option (List ℕ)) (may_leave : D → List �
       → IsReopened seen may_leave told recs e
   reopened_as_told told disk recs e tells reopened = record { opens = retold told (seen disk) _ tells reopened.opens; apply = reopened.apply; stands = reopened.stands; records = reopened.records }
 
-  module _ (told : Option (List ℕ)) (bytes : List ℕ) (count : ℕ) where
+  module _ (w : SaidWords) (told : Option (List ℕ)) (bytes : List ℕ) (count : ℕ) where
     -- an engine that was opened
     pub over_opened : (written0 written1 : Option (List ℕ)) (is_flushed : Bool) (sink0 sink1 : ℕ) (status : Status) (back : Option D)
-        → EndsOver seen may_leave faults told bytes count written0 written1 is_flushed sink0 sink1 status back → EndsOpened seen may_leave faults told bytes count written0 written1 is_flushed sink0 sink1 status back
+        → EndsOver seen may_leave faults w told bytes count written0 written1 is_flushed sink0 sink1 status back → EndsOpened seen may_leave faults w told bytes count written0 written1 is_flushed sink0 sink1 status back
     over_opened written0 written1 is_flushed sink0 sink1 status None h = absurd h
     over_opened written0 written1 is_flushed sink0 sink1 Done (Some disk) h = h
     over_opened written0 written1 is_flushed sink0 sink1 Words (Some disk) h = absurd h
@@ -42,63 +43,71 @@ module _ {D : Type 0} (seen : D → Option (List ℕ)) (may_leave : D → List �
     over_opened written0 written1 is_flushed sink0 sink1 SinkFault (Some disk) h = h
     over_opened written0 written1 is_flushed sink0 sink1 (BadJournal offset) (Some disk) h = absurd h
     over_opened written0 written1 is_flushed sink0 sink1 OpenFault (Some disk) h = absurd h
-    over_opened written0 written1 is_flushed sink0 sink1 NoMemory (Some disk) h = inr h
+    over_opened written0 written1 is_flushed sink0 sink1 (Differ session place given kept) (Some disk) h = h
+    over_opened written0 written1 is_flushed sink0 sink1 NoMemory (Some disk) h = by w.threads h
+      where
+        by : (b : Bool) → IsShort seen may_leave faults w told bytes count written0 written1 is_flushed sink0 sink1 b disk → Keeps written0 written1 ⊎ HasWrittenPart seen may_leave faults w told bytes written0 written1 count disk
+        by false wrote = inr wrote
+        by true either = either
 
     -- one that was not
     pub ends_unopened : (there : D) (written : Option (List ℕ)) (is_flushed : Bool) (sink : ℕ) (cause : JFault) (disk : D) (status : Status) → status ≡ unopened_as cause
         → TellsAtLeast seen may_leave faults told there
         → ((offset : ℕ) → cause ≡ journal.Bad offset → IfSome (seen there) (λ f. BadAt f offset)) → (cause ≡ journal.Failed → Rose count (faults disk))
-        → EndsOpened seen may_leave faults told bytes count written written is_flushed sink sink status (Some disk)
+        → EndsOpened seen may_leave faults w told bytes count written written is_flushed sink sink status (Some disk)
     ends_unopened there written is_flushed sink cause disk status is tells bad failed =
-        subst (λ s. EndsOpened seen may_leave faults told bytes count written written is_flushed sink sink s (Some disk)) (sym is) (by cause bad failed)
+        subst (λ s. EndsOpened seen may_leave faults w told bytes count written written is_flushed sink sink s (Some disk)) (sym is) (by cause bad failed)
       where
         by : (cause : JFault) → ((offset : ℕ) → cause ≡ journal.Bad offset → IfSome (seen there) (λ f. BadAt f offset)) → (cause ≡ journal.Failed → Rose count (faults disk))
-            → EndsOpened seen may_leave faults told bytes count written written is_flushed sink sink (unopened_as cause) (Some disk)
+            → EndsOpened seen may_leave faults w told bytes count written written is_flushed sink sink (unopened_as cause) (Some disk)
         by (journal.Bad offset) bad failed = (retold told (seen there) (λ f. BadAt f offset) tells (bad offset refl), Keeps-refl written)
         by journal.Failed bad failed = (failed refl, Keeps-refl written)
         by journal.NoMemory bad failed = inl (Keeps-refl written)
 
   -- ---- the source, the sink and the disks
-  module _ (told path : Option (List ℕ)) (old new : Outside) (bytes : List ℕ) (read : HasRead old.left new.left bytes) where
+  module _ (w : SaidWords) (told path : Option (List ℕ)) (old new : Outside) (bytes : List ℕ) (input : HasInput w.make old.left new.left bytes) where
     handed : (count : ℕ) → new.openings ≡ handed_out old.openings path count → new.openings ≡ handed_out old.openings path new.openings.count
     handed count e = e ∙ ap (handed_out old.openings path) (sym (ap (λ (o : Openings). o.count) e))
 
     abbrev Opened : ℕ → Status → Option D → Type 0
-    Opened count status back = EndsOpened seen may_leave faults told bytes count old.written new.written new.is_flushed old.sink_faults new.sink_faults status back
+    Opened count status back = EndsOpened seen may_leave faults w told bytes count old.written new.written new.is_flushed old.sink_faults new.sink_faults status back
 
-    part : (disk : D) → HasWrittenPart seen faults told bytes old.written new.written new.openings.count disk → Part seen faults told path old new (Some disk)
-    part disk wrote = record { bytes = bytes; read = read; disk = disk; comes_back = refl; wrote = wrote }
+    part : (disk : D) → HasWrittenPart seen may_leave faults w told bytes old.written new.written new.openings.count disk → Part seen may_leave faults w told path old new (Some disk)
+    part disk wrote = record { bytes = bytes; input = input; disk = disk; comes_back = refl; wrote = wrote }
 
-    at_end : new.openings ≡ handed_out old.openings path new.openings.count → (status : Status) (back : Option D) → Opened new.openings.count status back → Ends seen faults told path old new back status
+    at_end : new.openings ≡ handed_out old.openings path new.openings.count → (status : Status) (back : Option D) → Opened new.openings.count status back → Ends seen may_leave faults w told path old new back status
     at_end out status None h = absurd h
-    at_end out Done (Some disk) h = (record { bytes = bytes; read = read; disk = disk; comes_back = refl; wrote = h.0 }, h.1, out)
+    at_end out Done (Some disk) h = (record { bytes = bytes; input = input; disk = disk; comes_back = refl; wrote = h.0 }, h.1, out)
     at_end out Words (Some disk) h = absurd h
     at_end out (Script line kind) (Some disk) h = absurd h
     at_end out SourceFault (Some disk) h = absurd h
     at_end out SinkFault (Some disk) h = (part disk h.0, h.1, out)
     at_end out (BadJournal offset) (Some disk) h = (h.0, h.1, out)
     at_end out OpenFault (Some disk) h = (h.0, h.1, inl out)
+    at_end out (Differ session place given kept) (Some disk) h = (record { bytes = bytes; input = input; differed = h.0 }, h.1, out)
     at_end out NoMemory (Some disk) h = by h
       where
-        by : Keeps old.written new.written ⊎ HasWrittenPart seen faults told bytes old.written new.written new.openings.count disk → Ends seen faults told path old new (Some disk) NoMemory
+        by : Keeps old.written new.written ⊎ HasWrittenPart seen may_leave faults w told bytes old.written new.written new.openings.count disk → Ends seen may_leave faults w told path old new (Some disk) NoMemory
         by (inl kept) = inr (inl kept, out)
         by (inr wrote) = inr (inr (part disk wrote), out)
 
-    pub ends_opened : (count : ℕ) → new.openings ≡ handed_out old.openings path count → (status : Status) (back : Option D) → Opened count status back → Ends seen faults told path old new back status
+    pub ends_opened : (count : ℕ) → new.openings ≡ handed_out old.openings path count → (status : Status) (back : Option D) → Opened count status back → Ends seen may_leave faults w told path old new back status
     ends_opened count e status back h = at_end (handed count e) status back (subst (λ k. Opened k status back) (sym (ap (λ (o : Openings). o.count) e)) h)
 
--- ---- a script that is not read
-module _ {D : Type 0} (seen : D → Option (List ℕ)) (faults : D → ℕ) (told path left0 left1 written : Option (List ℕ)) (faults0 faults1 sink_faults disks_faults : ℕ) (is_flushed : Bool) (openings : Openings) where
+-- ---- a script that is not read, or not made
+module _ {D : Type 0} (seen : D → Option (List ℕ)) (may_leave : D → List ℕ → Type 0) (faults : D → ℕ) (w : SaidWords) (told path left0 left1 written : Option (List ℕ)) (faults0 faults1 sink_faults disks_faults : ℕ) (is_flushed : Bool) (openings : Openings) where
   abbrev before : Outside
   before = record { left = left0; source_faults = faults0; written = written; is_flushed = is_flushed; sink_faults = sink_faults; disks_faults = disks_faults; openings = openings }
 
   abbrev behind : Outside
   behind = record { left = left1; source_faults = faults1; written = written; is_flushed = is_flushed; sink_faults = sink_faults; disks_faults = disks_faults; openings = openings }
 
-  pub ends_unread : (unread : Unread) (status : Status) → status ≡ unread_as unread → WhyUnread left0 left1 faults0 faults1 unread → Ends seen faults told path before behind None status
-  ends_unread unread status is h = subst (Ends seen faults told path before behind None) (sym is) (by unread h)
+  pub ends_unread : (unread : Unread) (status : Status) → status ≡ unread_as unread → WhyNone w.make left0 left1 faults0 faults1 unread → Ends seen may_leave faults w told path before behind None status
+  ends_unread unread status is h = subst (Ends seen may_leave faults w told path before behind None) (sym is) (by w.make refl unread h)
     where
-      by : (u : Unread) → WhyUnread left0 left1 faults0 faults1 u → Ends seen faults told path before behind None (unread_as u)
-      by (why.Script line kind) h = (h, Keeps-refl written, refl)
-      by why.Source h = (h, Keeps-refl written, refl)
-      by why.NoMemory h = inl (Keeps-refl written, refl)
+      by : (m : Option ℕ) → w.make ≡ m → (u : Unread) → WhyNone m left0 left1 faults0 faults1 u → Ends seen may_leave faults w told path before behind None (unread_as u)
+      by None m (why.Script line kind) h = (m, h, Keeps-refl written, refl)
+      by None m why.Source h = (m, h, Keeps-refl written, refl)
+      by (Some n) m (why.Script line kind) h = absurd h
+      by (Some n) m why.Source h = absurd h
+      by made m why.NoMemory h = inl (Keeps-refl written, refl)

@@ -1,7 +1,7 @@
 -- The world that a run begins in, and the records that its disk tells.
-use Rattle.std.proofs.Common.{◌≡◌, ℕ, ◌+◌, ◌-◌, ◌^◌, ◌≤◌, List, ◌++◌, map, refl, sym, ap, ◌∙◌, subst, arith}
-use Rattle.std.specs.Prelude.{min, Option, None, option_map}
-use Rattle.lv_core.specs.Run.{CoreView, IsOpening, IsRun, failures_shown, first_state, rules_of, world_of, written_of}
+use Rattle.std.proofs.Common.{◌≡◌, ℕ, ◌+◌, ◌-◌, ◌^◌, ◌≤◌, List, ◌++◌, map, sym, ap, ◌∙◌, subst, arith}
+use Rattle.std.specs.Prelude.{min, true, Option, Some, None, IfSome, option_map}
+use Rattle.lv_core.specs.Run.{CoreView, IsOpenedBy, IsOpening, IsRun, failures_shown, first_state, rules_of, world_of, written_of}
 use Rattle.lv_engine.specs.Fresh.{IsFresh, world_kept}
 use Rattle.lv_engine.specs.Kept.{EngineView, Stands, length_of}
 use Rattle.lv_engine.specs.Records.{HasRecords}
@@ -10,70 +10,121 @@ use Rattle.lv_plain.specs.declared.program.Program.{Program}
 use Rattle.lv_plain.specs.Legal.{begun}
 use Rattle.lv_plain.specs.WrittenRecords.{records_of}
 use Rattle.lv_record.specs.Spelling.{spelling}
+use Rattle.lv_recover.specs.Reopened.{IsReopened}
+use Rattle.lv_replay.specs.Applies.{all_apply}
 use Rattle.lv_replay.specs.Replayed as replay
+use Rattle.lv_schema.specs.declared.rec.Rec.{Rec}
 use Rattle.lv_schema.specs.World.{World}
 use Rattle.lv_stands.specs.Kept.{EngineKept}
 use Rattle.lv_stands.specs.Stands.{StandsFor}
 use Rattle.lv_store.specs.Kept.{kept}
+use Rattle.lv_words.specs.declared.words.Words.{Words as SaidWords}
+use Rattle.lv_runner.specs.declared.differing.Counts.{Counts}
 use Rattle.lv_runner.specs.Begun.{HasBegun}
-use Rattle.lv_runner.specs.Opened.{IsOpened, TellsRecords}
-use Rattle.lv_runner.specs.Output.{begin_state, run_rules, run_settings}
+use Rattle.lv_runner.specs.Late.{IsSameStore, counts_of}
+use Rattle.lv_runner.specs.Opened.{IsAsLong, OpensBy, TellsRecords}
+use Rattle.lv_runner.specs.Output.{begin_state, run_rules, settings_in}
 use Rattle.lv_runner.specs.Written.{HasEntries, records_from}
 
 -- ---- an engine that is fresh stands for one world
 abbrev pub OneWorldLaw : Type 0
 OneWorldLaw = (w : World) (e : EngineKept) → IsFresh e → StandsFor w e → w ≡ world_kept e
 
-one_world : {D : Type 0} (e : EngineView D) (w : World) → OneWorldLaw → IsOpening e → Stands w e → world_of e ≡ w
+pub one_world : {D : Type 0} (e : EngineView D) (w : World) → OneWorldLaw → IsOpening e → Stands w e → world_of e ≡ w
 one_world e w law fresh stands =
     sym (law w (kept (length_of e.journal) e.store) fresh (subst (λ n. StandsFor w (kept n e.store)) (sym stands.journal_is) stands.store_stands))
 
--- ---- what a run began with
-
--- a core's run that goes on from an engine with this program
-pub record IsFrom {D : Type 0} (p : Program) (e : EngineView D) (c : CoreView D) : Type 0 where
-  pub program : c.program ≡ p
-  pub settings : c.settings ≡ run_settings
-  pub opened : c.opened ≡ e
+if_some_to : {A : Type 0} (o : Option A) (P Q : A → Type 0) → ((x : A) → P x → Q x) → IfSome o P → IfSome o Q
+if_some_to None P Q f h = tt
+if_some_to (Some x) P Q f h = f x h
 
 module _ {D : Type 0} (seen : D → Option (List ℕ)) (may_leave : D → List ℕ → Type 0) (failures : D → ℕ) where
-  module _ (told : Option (List ℕ)) (bytes : List ℕ) (p : Program) (count : ℕ) (e : EngineView D) (c : CoreView D) (begun_ : HasBegun seen may_leave failures told bytes p count e)
-      (law : OneWorldLaw) (fresh : IsOpening e) (run : IsRun seen may_leave failures c) (from : IsFrom p e c) where
-    abbrev pub opened_world : World
-    opened_world = replay.state_of begun_.recs
+  -- an engine that was reopened is opened by its records
+  pub opened_from : OneWorldLaw → {told : Option (List ℕ)} (recs : List Rec) (e : EngineView D) → IsOpening e → IsReopened seen may_leave told recs e → IsOpenedBy seen may_leave recs e
+  opened_from law recs e fresh reopened = record { apply = reopened.apply; made = one_world e (replay.state_of recs) law fresh reopened.stands; had = reopened.records }
 
-    abbrev pub opens : IsOpened told opened_world
-    opens = record { recs = begun_.recs; opens = begun_.reopened.opens; apply = begun_.reopened.apply; is = refl }
+  -- ---- what a run began with
 
-    pub world_is : world_of c.opened ≡ opened_world
-    world_is = ap world_of from.opened ∙ one_world e (replay.state_of begun_.recs) law fresh begun_.reopened.stands
+  -- a core's run for these words of this program, which began over an engine that these records make, and whose disk has
+  -- failed at least so often
+  pub record IsFrom (w : SaidWords) (p : Program) (recs : List Rec) (count : ℕ) (c : CoreView D) : Type 0 where
+    pub program : c.program ≡ p
+    pub settings : c.settings ≡ settings_in w
+    pub world : world_of c.opened ≡ replay.state_of recs
+    pub had : HasRecords seen may_leave recs None c.opened.journal
+    pub counted : count ≤ failures c.opened.journal.disk
+    pub apply : all_apply recs ≡ true
 
-    pub rules_are : rules_of c.settings c.program ≡ run_rules p
+  module _ (w : SaidWords) (p : Program) (recs : List Rec) (count : ℕ) (c : CoreView D) (run : IsRun seen may_leave failures c) (from : IsFrom w p recs count c) where
+    pub rules_are : rules_of c.settings c.program ≡ run_rules w p
     rules_are i = rules_of (from.settings i) (from.program i)
 
-    pub first_is : first_state c ≡ begin_state p opened_world
-    first_is i = begun (rules_are i) (world_is i)
+    pub first_is : first_state c ≡ begin_state w p (replay.state_of recs)
+    first_is i = begun (rules_are i) (from.world i)
 
     -- the disk tells the records of the entries
-    tells : TellsRecords (begun_.recs ++ written_of c) (seen c.engine.journal.disk)
+    tells : TellsRecords (recs ++ written_of c) (seen c.engine.journal.disk) (may_leave c.engine.journal.disk)
     tells =
-        let there = run.records begun_.recs (subst (λ (o : EngineView D). HasRecords seen may_leave begun_.recs None o.journal) (sym from.opened) begun_.reopened.records) in
+        let there = run.records recs from.had in
         let stands = there.1.stands in
         record {
           doubt = there.0;
-          has = told_in (map spelling (begun_.recs ++ written_of c)) (option_map spelling there.0) (seen c.engine.journal.disk) stands.payloads stands.doubtful stands.told;
+          has = told_in (map spelling (recs ++ written_of c)) (option_map spelling there.0) (seen c.engine.journal.disk) stands.payloads stands.doubtful stands.told;
+          images = λ bytes left. told_in (map spelling (recs ++ written_of c)) (option_map spelling there.0) (Some bytes) stands.payloads stands.doubtful (stands.images bytes left);
         }
 
-    written_are : written_of c ≡ records_from p opened_world c.entries
+    written_are : written_of c ≡ records_from w p (replay.state_of recs) c.entries
     written_are i = records_of (rules_are i) (first_is i) c.entries
 
     rises : min (count + failures_shown c.entries) (2 ^ 64 - 1) ≤ failures c.engine.journal.disk
-    rises =
-        let opened_count : count ≤ failures c.opened.journal.disk = subst (λ (o : EngineView D). count ≤ failures o.journal.disk) (sym from.opened) begun_.counted in
-        omega (arith, opened_count, run.caused)
+    rises = omega (arith, from.counted, run.caused)
 
-    pub has_entries : HasEntries seen failures p opened_world begun_.recs c.entries count c.engine.journal.disk
+    pub has_entries : HasEntries seen may_leave failures w p (replay.state_of recs) recs c.entries count c.engine.journal.disk
     has_entries = record {
-      records = subst (λ rs. TellsRecords (begun_.recs ++ rs) (seen c.engine.journal.disk)) written_are tells;
+      records = subst (λ rs. TellsRecords (recs ++ rs) (seen c.engine.journal.disk) (may_leave c.engine.journal.disk)) written_are tells;
       caused = rises;
     }
+
+  -- ---- the engine that was opened, and a core that goes on from it
+  module _ (w : SaidWords) (told : Option (List ℕ)) (bytes : List ℕ) (p : Program) (count : ℕ) (e : EngineView D) (begun_ : HasBegun seen may_leave failures told bytes p count e)
+      (law : OneWorldLaw) (fresh : IsOpening e) where
+    pub from_opened : (c : CoreView D) → c.program ≡ p → c.settings ≡ settings_in w → c.opened ≡ e → IsFrom w p begun_.recs count c
+    from_opened c program settings opened = record {
+      program = program;
+      settings = settings;
+      world = ap world_of opened ∙ one_world e (replay.state_of begun_.recs) law fresh begun_.reopened.stands;
+      had = subst (λ (o : EngineView D). HasRecords seen may_leave begun_.recs None o.journal) (sym opened) begun_.reopened.records;
+      counted = subst (λ (o : EngineView D). count ≤ failures o.journal.disk) (sym opened) begun_.counted;
+      apply = begun_.reopened.apply;
+    }
+
+    -- the one that came back from the threads
+    module _ (first c : CoreView D) (settings : first.settings ≡ settings_in w) (opened : first.opened ≡ e) (run : IsRun seen may_leave failures c)
+        (same : IsSameStore seen may_leave failures p (counts_of seen may_leave failures first) c) where
+      settings_back : c.settings ≡ settings_in w
+      settings_back =
+          let both : c.settings ≡ first.settings = λ i. let n : Counts = same.counts_are i in record { combine = n.combine; limit = n.log_limit; policy = n.policy } in
+          both ∙ settings
+
+      faults_back : failures c.opened.journal.disk ≡ failures e.journal.disk
+      faults_back = ap (λ (n : Counts). n.faults) same.counts_are ∙ ap (λ (o : EngineView D). failures o.journal.disk) opened
+
+      pub from_back : IsFrom w p run.recs count c
+      from_back = record {
+        program = same.program;
+        settings = settings_back;
+        world = run.opened_by.made;
+        had = run.opened_by.had;
+        counted = subst (λ n. count ≤ n) (sym faults_back) begun_.counted;
+        apply = run.opened_by.apply;
+      }
+
+      length_back : (replay.state_of run.recs).upkeep.journal ≡ (replay.state_of begun_.recs).upkeep.journal
+      length_back =
+          ap (λ (v : World). v.upkeep.journal) (sym run.opened_by.made)
+          ∙ (ap (λ (n : Counts). n.length) same.counts_are ∙ (ap (λ (o : EngineView D). length_of o.journal) opened ∙ begun_.reopened.stands.journal_is))
+
+      pub as_long : w.threads ≡ true → IfSome told (λ f. OpensBy w.threads f run.recs)
+      as_long threads =
+          subst (λ b. IfSome told (λ f. OpensBy b f run.recs)) (sym threads)
+          (if_some_to told _ (λ f. IsAsLong f run.recs) (λ f opens. record { first = begun_.recs; opens = opens; length = length_back }) begun_.reopened.opens)

@@ -1,5 +1,5 @@
 -- A run over a disk that was handed out: what is known when it begins, and how it ends.
-use Rattle.std.specs.Prelude.{◌≡◌, ◌≤◌, ◌⊎◌, ℕ, Bool, IsTrue, List, Option, Some, None, IfSome, Ok}
+use Rattle.std.specs.Prelude.{◌≡◌, ◌≤◌, ◌⊎◌, ℕ, Bool, true, false, IsTrue, List, Option, Some, None, IfSome, Ok}
 use Rattle.std.specs.Io.KnownBytes.{Keeps}
 use Rattle.lv_engine.specs.Kept.{EngineView}
 use Rattle.lv_journal.specs.declared.fault.JFault.{JFault}
@@ -11,19 +11,37 @@ use Rattle.lv_recover.specs.Opening.{BadAt}
 use Rattle.lv_recover.specs.Reopened.{IsReopened}
 use Rattle.lv_schema.specs.declared.rec.Rec.{Rec}
 use Rattle.lv_store.specs.declared.settings.Settings as store
+use Rattle.lv_words.specs.declared.words.Words.{Words as SaidWords}
+use Rattle.lv_runner.specs.declared.differing.Counts.{Counts}
+use Rattle.lv_runner.specs.declared.differing.Difference.{Difference}
 use Rattle.lv_runner.specs.declared.status.Status.{Status}
-use Rattle.lv_runner.specs.declared.status.Status.TheVariants.{Done, SinkFault, BadJournal, OpenFault, NoMemory}
+use Rattle.lv_runner.specs.declared.status.Status.TheVariants.{Done, SinkFault, BadJournal, OpenFault, Differ, NoMemory}
+use Rattle.lv_runner.specs.Differing.{IsDifference, shown}
 use Rattle.lv_runner.specs.Written.{HasWritten, HasWrittenPart}
 
 -- the settings of the store
-abbrev pub store_settings : store.Settings
-store_settings = record { combine = 16; log_limit = 1073741824 }
+abbrev pub store_settings : SaidWords → store.Settings
+store_settings w = record { combine = w.combine; log_limit = w.log_limit }
 
 -- how a run ends whose disk's journal was not opened
 abbrev pub unopened_as : JFault → Status
 unopened_as (journal.Bad offset) = BadJournal offset
 unopened_as journal.Failed = OpenFault
 unopened_as journal.NoMemory = NoMemory
+
+-- The words ask for threads, and what came back from them differs: the program from the script's, or the numbers from those
+-- of the words and of the store before.
+pub record HasDiffered (w : SaidWords) (bytes : List ℕ) (d : Difference) : Type 0 where
+  pub threads : w.threads ≡ true
+  pub program : Program
+  pub script : script_of bytes ≡ Ok program
+  pub kept : Program
+  pub given_counts : Counts
+  pub kept_counts : Counts
+  pub combine : given_counts.combine ≡ w.combine
+  pub log_limit : given_counts.log_limit ≡ w.log_limit
+  pub policy : given_counts.policy ≡ w.policy
+  pub differ : IsDifference program kept given_counts kept_counts d
 
 module _ {D : Type 0} (seen : D → Option (List ℕ)) (may_leave : D → List ℕ → Type 0) (faults : D → ℕ) where
   -- the disk told what the path was told to hold, if that was told
@@ -37,13 +55,19 @@ module _ {D : Type 0} (seen : D → Option (List ℕ)) (may_leave : D → List �
     pub reopened : IsReopened seen may_leave told recs e
     pub counted : count ≤ faults e.journal.disk
 
-  module _ (told : Option (List ℕ)) (bytes : List ℕ) (count : ℕ) (written0 written1 : Option (List ℕ)) (is_flushed : Bool) (sink0 sink1 : ℕ) where
+  module _ (w : SaidWords) (told : Option (List ℕ)) (bytes : List ℕ) (count : ℕ) (written0 written1 : Option (List ℕ)) (is_flushed : Bool) (sink0 sink1 : ℕ) where
+    -- what stands where memory was refused; with threads it may be before the store is known to be the one handed in
+    abbrev pub IsShort : Bool → D → Type 0
+    IsShort false disk = HasWrittenPart seen may_leave faults w told bytes written0 written1 count disk
+    IsShort true disk = Keeps written0 written1 ⊎ HasWrittenPart seen may_leave faults w told bytes written0 written1 count disk
+
     -- how a run over an opened engine ends; the disk comes back
     abbrev pub EndsOver : Status → Option D → Type 0
     EndsOver status None = ⊥
-    EndsOver Done (Some disk) = HasWritten seen faults told bytes written0 written1 count disk × IsTrue is_flushed
-    EndsOver SinkFault (Some disk) = HasWrittenPart seen faults told bytes written0 written1 count disk × Rose sink0 sink1
-    EndsOver NoMemory (Some disk) = HasWrittenPart seen faults told bytes written0 written1 count disk
+    EndsOver Done (Some disk) = HasWritten seen may_leave faults w told bytes written0 written1 count disk × IsTrue is_flushed
+    EndsOver SinkFault (Some disk) = HasWrittenPart seen may_leave faults w told bytes written0 written1 count disk × Rose sink0 sink1
+    EndsOver (Differ session place given kept) (Some disk) = HasDiffered w bytes (shown session place given kept) × Keeps written0 written1
+    EndsOver NoMemory (Some disk) = IsShort w.threads disk
     EndsOver status (Some disk) = ⊥
 
     -- how one over a disk that is opened first ends
@@ -53,5 +77,6 @@ module _ {D : Type 0} (seen : D → Option (List ℕ)) (may_leave : D → List �
     EndsOpened SinkFault (Some disk) = EndsOver SinkFault (Some disk)
     EndsOpened (BadJournal offset) (Some disk) = IfSome told (λ f. BadAt f offset) × Keeps written0 written1
     EndsOpened OpenFault (Some disk) = Rose count (faults disk) × Keeps written0 written1
-    EndsOpened NoMemory (Some disk) = Keeps written0 written1 ⊎ HasWrittenPart seen faults told bytes written0 written1 count disk
+    EndsOpened (Differ session place given kept) (Some disk) = EndsOver (Differ session place given kept) (Some disk)
+    EndsOpened NoMemory (Some disk) = Keeps written0 written1 ⊎ HasWrittenPart seen may_leave faults w told bytes written0 written1 count disk
     EndsOpened status (Some disk) = ⊥

@@ -1,14 +1,19 @@
 -- How a run ends: what each status says of the source, the sink and the disks.
 use Rattle.std.specs.Prelude.{◌≡◌, ◌<◌, ◌⊎◌, ℕ, Bool, IsTrue, List, length, Option, Some, None, IfSome}
 use Rattle.std.specs.Io.KnownBytes.{Consumes, IsAtEnd, Keeps}
+use Rattle.lv_make.specs.ScriptText.{made_script}
 use Rattle.lv_outside.specs.Causes.{Rose}
 use Rattle.lv_outside.specs.Opening.{handed_out, turned_away}
 use Rattle.lv_outside.specs.declared.disks.Openings.{Openings}
 use Rattle.lv_recover.specs.Opening.{BadAt}
+use Rattle.lv_words.specs.declared.words.Words.{Words as SaidWords}
+use Rattle.lv_runner.specs.declared.differing.Difference.{Difference}
 use Rattle.lv_runner.specs.declared.reading.Unread.{Unread}
 use Rattle.lv_runner.specs.declared.reading.Unread.TheVariants as why
 use Rattle.lv_runner.specs.declared.status.Status.{Status}
-use Rattle.lv_runner.specs.declared.status.Status.TheVariants.{Done, Words, Script, SourceFault, SinkFault, BadJournal, OpenFault, NoMemory}
+use Rattle.lv_runner.specs.declared.status.Status.TheVariants.{Done, Words, Script, SourceFault, SinkFault, BadJournal, OpenFault, Differ, NoMemory}
+use Rattle.lv_runner.specs.Begun.{HasDiffered}
+use Rattle.lv_runner.specs.Differing.{shown}
 use Rattle.lv_runner.specs.Output.{limit, IsBad}
 use Rattle.lv_runner.specs.Written.{HasWritten, HasWrittenPart}
 
@@ -23,12 +28,22 @@ pub record Outside : Type 0 where
   pub disks_faults : ℕ
   pub openings : Openings
 
--- ---- the source
+-- ---- the script
 
--- it was read to its end, and these are its bytes
+-- the source was read to its end, and these are its bytes
 pub record HasRead (left0 left1 : Option (List ℕ)) (bytes : List ℕ) : Type 0 where
   pub consumed : Consumes left0 left1 bytes
   pub ended : IsAtEnd left1
+
+-- a script of so many statements was made, and the source was left alone
+pub record HasMade (n : ℕ) (left0 left1 : Option (List ℕ)) (bytes : List ℕ) : Type 0 where
+  pub made : bytes ≡ made_script n
+  pub alone : left1 ≡ left0
+
+-- the bytes of the script: those of the source, or those that are made
+abbrev pub HasInput : Option ℕ → Option (List ℕ) → Option (List ℕ) → List ℕ → Type 0
+HasInput None left0 left1 bytes = HasRead left0 left1 bytes
+HasInput (Some n) left0 left1 bytes = HasMade n left0 left1 bytes
 
 -- The bytes read are refused at this line, with this kind, and the source was read to its end. Or it has more bytes than
 -- a script may have: that is kind 2 at line 0.
@@ -43,6 +58,16 @@ abbrev pub WhyUnread : Option (List ℕ) → Option (List ℕ) → ℕ → ℕ �
 WhyUnread left0 left1 faults0 faults1 (why.Script line kind) = Refused left0 left1 line kind
 WhyUnread left0 left1 faults0 faults1 why.Source = Rose faults0 faults1
 WhyUnread left0 left1 faults0 faults1 why.NoMemory = Unit {0}
+
+-- a script that is made is never refused, and no source fails
+abbrev pub WhyUnmade : Unread → Type 0
+WhyUnmade (why.Script line kind) = ⊥
+WhyUnmade why.Source = ⊥
+WhyUnmade why.NoMemory = Unit {0}
+
+abbrev pub WhyNone : Option ℕ → Option (List ℕ) → Option (List ℕ) → ℕ → ℕ → Unread → Type 0
+WhyNone None left0 left1 faults0 faults1 unread = WhyUnread left0 left1 faults0 faults1 unread
+WhyNone (Some n) left0 left1 faults0 faults1 unread = WhyUnmade unread
 
 -- how a run without a program ends
 abbrev pub unread_as : Unread → Status
@@ -74,28 +99,34 @@ FailedOpening faults faults0 faults1 count (Some disk) = Rose count (faults disk
 
 -- ---- the run
 
-module _ {D : Type 0} (seen : D → Option (List ℕ)) (faults : D → ℕ) (told left0 left1 written0 written1 : Option (List ℕ)) (count : ℕ) where
-  -- the source was read, and the whole output was written, or a part of it; the disk comes back
+module _ {D : Type 0} (seen : D → Option (List ℕ)) (may_leave : D → List ℕ → Type 0) (faults : D → ℕ) (w : SaidWords) (told left0 left1 written0 written1 : Option (List ℕ)) (count : ℕ) where
+  -- there was a script, and the whole output was written, or a part of it; the disk comes back
   pub record DidAll (back : Option D) : Type 0 where
     pub bytes : List ℕ
-    pub read : HasRead left0 left1 bytes
+    pub input : HasInput w.make left0 left1 bytes
     pub disk : D
     pub comes_back : back ≡ Some disk
-    pub wrote : HasWritten seen faults told bytes written0 written1 count disk
+    pub wrote : HasWritten seen may_leave faults w told bytes written0 written1 count disk
 
   pub record DidPart (back : Option D) : Type 0 where
     pub bytes : List ℕ
-    pub read : HasRead left0 left1 bytes
+    pub input : HasInput w.make left0 left1 bytes
     pub disk : D
     pub comes_back : back ≡ Some disk
-    pub wrote : HasWrittenPart seen faults told bytes written0 written1 count disk
+    pub wrote : HasWrittenPart seen may_leave faults w told bytes written0 written1 count disk
 
-module _ {D : Type 0} (seen : D → Option (List ℕ)) (faults : D → ℕ) (told path : Option (List ℕ)) (old new : Outside) (back : Option D) where
+-- there was a script, and what came back from the threads differs
+pub record DidDiffer (w : SaidWords) (left0 left1 : Option (List ℕ)) (d : Difference) : Type 0 where
+  pub bytes : List ℕ
+  pub input : HasInput w.make left0 left1 bytes
+  pub differed : HasDiffered w bytes d
+
+module _ {D : Type 0} (seen : D → Option (List ℕ)) (may_leave : D → List ℕ → Type 0) (faults : D → ℕ) (w : SaidWords) (told path : Option (List ℕ)) (old new : Outside) (back : Option D) where
   abbrev pub All : Type 0
-  All = DidAll seen faults told old.left new.left old.written new.written new.openings.count back
+  All = DidAll seen may_leave faults w told old.left new.left old.written new.written new.openings.count back
 
   abbrev pub Part : Type 0
-  Part = DidPart seen faults told old.left new.left old.written new.written new.openings.count back
+  Part = DidPart seen may_leave faults w told old.left new.left old.written new.written new.openings.count back
 
   abbrev pub Nothing : Type 0
   Nothing = Keeps old.written new.written
@@ -111,9 +142,10 @@ module _ {D : Type 0} (seen : D → Option (List ℕ)) (faults : D → ℕ) (tol
   abbrev pub Ends : Status → Type 0
   Ends Done = All × IsTrue new.is_flushed × IsHandedOut
   Ends Words = ⊥
-  Ends (Script line kind) = Refused old.left new.left line kind × Nothing × IsNotAsked
-  Ends SourceFault = Rose old.source_faults new.source_faults × Nothing × IsNotAsked
+  Ends (Script line kind) = (w.make ≡ None) × Refused old.left new.left line kind × Nothing × IsNotAsked
+  Ends SourceFault = (w.make ≡ None) × Rose old.source_faults new.source_faults × Nothing × IsNotAsked
   Ends SinkFault = Part × Rose old.sink_faults new.sink_faults × IsHandedOut
   Ends (BadJournal offset) = IfSome told (λ bytes. BadAt bytes offset) × Nothing × IsHandedOut
   Ends OpenFault = FailedOpening faults old.disks_faults new.disks_faults new.openings.count back × Nothing × (IsHandedOut ⊎ TurnedAway path old.openings new.openings back)
+  Ends (Differ session place given kept) = DidDiffer w old.left new.left (shown session place given kept) × Nothing × IsHandedOut
   Ends NoMemory = (Nothing × IsNotAsked) ⊎ ((Nothing ⊎ Part) × IsHandedOut)

@@ -39,6 +39,11 @@ pub record HasFollowed {D : Type 0} (c : CoreView D) (events : List Event) : Typ
   pub events_are : events_of (rules_of c.settings c.program) (first_state c) c.entries ≡ events
   pub places : c.places ≡ places_after c.program events
 
+-- the first of these events have come, one after another
+pub record HasCome {D : Type 0} (c : CoreView D) (events : List Event) : Type 0 where
+  pub count : ℕ
+  pub followed : HasFollowed c (take count events)
+
 -- ---- names and texts
 
 -- the names that there are now, and names that there were

@@ -1,9 +1,11 @@
 pub mod Begun
+pub mod Differing
 pub mod Ends
 pub mod Following
+pub mod Late
 pub mod Opened
 pub mod Output
 pub mod Plan
+pub mod Rounds
 pub mod Status
-pub mod Words
 pub mod Written

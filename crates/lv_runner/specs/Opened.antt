@@ -1,5 +1,5 @@
 -- The world over which a program is run, by what a disk tells.
-use Rattle.std.specs.Prelude.{◌≡◌, ℕ, true, List, map, Option, IfSome, option_map}
+use Rattle.std.specs.Prelude.{◌≡◌, ℕ, Bool, true, false, List, map, Option, IfSome, option_map}
 use Rattle.lv_journal.specs.Standing.{RecordsIn}
 use Rattle.lv_record.specs.Spelling.{spelling}
 use Rattle.lv_recover.specs.Opening.{OpensAs}
@@ -8,15 +8,29 @@ use Rattle.lv_replay.specs.Replayed.{state_of}
 use Rattle.lv_schema.specs.declared.rec.Rec.{Rec}
 use Rattle.lv_schema.specs.World.{World}
 
--- The opened world is the one that records make which apply one after another: those that the journal spells, where it
--- is told what the journal holds.
-pub record IsOpened (told : Option (List ℕ)) (opened : World) : Type 0 where
+-- the world of these records has a journal as long as that of the records as which these bytes open
+pub record IsAsLong (bytes : List ℕ) (recs : List Rec) : Type 0 where
+  pub first : List Rec
+  pub opens : OpensAs bytes first
+  pub length : (state_of recs).upkeep.journal ≡ (state_of first).upkeep.journal
+
+-- The records of the opened world: those that the journal spells; with threads, those that the returned store says that it
+-- was opened with, of which the length alone was compared.
+abbrev pub OpensBy : Bool → List ℕ → List Rec → Type 0
+OpensBy false bytes recs = OpensAs bytes recs
+OpensBy true bytes recs = IsAsLong bytes recs
+
+-- The opened world is the one that records make which apply one after another: those of the journal, where it is told what
+-- the journal holds.
+pub record IsOpened (threads : Bool) (told : Option (List ℕ)) (opened : World) : Type 0 where
   pub recs : List Rec
-  pub opens : IfSome told (λ bytes. OpensAs bytes recs)
+  pub opens : IfSome told (λ bytes. OpensBy threads bytes recs)
   pub apply : all_apply recs ≡ true
   pub is : opened ≡ state_of recs
 
--- The journal on a disk has these records, and perhaps behind them one that is in doubt, where the disk tells its bytes.
-pub record TellsRecords (recs : List Rec) (told : Option (List ℕ)) : Type 0 where
+-- The journal on a disk has these records, and perhaps behind them one that is in doubt: where the disk tells its bytes, and in
+-- each image that a crash may leave at this moment.
+pub record TellsRecords (recs : List Rec) (told : Option (List ℕ)) (may_leave : List ℕ → Type 0) : Type 0 where
   pub doubt : Option Rec
   pub has : IfSome told (RecordsIn (map spelling recs) (option_map spelling doubt))
+  pub images : (bytes : List ℕ) → may_leave bytes → RecordsIn (map spelling recs) (option_map spelling doubt) bytes

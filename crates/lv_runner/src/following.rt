@@ -21,7 +21,7 @@ use std::alloc::Global;
 use std::sync::ledger::Ledger;
 
 /// Answers an event. Want of memory changes nothing.
-fn answer_event<D: Disk, L: Ledger>(
+pub(crate) fn answer_event<D: Disk, L: Ledger>(
     alloc: Global,
     core: &mut Core<D>,
     event: &Event,

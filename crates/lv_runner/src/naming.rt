@@ -81,7 +81,6 @@ fn renew_views(alloc: Global, schema: &Schema, names: &mut Texts) -> Result<(), 
 }
 
 /// Copies the names of the tables, or of the views, anew where there are more of them. Cost: constant where there are not.
-#[tactic(auto, using(crate::proofs::Named::renewed))]
 pub(crate) fn renew_names<D: Disk>(
     alloc: Global,
     core: &Core<D>,

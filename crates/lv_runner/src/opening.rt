@@ -1,69 +1,37 @@
 //! A program over the disk of a path.
-ghost use Rattle.std.specs.Prelude.{◌≡◌, ◌≤◌, ◌<◌, ◌-◌, ◌^◌, [], ℕ, List, Option, Ok, Some, option_map};
-ghost use Rattle.lv_core.specs.Run.{IsOpening, IsRun};
+ghost use Rattle.std.specs.Prelude.{◌≡◌, ◌≤◌, ◌<◌, ◌-◌, ◌^◌, [], true, false, ℕ, List, Option, None, Ok};
+ghost use Rattle.std.specs.Option.{option_map};
+ghost use Rattle.lv_core.specs.Run.{IsOpenedBy, IsOpening};
 ghost use Rattle.lv_lines.specs.Script.{script_of};
+ghost use Rattle.lv_schema.specs.declared.rec.Rec.{Rec};
+ghost use Rattle.lv_words.specs.Range.{IsInRange};
 ghost use Rattle.lv_runner.specs.Begun.{EndsOpened, EndsOver, HasBegun, TellsAtLeast, store_settings, unopened_as};
-ghost use Rattle.lv_runner.specs.Ends.{Ends, HasRead};
-ghost use Rattle.lv_runner.specs.Following.{HasRun, MayFollow};
+ghost use Rattle.lv_runner.specs.Ends.{Ends, HasInput};
+ghost use Rattle.lv_runner.specs.Following.{MayFollow};
+ghost use Rattle.lv_runner.specs.Late.{HasRunBy};
 ghost use Rattle.lv_runner.specs.Plan.{IsPlan};
 
-use crate::following::write_run;
 use crate::ran::Ran;
 use crate::reading::Plan;
+use crate::running::{run_in_order, run_summed};
 use crate::status::Status;
-use crate::writing::Stop;
+use crate::threads::run_in_threads;
 use lv_core::Core;
 use lv_engine::{Engine, fresh_engines_stand_for_one_world};
 use lv_journal::JFault;
 use lv_order::{all_is_answered, each_event_may_come, places_after_events};
-use lv_outside::{Disk, Disks, OpenFault, Sink};
+use lv_outside::{Disk, Disks, Gate, OpenFault, Sink};
 use lv_picker::Picker;
 use lv_plain::Event;
 use lv_recover::{Reopen, reopen};
 use lv_store::Settings;
-use lv_values::{Steps, Text};
+use lv_values::{Copying, Steps, Text};
+use lv_words::Words;
 use std::alloc::Global;
 use std::marker::Brand;
+use std::sync::Wait;
 use std::sync::ledger::{Blank, Ledger};
-
-/// How many pending tasks of a view one step may combine.
-const COMBINE: u32 = 16;
-
-/// The most bytes of a journal.
-const LOG_LIMIT: u64 = 1073741824;
-
-/// The disk of a core whose run has ended.
-fn give_back<D: Disk>(core: Core<D>, status: Status) -> Ran<D>
-    ensures status { result.status ≡ status }
-    ensures disk { result.disk ≡ Some core.run.engine.journal.disk }
-    ensures run { IsRun D.seen D.may_leave D.failures core.run }
-{
-    core.known();
-    Ran {
-        status,
-        disk: Some(core.into_engine().into_disk()),
-    }
-}
-
-/// Answers these events from the begin of the core's program, and gives the disk back.
-fn run_core<K: Sink, D: Disk, L: Ledger>(
-    alloc: Global,
-    mut core: Core<D>,
-    events: &[Event],
-    sink: &mut K,
-    steps: &mut Steps<L>,
-) -> Ran<D>
-    requires fresh { core.run.entries ≡ [] }
-    requires may { MayFollow core.run.program events.now }
-    ensures ends { HasRun D.seen D.may_leave D.failures core.run events.now (K.written sink.old) (K.written sink.new) (K.is_flushed sink.new) (K.faults sink.old) (K.faults sink.new) result.status result.disk }
-    ensures later { K.faults sink.old ≤ K.faults sink.new }
-{
-    match write_run(alloc, &mut core, events, sink, steps) {
-        Ok(()) => give_back(core, Status::Done),
-        Err(Stop::Sink) => give_back(core, Status::SinkFault),
-        Err(Stop::NoMemory) => give_back(core, Status::NoMemory),
-    }
-}
+use std::thread::Threads;
 
 /// How a run over a disk that was not opened ends.
 fn unopened(cause: JFault) -> Status
@@ -76,22 +44,44 @@ fn unopened(cause: JFault) -> Status
     }
 }
 
-/// Runs a program over an opened engine: each event of its schedule is answered, in order. Nobody looks at the count of the
-/// rows that are read.
-fn run_over<K: Sink, D: Disk, L: Ledger>(
+/// Runs a program over a core from its begin, without threads: each event of the schedule is answered, in order.
+fn run_ordered<K: Sink, D: Disk, L: Ledger>(
+    alloc: Global,
+    core: Core<D>,
+    words: &Words,
+    events: &[Event],
+    sink: &mut K,
+    steps: &mut Steps<L>,
+) -> Ran<D>
+    requires fresh { core.run.entries ≡ [] }
+    requires may { MayFollow core.run.program events.now }
+    ensures ends { HasRunBy D.seen D.may_leave D.failures words.now.make core.run events.now (K.written sink.old) (K.written sink.new) (K.is_flushed sink.new) (K.faults sink.old) (K.faults sink.new) result.status result.disk }
+    ensures later { K.faults sink.old ≤ K.faults sink.new }
+{
+    match words.make {
+        None => run_in_order(alloc, core, events, sink, steps),
+        Some(made) => run_summed(alloc, core, events, made, sink, steps),
+    }
+}
+
+/// Makes a core over an opened engine, and runs its program without threads.
+fn run_alone<K: Sink, D: Disk, L: Ledger>(
     alloc: Global,
     engine: Engine<D>,
     plan: Plan,
+    words: &Words,
     picker: Picker,
     sink: &mut K,
     steps: &mut Steps<L>,
 ) -> Ran<D>
-    requires policy { picker.kind ≡ 0 }
+    requires policy { picker.kind ≡ words.now.policy }
     requires plan { IsPlan plan }
-    requires settings { engine.store.settings ≡ store_settings }
+    requires settings { engine.store.settings ≡ store_settings words.now }
     requires fresh { IsOpening engine }
+    requires records { (recs : List Rec) × IsOpenedBy D.seen D.may_leave recs engine }
+    requires alone { words.now.threads ≡ false }
     ensures ends { (told : Option (List ℕ)) (bytes : List ℕ) (count : ℕ) → HasBegun D.seen D.may_leave D.failures told bytes plan.program count engine
-        → EndsOver D.seen D.may_leave D.failures told bytes count (K.written sink.old) (K.written sink.new) (K.is_flushed sink.new) (K.faults sink.old) (K.faults sink.new) result.status result.disk }
+        → EndsOver D.seen D.may_leave D.failures words.now told bytes count (K.written sink.old) (K.written sink.new) (K.is_flushed sink.new) (K.faults sink.old) (K.faults sink.new) result.status result.disk }
     ensures later { K.faults sink.old ≤ K.faults sink.new }
 {
     each_event_may_come();
@@ -100,7 +90,7 @@ fn run_over<K: Sink, D: Disk, L: Ledger>(
     fresh_engines_stand_for_one_world();
     let Plan { program, events } = plan;
     match Core::new(alloc, engine, program, picker) {
-        Ok(core) => run_core(alloc, core, events.as_slice(), sink, steps),
+        Ok(core) => run_ordered(alloc, core, words, events.as_slice(), sink, steps),
         Err(engine) => Ran {
             status: Status::NoMemory,
             disk: Some(engine.into_disk()),
@@ -108,31 +98,109 @@ fn run_over<K: Sink, D: Disk, L: Ledger>(
     }
 }
 
+/// Makes a core over an opened engine, and runs its program in threads. The program is copied: what comes back is compared
+/// with it.
+fn run_beside<R: Threads + Wait + Sync, K: Sink, D: Disk + Send, G: Gate + Sync, L: Ledger>(
+    rt: &R,
+    alloc: Global,
+    engine: Engine<D>,
+    plan: Plan,
+    words: &Words,
+    picker: Picker,
+    gate: &G,
+    sink: &mut K,
+    steps: &mut Steps<L>,
+) -> Ran<D>
+    requires policy { picker.kind ≡ words.now.policy }
+    requires plan { IsPlan plan }
+    requires settings { engine.store.settings ≡ store_settings words.now }
+    requires fresh { IsOpening engine }
+    requires records { (recs : List Rec) × IsOpenedBy D.seen D.may_leave recs engine }
+    requires beside { words.now.threads ≡ true }
+    requires apart { words.now.make ≡ None }
+    requires workers { words.now.workers ≤ 8 }
+    ensures ends { (told : Option (List ℕ)) (bytes : List ℕ) (count : ℕ) → HasBegun D.seen D.may_leave D.failures told bytes plan.program count engine
+        → EndsOver D.seen D.may_leave D.failures words.now told bytes count (K.written sink.old) (K.written sink.new) (K.is_flushed sink.new) (K.faults sink.old) (K.faults sink.new) result.status result.disk }
+    ensures later { K.faults sink.old ≤ K.faults sink.new }
+{
+    fresh_engines_stand_for_one_world();
+    let Plan { program, .. } = plan;
+    let Ok(copied) = program.copy(alloc) else {
+        return Ran {
+            status: Status::NoMemory,
+            disk: Some(engine.into_disk()),
+        };
+    };
+    match Core::new(alloc, engine, copied, picker) {
+        Ok(core) => run_in_threads(rt, alloc, core, &program, words, gate, sink, steps),
+        Err(engine) => Ran {
+            status: Status::NoMemory,
+            disk: Some(engine.into_disk()),
+        },
+    }
+}
+
+/// Runs a program over an opened engine. Nobody looks at the count of the rows that are read.
+fn run_over<R: Threads + Wait + Sync, K: Sink, D: Disk + Send, G: Gate + Sync, L: Ledger>(
+    rt: &R,
+    alloc: Global,
+    engine: Engine<D>,
+    plan: Plan,
+    words: &Words,
+    picker: Picker,
+    gate: &G,
+    sink: &mut K,
+    steps: &mut Steps<L>,
+) -> Ran<D>
+    requires policy { picker.kind ≡ words.now.policy }
+    requires plan { IsPlan plan }
+    requires settings { engine.store.settings ≡ store_settings words.now }
+    requires fresh { IsOpening engine }
+    requires records { (recs : List Rec) × IsOpenedBy D.seen D.may_leave recs engine }
+    requires range { IsInRange words.now }
+    ensures ends { (told : Option (List ℕ)) (bytes : List ℕ) (count : ℕ) → HasBegun D.seen D.may_leave D.failures told bytes plan.program count engine
+        → EndsOver D.seen D.may_leave D.failures words.now told bytes count (K.written sink.old) (K.written sink.new) (K.is_flushed sink.new) (K.faults sink.old) (K.faults sink.new) result.status result.disk }
+    ensures later { K.faults sink.old ≤ K.faults sink.new }
+{
+    if words.threads {
+        run_beside(rt, alloc, engine, plan, words, picker, gate, sink, steps)
+    } else {
+        run_alone(alloc, engine, plan, words, picker, sink, steps)
+    }
+}
+
 /// Opens the journal of a disk and runs a program over it.
-fn run_on<K: Sink, D: Disk, L: Ledger>(
+fn run_on<R: Threads + Wait + Sync, K: Sink, D: Disk + Send, G: Gate + Sync, L: Ledger>(
+    rt: &R,
     alloc: Global,
     disk: D,
     plan: Plan,
+    words: &Words,
     picker: Picker,
+    gate: &G,
     sink: &mut K,
     blank: Blank,
 ) -> Ran<D>
     requires name { blank.name ≡ L.name }
     requires parts { blank.parts ≡ L.parts }
     requires some { 0 < blank.parts }
-    requires policy { picker.kind ≡ 0 }
+    requires policy { picker.kind ≡ words.now.policy }
     requires plan { IsPlan plan }
+    requires range { IsInRange words.now }
     ensures ends { (told : Option (List ℕ)) (bytes : List ℕ) → TellsAtLeast D.seen D.may_leave D.failures told disk → script_of bytes ≡ Ok plan.program
-        → EndsOpened D.seen D.may_leave D.failures told bytes (D.failures disk) (K.written sink.old) (K.written sink.new) (K.is_flushed sink.new) (K.faults sink.old) (K.faults sink.new) result.status result.disk }
+        → EndsOpened D.seen D.may_leave D.failures words.now told bytes (D.failures disk) (K.written sink.old) (K.written sink.new) (K.is_flushed sink.new) (K.faults sink.old) (K.faults sink.new) result.status result.disk }
     ensures later { K.faults sink.old ≤ K.faults sink.new }
 {
+    fresh_engines_stand_for_one_world();
     let settings = Settings {
-        combine: COMBINE,
-        log_limit: LOG_LIMIT,
+        combine: words.combine,
+        log_limit: words.log_limit,
     };
     let mut steps = Steps::<L>::new(blank);
     match reopen(alloc, disk, settings, &mut steps) {
-        Ok(engine) => run_over(alloc, engine, plan, picker, sink, &mut steps),
+        Ok(engine) => run_over(
+            rt, alloc, engine, plan, words, picker, gate, sink, &mut steps,
+        ),
         Err(Reopen { disk, cause }) => Ran {
             status: unopened(cause),
             disk: Some(disk),
@@ -140,28 +208,51 @@ fn run_on<K: Sink, D: Disk, L: Ledger>(
     }
 }
 
-/// Has the disk of a path handed out and runs a program over it.
-pub(crate) fn open_and_run<K: Sink, O: Disks>(
+/// The path of the journal.
+fn path_of(words: &Words) -> Option<&Text>
+    ensures { option_map (λ p. p.now) result ≡ words.now.log }
+{
+    match &words.log {
+        Some(path) => Some(path),
+        None => None,
+    }
+}
+
+/// Has the disk of the words' path handed out and runs a program over it.
+pub(crate) fn open_and_run<R: Threads + Wait + Sync, K: Sink, O: Disks, G: Gate + Sync>(
+    rt: &R,
     alloc: Global,
     plan: Plan,
+    words: &Words,
     picker: Picker,
+    gate: &G,
     sink: &mut K,
     disks: &mut O,
-    path: Option<&Text>,
 ) -> Ran<O::Disk>
     requires asked { (O.openings disks.old).asked < 2 ^ 64 - 1 }
-    requires policy { picker.kind ≡ 0 }
+    requires policy { picker.kind ≡ words.now.policy }
     requires plan { IsPlan plan }
-    ensures ends { (left0 left1 : Option (List ℕ)) (faults0 faults1 : ℕ) (bytes : List ℕ) → HasRead left0 left1 bytes → script_of bytes ≡ Ok plan.program
-        → Ends O.Disk.seen O.Disk.failures (O.holds disks.old (option_map (λ p. p.now) path.entry)) (option_map (λ p. p.now) path.entry)
+    requires range { IsInRange words.now }
+    ensures ends { (left0 left1 : Option (List ℕ)) (faults0 faults1 : ℕ) (bytes : List ℕ) → HasInput words.now.make left0 left1 bytes → script_of bytes ≡ Ok plan.program
+        → Ends O.Disk.seen O.Disk.may_leave O.Disk.failures words.now (O.holds disks.old words.now.log) words.now.log
         (record { left = left0; source_faults = faults0; written = K.written sink.old; is_flushed = K.is_flushed sink.old; sink_faults = K.faults sink.old; disks_faults = O.failures disks.old; openings = O.openings disks.old })
         (record { left = left1; source_faults = faults1; written = K.written sink.new; is_flushed = K.is_flushed sink.new; sink_faults = K.faults sink.new; disks_faults = O.failures disks.new; openings = O.openings disks.new })
         result.disk result.status }
     ensures sink_count { K.faults sink.old ≤ K.faults sink.new }
     ensures disks_count { O.failures disks.old ≤ O.failures disks.new }
 {
-    match disks.open_disk(path) {
-        Ok(disk) => run_on::<K, O::Disk, Brand>(alloc, disk, plan, picker, sink, Blank::new(1)),
+    match disks.open_disk(path_of(words)) {
+        Ok(disk) => run_on::<R, K, O::Disk, G, Brand>(
+            rt,
+            alloc,
+            disk,
+            plan,
+            words,
+            picker,
+            gate,
+            sink,
+            Blank::new(1),
+        ),
         Err(OpenFault::Failed) => Ran {
             status: Status::OpenFault,
             disk: None,

@@ -1,13 +1,15 @@
 //! The script, as it is read from the source.
-ghost use Rattle.std.specs.Prelude.{◌≡◌, ◌≤◌, ℕ, List, MatchResult, length};
+ghost use Rattle.std.specs.Prelude.{◌≡◌, ◌≤◌, ℕ, List, IfOk, IfSome, MatchResult, length};
 ghost use Rattle.std.specs.Io.KnownBytes.{Consumes, IsAtEnd};
 ghost use Rattle.lv_lines.specs.Judged.{IsFaultOf};
 ghost use Rattle.lv_lines.specs.Script.{script_of};
-ghost use Rattle.lv_runner.specs.Ends.{HasRead, WhyUnread};
+ghost use Rattle.lv_make.specs.ScriptText.{made_script};
+ghost use Rattle.lv_runner.specs.Ends.{HasInput, HasRead, WhyNone, WhyUnread};
 ghost use Rattle.lv_runner.specs.Output.{limit};
 ghost use Rattle.lv_runner.specs.Plan.{IsCause, IsPlanOf};
 
 use lv_lines::{ScriptFault, read_script};
+use lv_make::make_program;
 use lv_order::events_in_order;
 use lv_outside::{Ended, ReadFault, Source, read_whole};
 use lv_plain::{Events, Program};
@@ -88,11 +90,39 @@ fn plan_of(alloc: Global, bytes: &[u8]) -> Result<Plan, Unread>
 
 /// Reads a script. Cost: linear in the script.
 #[tactic(auto, using(crate::proofs::Read::plan_read))]
-pub(crate) fn read_plan<S: Source>(alloc: Global, source: &mut S) -> Result<Plan, Unread>
+fn read_plan<S: Source>(alloc: Global, source: &mut S) -> Result<Plan, Unread>
     ensures plan { MatchResult result (λ plan. (bytes : List ℕ) × HasRead (S.left source.old) (S.left source.new) bytes × IsPlanOf bytes plan)
         (WhyUnread (S.left source.old) (S.left source.new) (S.faults source.old) (S.faults source.new)) }
     ensures count { S.faults source.old ≤ S.faults source.new }
 {
     let bytes = read_bytes(alloc, source)?;
     plan_of(alloc, bytes.as_slice())
+}
+
+/// The program of a script that is made for so many sales, and the events of its schedule. Cost: linear in the script.
+fn made_plan(alloc: Global, number: u32) -> Result<Plan, NoMemory>
+    requires some { 1 ≤ number }
+    requires most { number ≤ 65536 }
+    ensures { IfOk result (IsPlanOf (made_script number)) }
+{
+    let program = make_program(alloc, number)?;
+    let events = events_in_order(alloc, &program)?;
+    Ok(Plan { program, events })
+}
+
+/// Reads a script, or makes it where so many sales are asked for; then the source is left alone.
+pub(crate) fn plan_for<S: Source>(
+    alloc: Global,
+    made: Option<u32>,
+    source: &mut S,
+) -> Result<Plan, Unread>
+    requires { IfSome made (λ n. (1 ≤ n) × (n ≤ 65536)) }
+    ensures plan { MatchResult result (λ plan. (bytes : List ℕ) × HasInput made (S.left source.old) (S.left source.new) bytes × IsPlanOf bytes plan)
+        (WhyNone made (S.left source.old) (S.left source.new) (S.faults source.old) (S.faults source.new)) }
+    ensures count { S.faults source.old ≤ S.faults source.new }
+{
+    match made {
+        None => read_plan(alloc, source),
+        Some(number) => Ok(made_plan(alloc, number)?),
+    }
 }

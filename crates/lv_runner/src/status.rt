@@ -1,24 +1,39 @@
 //! How a run ends.
 ghost use Rattle.std.specs.Prelude.{◌≡◌};
 
+use lv_values::Text;
+
 /// How a run ends.
-#[derive(Clone, Copy, Debug, PartialEq, Eq)]
+#[derive(Drop, PartialEq, Eq)]
 pub enum Status {
-    /// The script was read, every statement is answered, and the whole text is written.
+    /// The script was read or made, every statement is answered, and the whole output is written.
     Done,
     /// The words are refused.
     Words,
     /// The script is refused: the first line with a fault, counted from 1, and the lowest kind of its faults, 1 to 12.
     /// A script that is too long has kind 2 at line 0.
-    Script { line: u64, kind: u8 },
+    Script {
+        line: u64,
+        kind: u8,
+    },
     /// The source failed.
     SourceFault,
     /// The sink failed.
     SinkFault,
     /// The journal is bad at this place.
-    BadJournal { offset: u64 },
+    BadJournal {
+        offset: u64,
+    },
     /// No disk was handed out, or the one that was could not be read.
     OpenFault,
+    /// What came back from the threads is not what was handed in: the session and the place where the programs differ first,
+    /// with both statements, names or items of the order; or session 17, and what each store is run with.
+    Differ {
+        session: u32,
+        place: u32,
+        given: Text,
+        kept: Text,
+    },
     /// Memory was refused.
     NoMemory,
 }
@@ -33,11 +48,12 @@ impl Status {
         match self {
             Status::Done => 0,
             Status::Words => 1,
-            Status::Script { line: _, kind: _ } => 2,
+            Status::Script { .. } => 2,
             Status::SourceFault => 3,
             Status::SinkFault => 4,
-            Status::BadJournal { offset: _ } => 5,
+            Status::BadJournal { .. } => 5,
             Status::OpenFault => 6,
+            Status::Differ { .. } => 7,
             Status::NoMemory => 8,
         }
     }

@@ -1,11 +1,13 @@
 //! One call of the outside fails.
 
 use crate::runs::{Given, Left, run_on, run_over};
-use lv_outside::MemDisks;
+use lv_outside::{FreeGate, MemDisks};
 use lv_runner::Status;
 use lv_values::{Items, NoMemory};
 use std::alloc::Global;
+use std::sync::Wait;
 use std::test::Fail;
+use std::thread::Threads;
 
 /// A commit that meets a failing disk, and is tried again.
 const TWICE: &[u8] = b"@setup
@@ -49,21 +51,34 @@ select id from item
 ";
 
 /// How often a text has a word.
-fn count_of(text: &[u8], word: &[u8]) -> usize {
-    text.windows(word.len())
-        .filter(|piece| *piece == word)
-        .count()
+fn count_of(text: &[u8], word: &[u8]) -> u64 {
+    let mut count: u64 = 0;
+    let mut rest = text;
+    while let Some((_, tail)) = rest.split_first() {
+        if rest.starts_with(word) {
+            count = count.saturating_add(1);
+        }
+        rest = tail;
+    }
+    count
 }
 
-/// What a run over one disk left, where memory was found.
-fn left_by(
+/// What a run without words over one disk left, where memory was found.
+fn left_by<R: Threads + Wait + Sync>(
+    rt: &R,
     alloc: Global,
     script: &[u8],
     bytes: &[u8],
     fails: &[(u8, u64)],
     sink_fails: &[u64],
 ) -> Option<Left> {
-    run_on(alloc, script, bytes, fails, sink_fails).ok()
+    let given = Given {
+        words: &[],
+        script,
+        source_fails: &[],
+        sink_fails,
+    };
+    run_on(rt, alloc, &given, bytes, fails).ok()
 }
 
 #[test]
@@ -76,10 +91,10 @@ a 4 commit 1
 a 5 rows 1
 | 1 | 10
 ";
-    let Some(left) = left_by(rt.alloc(), TWICE, b"", &[(4, 5)], &[]) else {
+    let Some(left) = left_by(&rt, rt.alloc(), TWICE, b"", &[(4, 5)], &[]) else {
         return Err(Fail::from(NoMemory));
     };
-    assert_eq!(rt; left.status, Status::Done);
+    assert!(rt; left.status == Status::Done);
     assert!(rt; left.text.as_slice() == want);
     assert!(rt; left.disk.is_some_and(|bytes| bytes.as_slice() == WORKED));
     Ok(())
@@ -99,44 +114,45 @@ a 2 ok 1 commit 2
 a 2 rows 1
 | 100 | 1 | 5
 ";
-    let Some(left) = left_by(rt.alloc(), SHOP, b"", &[], &[7]) else {
+    let Some(Left { status, text, disk }) = left_by(&rt, rt.alloc(), SHOP, b"", &[], &[7]) else {
         return Err(Fail::from(NoMemory));
     };
-    assert_eq!(rt; left.status, Status::SinkFault);
-    assert!(rt; left.text.as_slice() == want);
-    let Some(bytes) = left.disk else {
+    assert!(rt; status == Status::SinkFault);
+    assert!(rt; text.as_slice() == want);
+    let Some(bytes) = disk else {
         return Err(Fail::from(NoMemory));
     };
-    let Some(again) = left_by(rt.alloc(), LOOK, bytes.as_slice(), &[], &[]) else {
+    let Some(again) = left_by(&rt, rt.alloc(), LOOK, bytes.as_slice(), &[], &[]) else {
         return Err(Fail::from(NoMemory));
     };
-    assert_eq!(rt; again.status, Status::Done);
+    assert!(rt; again.status == Status::Done);
     assert!(rt; again.text.as_slice() == rows);
     Ok(())
 }
 
 /// Whether a run of which one call of the disk fails ends well, or as one whose journal could not be opened; and whether the disk
 /// then has the rows of all that was accepted, and at most one more.
-fn survives(alloc: Global, kind: u8, number: u64) -> bool {
-    let Some(left) = left_by(alloc, SHOP, b"", &[(kind, number)], &[]) else {
+fn survives<R: Threads + Wait + Sync>(rt: &R, alloc: Global, kind: u8, number: u64) -> bool {
+    let Some(Left { status, text, disk }) = left_by(rt, alloc, SHOP, b"", &[(kind, number)], &[])
+    else {
         return false;
     };
-    if left.status == Status::OpenFault {
-        return left.text.as_slice().is_empty();
+    if status == Status::OpenFault {
+        return text.as_slice().is_empty();
     }
-    let accepted = count_of(left.text.as_slice(), b" ok 1 commit ");
-    let Some(bytes) = left.disk else {
+    let accepted = count_of(text.as_slice(), b" ok 1 commit ");
+    let Some(bytes) = disk else {
         return false;
     };
-    let Some(again) = left_by(alloc, LOOK, bytes.as_slice(), &[], &[]) else {
+    let Some(again) = left_by(rt, alloc, LOOK, bytes.as_slice(), &[], &[]) else {
         return false;
     };
     let rows = count_of(again.text.as_slice(), b"\n| ");
-    let failures = count_of(left.text.as_slice(), b" fault 17 store fault");
-    left.status == Status::Done
+    let failures = count_of(text.as_slice(), b" fault 17 store fault");
+    status == Status::Done
         && again.status == Status::Done
         && failures <= 1
-        && (rows == accepted || rows == accepted + failures)
+        && (rows == accepted || rows == accepted.saturating_add(failures))
 }
 
 #[test]
@@ -144,7 +160,7 @@ fn each_failing_call_of_the_disk_is_survived(rt: HostRuntime) -> Result<(), Fail
     for kind in 1..5u8 {
         for number in 1..24u64 {
             assert!(rt;
-                survives(rt.alloc(), kind, number),
+                survives(&rt, rt.alloc(), kind, number),
                 "kind {kind} call {number}"
             );
         }
@@ -152,14 +168,16 @@ fn each_failing_call_of_the_disk_is_survived(rt: HostRuntime) -> Result<(), Fail
     Ok(())
 }
 
-/// The status of a run over empty disks in memory.
-fn status_over(
+/// Whether a run over empty disks in memory ends so.
+fn ends_as<R: Threads + Wait + Sync>(
+    rt: &R,
     alloc: Global,
     words: &[&str],
     script: &[u8],
     source_fails: &[u64],
     disk_fails: u64,
-) -> Result<Status, NoMemory> {
+    status: Status,
+) -> Result<bool, NoMemory> {
     let mut fails = Items::new(alloc);
     fails.push(disk_fails)?;
     let mut disks = MemDisks::new(alloc, fails);
@@ -169,40 +187,69 @@ fn status_over(
         source_fails,
         sink_fails: &[],
     };
-    let left = run_over(alloc, &given, &mut disks)?;
-    Ok(left.status)
+    let left = run_over(rt, alloc, &given, &mut disks, &FreeGate)?;
+    Ok(left.status == status)
 }
 
 #[test]
 fn each_status_comes_before_the_next(rt: HostRuntime) -> Result<(), Fail> {
-    let alloc = rt.alloc();
-    assert_eq!(rt;
-        status_over(alloc, &["--combine", "0"], b"\xff", &[1], 1),
-        Ok(Status::Words)
+    assert!(rt;
+        ends_as(
+            &rt,
+            rt.alloc(),
+            &["--combine", "0"],
+            b"\xff",
+            &[1],
+            1,
+            Status::Words
+        )?
     );
-    assert_eq!(rt;
-        status_over(alloc, &["--log"], b"", &[], 9),
-        Ok(Status::Words)
+    assert!(rt; ends_as(&rt, rt.alloc(), &["--log", ""], b"", &[], 9, Status::Words)?);
+    assert!(rt;
+        ends_as(
+            &rt,
+            rt.alloc(),
+            &["--make", "9", "--threads"],
+            b"",
+            &[],
+            9,
+            Status::Words
+        )?
     );
-    assert_eq!(rt;
-        status_over(alloc, &["--log", ""], b"", &[], 9),
-        Ok(Status::Words)
+    assert!(rt; ends_as(&rt, rt.alloc(), &[], AGAIN, &[2], 1, Status::SourceFault)?);
+    assert!(rt;
+        ends_as(
+            &rt,
+            rt.alloc(),
+            &[],
+            b"\xff",
+            &[],
+            1,
+            Status::Script { line: 1, kind: 1 }
+        )?
     );
-    assert_eq!(rt;
-        status_over(alloc, &[], AGAIN, &[2], 1),
-        Ok(Status::SourceFault)
+    assert!(rt; ends_as(&rt, rt.alloc(), &[], AGAIN, &[], 1, Status::OpenFault)?);
+    assert!(rt;
+        ends_as(
+            &rt,
+            rt.alloc(),
+            &["--log", "x"],
+            AGAIN,
+            &[],
+            9,
+            Status::Done
+        )?
     );
-    assert_eq!(rt;
-        status_over(alloc, &[], b"\xff", &[], 1),
-        Ok(Status::Script { line: 1, kind: 1 })
-    );
-    assert_eq!(rt;
-        status_over(alloc, &[], AGAIN, &[], 1),
-        Ok(Status::OpenFault)
-    );
-    assert_eq!(rt;
-        status_over(alloc, &["--log", "x"], AGAIN, &[], 9),
-        Ok(Status::Done)
+    assert!(rt;
+        ends_as(
+            &rt,
+            rt.alloc(),
+            &["--make", "9"],
+            b"\xff",
+            &[1],
+            9,
+            Status::Done
+        )?
     );
     Ok(())
 }

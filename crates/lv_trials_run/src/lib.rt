@@ -5,3 +5,5 @@
 mod failing;
 #[cfg(test)]
 mod runs;
+#[cfg(test)]
+mod threads;

@@ -1,14 +1,16 @@
 //! Runs over a source, a sink and a disk in memory.
-ghost use Rattle.std.specs.Prelude.{◌≡◌};
+ghost use Rattle.std.specs.Prelude.{◌≡◌, ◌<◌, ◌-◌, ◌^◌};
 ghost use Rattle.lv_picker.specs.Choices.{IsChoice};
 ghost use Rattle.lv_schema.specs.Policies.{chosen};
 
-use lv_outside::{Disks, MemDisk, MemSink, MemSource, OneDisk};
+use lv_outside::{Disks, FreeGate, Gate, MemDisk, MemSink, MemSource, OneDisk};
 use lv_picker::{Choice, Picker, place_of_first, place_of_most, place_of_oldest};
 use lv_runner::{Ran, Status, run};
 use lv_schema::Pending;
 use lv_values::{Bytes, Items, NoMemory, Text};
 use std::alloc::Global;
+use std::sync::Wait;
+use std::thread::Threads;
 
 /// The words, the bytes of the script, and the calls of source and sink that fail, by their numbers.
 #[derive(Clone, Copy)]
@@ -51,11 +53,15 @@ pub(crate) fn disk_of(
 }
 
 /// Runs a script over disks.
-pub(crate) fn run_over<O: Disks<Disk = MemDisk>>(
+pub(crate) fn run_over<R: Threads + Wait + Sync, O: Disks<Disk = MemDisk>, G: Gate + Sync>(
+    rt: &R,
     alloc: Global,
     given: &Given<'_>,
     disks: &mut O,
-) -> Result<Left, NoMemory> {
+    gate: &G,
+) -> Result<Left, NoMemory>
+    requires { (O.openings disks.old).asked < 2 ^ 64 - 1 }
+{
     let mut words = Items::new(alloc);
     for word in given.words {
         words.push(Text::from_str(alloc, word)?)?;
@@ -91,12 +97,14 @@ pub(crate) fn run_over<O: Disks<Disk = MemDisk>>(
     );
     let mut sink = MemSink::new(alloc, numbers(alloc, given.sink_fails)?);
     let Ran { status, disk } = run(
+        rt,
         alloc,
         words.as_slice(),
         &mut source,
         &mut sink,
         disks,
         pickers,
+        gate,
     );
     let text = Bytes::from_slice(alloc, sink.written())?;
     let disk = match disk {
@@ -106,20 +114,14 @@ pub(crate) fn run_over<O: Disks<Disk = MemDisk>>(
     Ok(Left { status, text, disk })
 }
 
-/// The same over one disk that holds these bytes, without words.
-pub(crate) fn run_on(
+/// The same over one disk that holds these bytes, with a gate that holds nothing back.
+pub(crate) fn run_on<R: Threads + Wait + Sync>(
+    rt: &R,
     alloc: Global,
-    script: &[u8],
+    given: &Given<'_>,
     bytes: &[u8],
     fails: &[(u8, u64)],
-    sink_fails: &[u64],
 ) -> Result<Left, NoMemory> {
     let mut disks = OneDisk::new(alloc, disk_of(alloc, bytes, fails)?);
-    let given = Given {
-        words: &[],
-        script,
-        source_fails: &[],
-        sink_fails,
-    };
-    run_over(alloc, &given, &mut disks)
+    run_over(rt, alloc, given, &mut disks, &FreeGate)
 }

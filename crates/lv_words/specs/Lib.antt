@@ -1,3 +1,4 @@
 pub mod Line
+pub mod Range
 pub mod Values
 pub mod Words

@@ -1,5 +1,5 @@
 //! The values of the options.
-ghost use Rattle.std.specs.Prelude.{◌≡◌, ◌≤◌, IfSome, List, option_map, ℕ};
+ghost use Rattle.std.specs.Prelude.{◌≡◌, ◌<◌, ◌≤◌, IfSome, List, option_map, ℕ};
 ghost use Rattle.std.specs.Borrow.{Bor};
 ghost use Rattle.std.specs.Char.{is_ascii_digit};
 ghost use Rattle.std.specs.List.{list_all};
@@ -38,7 +38,7 @@ fn number_of(text: &str) -> Option<u64>
 /// The number that a text writes, where it lies in the range.
 fn number_in(low: u64, high: u64, text: &str) -> Option<u64>
     ensures value { result ≡ value.number_in low high text.now }
-    ensures within { IfSome result (λ n. n ≤ high) }
+    ensures within { IfSome result (λ n. (low ≤ n) × (n ≤ high)) }
 {
     let number = number_of(text)?;
     if number < low || number > high {
@@ -49,9 +49,10 @@ fn number_in(low: u64, high: u64, text: &str) -> Option<u64>
 
 /// The number that is given, or else another one.
 pub fn number_or(low: u64, high: u64, otherwise: u64, given: Option<&str>) -> Option<u64>
-    requires { otherwise ≤ high }
+    requires least { low ≤ otherwise }
+    requires most { otherwise ≤ high }
     ensures value { result ≡ value.number_or low high otherwise (option_map (λ (s : Bor (List ℕ)). s.now) given.entry) }
-    ensures within { IfSome result (λ n. n ≤ high) }
+    ensures within { IfSome result (λ n. (low ≤ n) × (n ≤ high)) }
 {
     match given {
         None => Some(otherwise),
@@ -61,7 +62,8 @@ pub fn number_or(low: u64, high: u64, otherwise: u64, given: Option<&str>) -> Op
 
 /// The number of statements that are made, or none.
 pub fn make_or(given: Option<&str>) -> Option<Option<u32>>
-    ensures { result ≡ value.make_or (option_map (λ (s : Bor (List ℕ)). s.now) given.entry) }
+    ensures value { result ≡ value.make_or (option_map (λ (s : Bor (List ℕ)). s.now) given.entry) }
+    ensures within { IfSome result (λ made. IfSome made (λ n. (1 ≤ n) × (n ≤ 65536))) }
 {
     match given {
         None => Some(None),
@@ -74,7 +76,8 @@ pub fn make_or(given: Option<&str>) -> Option<Option<u32>>
 
 /// The kind of a policy by its name.
 fn policy_of(name: &str) -> Option<u8>
-    ensures { result ≡ value.policy_of name.now }
+    ensures value { result ≡ value.policy_of name.now }
+    ensures within { IfSome result (λ kind. kind < 3) }
 {
     if name == "oldest" {
         Some(0)
@@ -89,7 +92,8 @@ fn policy_of(name: &str) -> Option<u8>
 
 /// The kind of the policy that is given, or of the one that is taken without.
 pub fn policy_or(given: Option<&str>) -> Option<u8>
-    ensures { result ≡ value.policy_or (option_map (λ (s : Bor (List ℕ)). s.now) given.entry) }
+    ensures value { result ≡ value.policy_or (option_map (λ (s : Bor (List ℕ)). s.now) given.entry) }
+    ensures within { IfSome result (λ kind. kind < 3) }
 {
     match given {
         None => Some(0),

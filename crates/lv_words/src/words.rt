@@ -1,7 +1,8 @@
 //! What the words of the command line set.
-ghost use Rattle.std.specs.Prelude.{◌≡◌, IfOk, Some, None, map, option_map};
+ghost use Rattle.std.specs.Prelude.{◌≡◌, IfOk, IfSome, Some, None, map, option_map};
 ghost use Rattle.std.specs.List.{list_all};
 ghost use Rattle.clap.specs.Matches.{first_value, found_of};
+ghost use Rattle.lv_words.specs.Range.{IsInRange};
 ghost use Rattle.lv_words.specs.Values as value;
 ghost use Rattle.lv_words.specs.Words as spec;
 
@@ -75,7 +76,8 @@ fn borrowed<'a>(alloc: Global, words: &'a [Text]) -> Result<Vec<&'a str>, NoMemo
 
 /// What the values set, but for the path of the journal.
 fn numbers(given: &ArgMatches<'_>) -> Option<Words>
-    ensures { result ≡ value.numbers (first_value (found_of given.now)) }
+    ensures values { result ≡ value.numbers (first_value (found_of given.now)) }
+    ensures range { IfSome result IsInRange }
 {
     let workers = number_or(0, 8, 2, given.get_str("workers"))?;
     let turns = number_or(0, 10000, 10000, given.get_str("turns"))?;
@@ -102,6 +104,7 @@ fn numbers(given: &ArgMatches<'_>) -> Option<Words>
 /// What the values set.
 fn settings(alloc: Global, given: &ArgMatches<'_>) -> Result<Words, WordsFault>
     ensures accepted { IfOk result (λ w. value.settings (first_value (found_of given.now)) ≡ Some w) }
+    ensures range { IfOk result IsInRange }
     ensures refused { result ≡ Err WordsFault.Refused → value.settings (first_value (found_of given.now)) ≡ None }
 {
     let Some(words) = numbers(given) else {
@@ -128,6 +131,7 @@ fn settings(alloc: Global, given: &ArgMatches<'_>) -> Result<Words, WordsFault>
 #[tactic(auto, using(crate::proofs::Finding::reads_as))]
 fn read(alloc: Global, words: &[&str]) -> Result<Words, WordsFault>
     ensures accepted { IfOk result (λ w. spec.read (map (λ s. s.now) words.now) ≡ Some w) }
+    ensures range { IfOk result IsInRange }
     ensures refused { result ≡ Err WordsFault.Refused → spec.read (map (λ s. s.now) words.now) ≡ None }
 {
     match matches(alloc, words) {
@@ -143,6 +147,7 @@ fn read(alloc: Global, words: &[&str]) -> Result<Words, WordsFault>
 /// accepted. Cost: linear in their bytes.
 pub fn read_words(alloc: Global, words: &[Text]) -> Result<Words, WordsFault>
     ensures accepted { IfOk result (λ w. spec.said words.now ≡ Some w) }
+    ensures range { IfOk result IsInRange }
     ensures refused { result ≡ Err WordsFault.Refused → spec.said words.now ≡ None }
 {
     if !are_fit(words) {

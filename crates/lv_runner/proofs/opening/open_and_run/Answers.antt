@@ -1,9 +1,11 @@
-use Rattle.lv_runner.specs.Ends.{Outside}
+use Rattle.std.proofs.Common.{ℕ, List, Option, option_map, subst}
+use Rattle.std.specs.Borrow.{Bor}
+use Rattle.lv_runner.specs.Ends.{Ends, Outside}
 use Rattle.lv_runner.proofs.HandedOut.{ends_opened}
 use Rattle.lv_runner.proofs.opening.open_and_run.Goals as goal
 
 pub returns-in-Ok-clause-ends : goal.returns-in-Ok-clause-ends
-returns-in-Ok-clause-ends g c left0 left1 faults0 faults1 bytes read script =
+returns-in-Ok-clause-ends g c left0 left1 faults0 faults1 bytes input script =
     let failures = g.O.Disk.Disk.failures in
     let old : Outside = record {
       left = left0;
@@ -23,5 +25,10 @@ returns-in-Ok-clause-ends g c left0 left1 faults0 faults1 bytes read script =
       disks_faults = g.O.Disks.failures c.open_disk.new.self;
       openings = g.O.Disks.openings c.open_disk.new.self;
     } in
-    ends_opened g.O.Disk.Disk.seen g.O.Disk.Disk.may_leave failures _ _ old new bytes read (failures c.in-Ok.disk) c.in-Ok.ensures.opened c.run_on.result.status c.run_on.result.disk
-    (c.run_on.ensures.ends _ bytes c.in-Ok.ensures.bytes script)
+    let holds = g.O.Disks.holds c.args.disks.now in
+    let path : Option (List ℕ) = option_map (λ (p : Bor (List ℕ)). p.now) c.path_of.result in
+    subst
+    (λ (q : Option (List ℕ)). Ends g.O.Disk.Disk.seen g.O.Disk.Disk.may_leave failures c.args.words.now (holds q) q old new c.run_on.result.disk c.run_on.result.status)
+    c.path_of.ensures
+    (ends_opened g.O.Disk.Disk.seen g.O.Disk.Disk.may_leave failures c.args.words.now (holds path) path old new bytes input (failures c.in-Ok.disk) c.in-Ok.ensures.opened c.run_on.result.status c.run_on.result.disk
+    (c.run_on.ensures.ends (holds path) bytes c.in-Ok.ensures.bytes script))

@@ -1,0 +1,9 @@
+pub mod MadeSales
+pub mod ShownFaults
+pub mod MadeProgram
+pub mod MadeOrder
+pub mod MadeLines
+pub mod MadeReading
+pub mod MadeStatements
+pub mod Joined
+pub mod Sums

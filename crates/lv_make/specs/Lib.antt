@@ -1,0 +1,4 @@
+pub mod ScriptText
+pub mod Summary
+pub mod MadeProgram
+pub mod ShownFaults
