@@ -12,6 +12,7 @@ use lv_runner::{Status, run};
 use lv_schema::Pending;
 use lv_values::{Items, NoMemory, Text};
 use std::env::{Env, FillError};
+use std::fs::File;
 use std::process::ExitCode;
 use std::sync::Wait;
 use std::thread::Threads;
@@ -19,6 +20,9 @@ use std::{env, io};
 
 /// What stands for the words where one of them is not UTF-8.
 const UNREADABLE: &str = "?";
+
+/// A folder that is there.
+const NO_STREAM: &str = "/";
 
 /// Whether a word stands behind the program's name.
 fn has_word(rt: &HostRuntime) -> bool {
@@ -125,8 +129,16 @@ fn tell(rt: &HostRuntime, status: &Status) -> io::Result<()> {
     }
 }
 
+// A standard stream that is closed would give its number to the next file that is opened, which may be the journal. So the folder
+// takes the place of each that is: it can be neither read nor written.
 fn main(rt: HostRuntime) -> ExitCode {
+    let held = [
+        File::open(&rt, NO_STREAM),
+        File::open(&rt, NO_STREAM),
+        File::open(&rt, NO_STREAM),
+    ];
     let status = status_of(&rt, &rt);
     let _ = tell(&rt, &status);
+    drop(held);
     ExitCode::from(status.number())
 }

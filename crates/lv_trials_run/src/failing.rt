@@ -53,12 +53,10 @@ select id from item
 /// How often a text has a word.
 fn count_of(text: &[u8], word: &[u8]) -> u64 {
     let mut count: u64 = 0;
-    let mut rest = text;
-    while let Some((_, tail)) = rest.split_first() {
-        if rest.starts_with(word) {
+    for at in 0..text.len() {
+        if text[at..].starts_with(word) {
             count = count.saturating_add(1);
         }
-        rest = tail;
     }
     count
 }
