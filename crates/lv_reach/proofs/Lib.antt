@@ -1,0 +1,9 @@
+pub mod LinkLaws
+pub mod LinksWithin
+pub mod NearLaws
+pub mod Unchanged
+pub mod Reached
+pub mod Gathering
+pub mod Paths
+pub mod FarLaws
+pub mod CutLaws

@@ -1,0 +1,4 @@
+pub mod Links
+pub mod Reach
+pub mod Cost
+pub mod Far
