@@ -20,13 +20,16 @@ use lv_parser::Stmt;
 use lv_schema::{Bound, Change, Fault, Query, Schema};
 use lv_values::NoMemory;
 use std::alloc::Global;
+use thiserror::Error;
 
 /// Why a statement is not bound.
-#[derive(Drop)]
+#[derive(Debug, Drop, Error)]
 pub enum BindFault {
     /// The statement is refused.
+    #[error(transparent)]
     Stmt(Fault),
     /// Memory was refused.
+    #[error("out of memory")]
     NoMemory,
 }
 

@@ -2,16 +2,19 @@
 
 use lv_schema::Fault;
 use lv_values::NoMemory;
+use thiserror::Error;
 
 /// How many rows a table may have.
 pub(crate) const MOST_ROWS: u64 = 65535;
 
 /// Why a change has no effect.
-#[derive(Drop)]
+#[derive(Debug, Drop, Error)]
 pub enum EffectFault {
     /// The statement is refused.
+    #[error(transparent)]
     Stmt(Fault),
     /// Memory was refused.
+    #[error("out of memory")]
     NoMemory,
 }
 

@@ -3,15 +3,19 @@
 use lv_schema::Conflict;
 use lv_store::PrepareFault;
 use lv_values::NoMemory;
+use thiserror::Error;
 
 /// Why a table, a view or a mark is not written. Nothing has changed then.
-#[derive(Clone, Copy, Debug, PartialEq, Eq)]
+#[derive(Clone, Copy, Debug, PartialEq, Eq, Error)]
 pub enum CreateFault {
     /// The disk failed.
+    #[error("store fault")]
     Store,
     /// The journal would have this length, which is past its limit.
+    #[error("journal full: {need} bytes needed, limit {limit}")]
     Full { need: u64, limit: u64 },
     /// Memory was refused.
+    #[error("out of memory")]
     NoMemory,
 }
 
@@ -28,17 +32,22 @@ impl From<NoMemory> for CreateFault {
 
 /// Why a commit is refused. A conflict and a full table roll the transaction back; after the others it is live, and
 /// nothing has changed.
-#[derive(Drop)]
+#[derive(Debug, Drop, Error)]
 pub enum CommitFault {
     /// A key that the transaction wrote was written by a commit above its snapshot.
+    #[error("conflict")]
     Conflict(Conflict),
     /// A table would have more than 65,535 rows.
+    #[error("table full")]
     TableFull { table: u32 },
     /// The journal would have this length, which is past its limit.
+    #[error("journal full: {need} bytes needed, limit {limit}")]
     Full { need: u64, limit: u64 },
     /// The disk failed.
+    #[error("store fault")]
     Store,
     /// Memory was refused.
+    #[error("out of memory")]
     NoMemory,
 }
 

@@ -3,19 +3,23 @@ ghost use Rattle.std.specs.Prelude.{◌≡◌};
 
 use lv_outside::{Disk, Failed};
 use lv_values::NoMemory;
+use thiserror::Error;
 
 /// Why a journal gives no record.
-#[derive(Clone, Copy, Debug, PartialEq, Eq)]
+#[derive(Clone, Copy, Debug, PartialEq, Eq, Error)]
 pub enum JFault {
     /// The disk failed.
+    #[error("the disk failed")]
     Failed,
     /// The bytes are no journal.
+    #[error("bad journal at byte {offset}")]
     Bad {
         /// Where: 0 where the magic is not there, the place of a gate that is not there, or of a frame behind an open
         /// gate that is not whole or has no payload.
         offset: u64,
     },
     /// Memory was refused.
+    #[error("out of memory")]
     NoMemory,
 }
 

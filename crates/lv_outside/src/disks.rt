@@ -7,13 +7,16 @@ ghost use Rattle.lv_outside.specs.declared.disks.Openings.{Openings};
 use crate::disk::Disk;
 use lv_values::{Copying, NoMemory, Text};
 use std::alloc::Global;
+use thiserror::Error;
 
 /// Why no disk was handed out.
-#[derive(Clone, Copy, Debug, PartialEq, Eq)]
+#[derive(Clone, Copy, Debug, PartialEq, Eq, Error)]
 pub enum OpenFault {
     /// The opening failed.
+    #[error("the disk was not opened")]
     Failed,
     /// Memory was refused.
+    #[error("out of memory")]
     NoMemory,
 }
 

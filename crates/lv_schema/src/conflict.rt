@@ -3,7 +3,7 @@
 use lv_values::Row;
 
 /// A key that the transaction wrote, and the last commit above its snapshot that wrote it too.
-#[derive(Drop)]
+#[derive(Debug, Drop)]
 pub struct Conflict {
     pub table: u32,
     pub key: Row,

@@ -2,15 +2,19 @@
 
 use lv_schema::Conflict;
 use lv_values::NoMemory;
+use thiserror::Error;
 
 /// Why a commit is refused before its record is written. A conflict and a full table roll the transaction back.
-#[derive(Drop)]
+#[derive(Debug, Drop, Error)]
 pub enum PrepareFault {
     /// A key that the transaction wrote was written by a commit above its snapshot.
+    #[error("conflict")]
     Conflict(Conflict),
     /// A table would have more than 65,535 rows.
+    #[error("table full")]
     TableFull { table: u32 },
     /// Memory was refused.
+    #[error("out of memory")]
     NoMemory,
 }
 

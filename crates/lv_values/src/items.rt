@@ -25,7 +25,7 @@ pub trait Copying: Drop {
 }
 
 /// A list. Contracts see the elements alone, so a copy equals what it copies.
-#[derive(Drop)]
+#[derive(Debug, Drop)]
 pub struct Items<T> {
     items: Vec<T>,
 }

@@ -14,18 +14,21 @@ use std::alloc::Global;
 use std::cmp::Ordering;
 use std::hash::{Hash, Hasher};
 use std::marker::Model;
+use thiserror::Error;
 
 /// Why bytes give no text.
-#[derive(Clone, Copy, Debug, PartialEq, Eq)]
+#[derive(Clone, Copy, Debug, PartialEq, Eq, Error)]
 pub enum TextFault {
     /// The bytes are not UTF-8.
+    #[error("not UTF-8")]
     NotUtf8,
     /// Memory was refused.
+    #[error("out of memory")]
     NoMemory,
 }
 
 /// A text in UTF-8. Contracts see its bytes. Texts are ordered by their bytes.
-#[derive(Drop)]
+#[derive(Debug, Drop)]
 pub struct Text {
     text: String,
 }

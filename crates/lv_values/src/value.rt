@@ -12,7 +12,7 @@ use std::cmp::Ordering;
 use std::hash::{Hash, Hasher};
 
 /// One value of a row: a number of up to 128 bits, signed, or a text. Numbers come before texts.
-#[derive(Drop)]
+#[derive(Debug, Drop)]
 pub enum Value {
     /// A whole number.
     Num(i128),
