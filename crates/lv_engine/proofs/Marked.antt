@@ -78,21 +78,21 @@ module _ {D : Type 0} (w : World) (old new : EngineView D) (v : ℕ) (is : Stand
         subst (λ (m : Marking). (m.answer ≡ Ok (Some (point w.upkeep v))) × Stands (with_upkeep m.next w) new) (sym (marking_is outcome ∙ ap (λ (o : Outcome). marked_by o v w.upkeep) out))
         (refl, record { store_stands = stands; journal_is = longer })
 
-    module _ (seen : D → Option (List ℕ)) (may_leave : D → List ℕ → Type 0) (j k : Writer D) where
+    module _ (seen : D → Option (List ℕ)) (may_leave : D → List ℕ → Type 0) (moment : D → ℕ) (left_since : D → ℕ → List ℕ → Type 0) (j k : Writer D) where
       abbrev IsLogged : Option Fault → Outcome → Type 0
-      IsLogged f out = LogsUnless seen may_leave f (marked_by out v w.upkeep).attempted (mark_written (marked_by out v w.upkeep)) j k
+      IsLogged f out = LogsUnless seen may_leave moment left_since f (marked_by out v w.upkeep).attempted (mark_written (marked_by out v w.upkeep)) j k
 
-      logs_refused : (e : CreateFault) (out : Outcome) → TellsOutcome (Err e) out → LogsWrite seen may_leave (Err e) rec j k → IsLogged (create_fault e) out
+      logs_refused : (e : CreateFault) (out : Outcome) → TellsOutcome (Err e) out → LogsWrite seen may_leave moment left_since (Err e) rec j k → IsLogged (create_fault e) out
       logs_refused Store out tells logs = subst (IsLogged (Some fault.Store)) (sym tells) logs
       logs_refused (Full needed limit) out tells logs = subst (IsLogged (Some (fault.JournalFull needed limit))) (sym tells) logs
       logs_refused NoMemory out tells logs = logs
 
-      pub mark_logged : (r : Result (Option ℕ) CreateFault) (e : CreateFault) → r ≡ Err e → (settings : Settings) → TellsOutcome (Err e) (outcome_of settings (shows_store (create_fault e)) w.upkeep rec) → LogsWrite seen may_leave (Err e) rec j k
-          → let m = marking (outcome_of settings (fails create_fault r) w.upkeep) v w.upkeep in LogsCase seen may_leave create_fault r m.attempted (mark_written m) j k
+      pub mark_logged : (r : Result (Option ℕ) CreateFault) (e : CreateFault) → r ≡ Err e → (settings : Settings) → TellsOutcome (Err e) (outcome_of settings (shows_store (create_fault e)) w.upkeep rec) → LogsWrite seen may_leave moment left_since (Err e) rec j k
+          → let m = marking (outcome_of settings (fails create_fault r) w.upkeep) v w.upkeep in LogsCase seen may_leave moment left_since create_fault r m.attempted (mark_written m) j k
       mark_logged r e same settings tells logs =
-          subst (λ (x : Result (Option ℕ) CreateFault). let m = marking (outcome_of settings (fails create_fault x) w.upkeep) v w.upkeep in LogsCase seen may_leave create_fault x m.attempted (mark_written m) j k) (sym same)
-          (subst (λ (m : Marking). LogsUnless seen may_leave (create_fault e) m.attempted (mark_written m) j k) (sym (marking_is (outcome_of settings (shows_store (create_fault e)) w.upkeep))) (logs_refused e _ tells logs))
+          subst (λ (x : Result (Option ℕ) CreateFault). let m = marking (outcome_of settings (fails create_fault x) w.upkeep) v w.upkeep in LogsCase seen may_leave moment left_since create_fault x m.attempted (mark_written m) j k) (sym same)
+          (subst (λ (m : Marking). LogsUnless seen may_leave moment left_since (create_fault e) m.attempted (mark_written m) j k) (sym (marking_is (outcome_of settings (shows_store (create_fault e)) w.upkeep))) (logs_refused e _ tells logs))
 
-      pub mark_logs : (outcome : Rec → Outcome) → outcome rec ≡ good → LogsWrite seen may_leave (Ok tt) rec j k → Logs seen may_leave (marking outcome v w.upkeep).attempted (mark_written (marking outcome v w.upkeep)) j k
+      pub mark_logs : (outcome : Rec → Outcome) → outcome rec ≡ good → LogsWrite seen may_leave moment left_since (Ok tt) rec j k → Logs seen may_leave moment left_since (marking outcome v w.upkeep).attempted (mark_written (marking outcome v w.upkeep)) j k
       mark_logs outcome out logs =
-          subst (λ (m : Marking). Logs seen may_leave m.attempted (mark_written m) j k) (sym (marking_is outcome ∙ ap (λ (o : Outcome). marked_by o v w.upkeep) out)) logs
+          subst (λ (m : Marking). Logs seen may_leave moment left_since m.attempted (mark_written m) j k) (sym (marking_is outcome ∙ ap (λ (o : Outcome). marked_by o v w.upkeep) out)) logs

@@ -68,13 +68,13 @@ fails fault (Ok a) = false
 fails fault (Err e) = shows_store (fault e)
 
 -- what becomes of the journal, by the records of the case; after want of memory it has the records that it had
-abbrev pub LogsUnless : {D : Type 0} → (D → Option (List ℕ)) → (D → List ℕ → Type 0) → Option Fault → Option Rec → Option Rec → Writer D → Writer D → Type 0
-LogsUnless seen may_leave None attempted written old new = Logs seen may_leave None None old new
-LogsUnless seen may_leave (Some f) attempted written old new = Logs seen may_leave attempted written old new
+abbrev pub LogsUnless : {D : Type 0} → (D → Option (List ℕ)) → (D → List ℕ → Type 0) → (D → ℕ) → (D → ℕ → List ℕ → Type 0) → Option Fault → Option Rec → Option Rec → Writer D → Writer D → Type 0
+LogsUnless seen may_leave moment left_since None attempted written old new = Logs seen may_leave moment left_since None None old new
+LogsUnless seen may_leave moment left_since (Some f) attempted written old new = Logs seen may_leave moment left_since attempted written old new
 
-abbrev pub LogsCase : {A E D : Type 0} → (D → Option (List ℕ)) → (D → List ℕ → Type 0) → (E → Option Fault) → Result A E → Option Rec → Option Rec → Writer D → Writer D → Type 0
-LogsCase seen may_leave fault (Ok a) attempted written old new = Logs seen may_leave attempted written old new
-LogsCase seen may_leave fault (Err e) attempted written old new = LogsUnless seen may_leave (fault e) attempted written old new
+abbrev pub LogsCase : {A E D : Type 0} → (D → Option (List ℕ)) → (D → List ℕ → Type 0) → (D → ℕ) → (D → ℕ → List ℕ → Type 0) → (E → Option Fault) → Result A E → Option Rec → Option Rec → Writer D → Writer D → Type 0
+LogsCase seen may_leave moment left_since fault (Ok a) attempted written old new = Logs seen may_leave moment left_since attempted written old new
+LogsCase seen may_leave moment left_since fault (Err e) attempted written old new = LogsUnless seen may_leave moment left_since (fault e) attempted written old new
 
 -- ---- queries, workers and clean-ups
 pub record GivesQuery {D : Type 0} (done : Done Queried) (a : Answer) (new : EngineView D) : Type 0 where

@@ -13,11 +13,11 @@ use Rattle.lv_engine.specs.Records.{Logs}
 use Rattle.lv_schema.specs.WholeWorld.{world_after}
 
 -- what becomes of the record of a commit of these actions
-module _ {D : Type 0} (seen : D → Option (List ℕ)) (may_leave : D → List ℕ → Type 0) (session : ℕ) (actions : List Action) (w : World) (old new : EngineView D) where
+module _ {D : Type 0} (seen : D → Option (List ℕ)) (may_leave : D → List ℕ → Type 0) (moment : D → ℕ) (left_since : D → ℕ → List ℕ → Type 0) (session : ℕ) (actions : List Action) (w : World) (old new : EngineView D) where
   abbrev pub case_of : (Rec → Outcome) → Case (Option ℕ)
   case_of out = if_written (out (next_record old.store actions)) (next_record old.store actions) (Some (old.store.base.number + 1)) (cases.with_commit session (transaction session w.visible) w.visible) w.visible
 
   abbrev pub WritesCommit : Result ℕ CreateFault → (Rec → Outcome) → Type 0
   WritesCommit (Ok number) out =
-      ((case_of out).answer ≡ Ok (Some number)) × Stands (world_after (case_of out) w) new × Logs seen may_leave (case_of out).attempted (case_of out).written old.journal new.journal
-  WritesCommit (Err e) out = Refuses (create_fault e) w old new (case_of out) × LogsUnless seen may_leave (create_fault e) (case_of out).attempted (case_of out).written old.journal new.journal
+      ((case_of out).answer ≡ Ok (Some number)) × Stands (world_after (case_of out) w) new × Logs seen may_leave moment left_since (case_of out).attempted (case_of out).written old.journal new.journal
+  WritesCommit (Err e) out = Refuses (create_fault e) w old new (case_of out) × LogsUnless seen may_leave moment left_since (create_fault e) (case_of out).attempted (case_of out).written old.journal new.journal

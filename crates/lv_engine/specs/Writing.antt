@@ -15,8 +15,8 @@ TellsOutcome (Err (Full need limit)) out = out ≡ full need limit
 TellsOutcome (Err NoMemory) out = Unit {0}
 
 -- and what the journal has then
-abbrev pub LogsWrite : {D : Type 0} → (D → Option (List ℕ)) → (D → List ℕ → Type 0) → Result (Unit {0}) CreateFault → Rec → Writer D → Writer D → Type 0
-LogsWrite seen may_leave (Ok a) rec old new = Logs seen may_leave (Some rec) (Some rec) old new
-LogsWrite seen may_leave (Err Store) rec old new = Logs seen may_leave (Some rec) None old new
-LogsWrite seen may_leave (Err (Full need limit)) rec old new = Logs seen may_leave None None old new
-LogsWrite seen may_leave (Err NoMemory) rec old new = Logs seen may_leave None None old new
+abbrev pub LogsWrite : {D : Type 0} → (D → Option (List ℕ)) → (D → List ℕ → Type 0) → (D → ℕ) → (D → ℕ → List ℕ → Type 0) → Result (Unit {0}) CreateFault → Rec → Writer D → Writer D → Type 0
+LogsWrite seen may_leave moment left_since (Ok a) rec old new = Logs seen may_leave moment left_since (Some rec) (Some rec) old new
+LogsWrite seen may_leave moment left_since (Err Store) rec old new = Logs seen may_leave moment left_since (Some rec) None old new
+LogsWrite seen may_leave moment left_since (Err (Full need limit)) rec old new = Logs seen may_leave moment left_since None None old new
+LogsWrite seen may_leave moment left_since (Err NoMemory) rec old new = Logs seen may_leave moment left_since None None old new

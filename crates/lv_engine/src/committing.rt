@@ -49,7 +49,7 @@ fn write_commit<D: Disk>(
     requires some { 0 < length ready.actions }
     requires may { MayCommit (store_of store.old) (transaction_of (store_of store.old).sessions session) store.old ready }
     ensures case { (w : World) (settings : schema.Settings) → settings.limit ≡ (store_of store.old).settings.log_limit → Stands w (engine_of store.old journal.old)
-        → WritesCommit D.seen D.may_leave session ready.actions w (engine_of store.old journal.old) (engine_of store.new journal.new) result (outcome_of settings (fails create_fault result) w.upkeep) }
+        → WritesCommit D.seen D.may_leave D.moment D.left_since session ready.actions w (engine_of store.old journal.old) (engine_of store.new journal.new) result (outcome_of settings (fails create_fault result) w.upkeep) }
     ensures rows { (store_of store.new).rows ≡ (store_of store.old).rows }
     ensures points { (store_of store.new).upkeep.points ≡ (store_of store.old).upkeep.points }
     ensures settings { (store_of store.new).settings ≡ (store_of store.old).settings }
@@ -81,7 +81,7 @@ pub(crate) fn commit<D: Disk>(
     ensures case { (w : World) (settings : schema.Settings) → settings.limit ≡ (store_of store.old).settings.log_limit → Stands w (engine_of store.old journal.old)
         → Meets commit_fault w (engine_of store.old journal.old) (engine_of store.new journal.new) result (committed (outcome_of settings (fails commit_fault result) w.upkeep) session w.visible) }
     ensures log { (w : World) (settings : schema.Settings) → settings.limit ≡ (store_of store.old).settings.log_limit → Stands w (engine_of store.old journal.old)
-        → let done = committed (outcome_of settings (fails commit_fault result) w.upkeep) session w.visible in LogsCase D.seen D.may_leave commit_fault result done.attempted done.written journal.old journal.new }
+        → let done = committed (outcome_of settings (fails commit_fault result) w.upkeep) session w.visible in LogsCase D.seen D.may_leave D.moment D.left_since commit_fault result done.attempted done.written journal.old journal.new }
     ensures rows { (store_of store.new).rows ≡ (store_of store.old).rows }
     ensures points { (store_of store.new).upkeep.points ≡ (store_of store.old).upkeep.points }
     ensures settings { (store_of store.new).settings ≡ (store_of store.old).settings }

@@ -63,7 +63,7 @@ pub(crate) fn create_table<D: Disk>(
     ensures case { (w : World) (settings : schema.Settings) → settings.limit ≡ (store_of store.old).settings.log_limit → Stands w (engine_of store.old journal.old)
         → Meets create_fault w (engine_of store.old journal.old) (engine_of store.new journal.new) result (table_made (outcome_of settings (fails create_fault result) w.upkeep) def w.visible) }
     ensures log { (w : World) (settings : schema.Settings) → settings.limit ≡ (store_of store.old).settings.log_limit → Stands w (engine_of store.old journal.old)
-        → let made = table_made (outcome_of settings (fails create_fault result) w.upkeep) def w.visible in LogsCase D.seen D.may_leave create_fault result made.attempted made.written journal.old journal.new }
+        → let made = table_made (outcome_of settings (fails create_fault result) w.upkeep) def w.visible in LogsCase D.seen D.may_leave D.moment D.left_since create_fault result made.attempted made.written journal.old journal.new }
     ensures settings { (store_of store.new).settings ≡ (store_of store.old).settings }
     ensures later { D.failures journal.old.disk ≤ D.failures journal.new.disk }
     ensures cause { result ≡ Err CreateFault.Store → Rose (D.failures journal.old.disk) (D.failures journal.new.disk) }
@@ -92,7 +92,7 @@ pub(crate) fn create_view<D: Disk, L: Ledger>(
     ensures case { (w : World) (settings : schema.Settings) → settings.limit ≡ (store_of store.old).settings.log_limit → Stands w (engine_of store.old journal.old)
         → Meets create_fault w (engine_of store.old journal.old) (engine_of store.new journal.new) result (view_made (outcome_of settings (fails create_fault result) w.upkeep) def w.visible) }
     ensures log { (w : World) (settings : schema.Settings) → settings.limit ≡ (store_of store.old).settings.log_limit → Stands w (engine_of store.old journal.old)
-        → let made = view_made (outcome_of settings (fails create_fault result) w.upkeep) def w.visible in LogsCase D.seen D.may_leave create_fault result made.attempted made.written journal.old journal.new }
+        → let made = view_made (outcome_of settings (fails create_fault result) w.upkeep) def w.visible in LogsCase D.seen D.may_leave D.moment D.left_since create_fault result made.attempted made.written journal.old journal.new }
     ensures settings { (store_of store.new).settings ≡ (store_of store.old).settings }
     ensures later { D.failures journal.old.disk ≤ D.failures journal.new.disk }
     ensures cause { result ≡ Err CreateFault.Store → Rose (D.failures journal.old.disk) (D.failures journal.new.disk) }

@@ -158,7 +158,7 @@ impl<D: Disk> Engine<D> {
         ensures case { (w : World) (settings : schema.Settings) → settings.limit ≡ self.old.store.settings.log_limit → Stands w self.old
             → Meets create_fault w self.old self.new result (table_made (outcome_of settings (fails create_fault result) w.upkeep) def w.visible) }
         ensures log { (w : World) (settings : schema.Settings) → settings.limit ≡ self.old.store.settings.log_limit → Stands w self.old
-            → let made = table_made (outcome_of settings (fails create_fault result) w.upkeep) def w.visible in LogsCase D.seen D.may_leave create_fault result made.attempted made.written self.old.journal self.new.journal }
+            → let made = table_made (outcome_of settings (fails create_fault result) w.upkeep) def w.visible in LogsCase D.seen D.may_leave D.moment D.left_since create_fault result made.attempted made.written self.old.journal self.new.journal }
         ensures settings { self.new.store.settings ≡ self.old.store.settings }
         ensures later { D.failures self.old.journal.disk ≤ D.failures self.new.journal.disk }
         ensures cause { result ≡ Err CreateFault.Store → Rose (D.failures self.old.journal.disk) (D.failures self.new.journal.disk) }
@@ -179,7 +179,7 @@ impl<D: Disk> Engine<D> {
         ensures case { (w : World) (settings : schema.Settings) → settings.limit ≡ self.old.store.settings.log_limit → Stands w self.old
             → Meets create_fault w self.old self.new result (view_made (outcome_of settings (fails create_fault result) w.upkeep) def w.visible) }
         ensures log { (w : World) (settings : schema.Settings) → settings.limit ≡ self.old.store.settings.log_limit → Stands w self.old
-            → let made = view_made (outcome_of settings (fails create_fault result) w.upkeep) def w.visible in LogsCase D.seen D.may_leave create_fault result made.attempted made.written self.old.journal self.new.journal }
+            → let made = view_made (outcome_of settings (fails create_fault result) w.upkeep) def w.visible in LogsCase D.seen D.may_leave D.moment D.left_since create_fault result made.attempted made.written self.old.journal self.new.journal }
         ensures settings { self.new.store.settings ≡ self.old.store.settings }
         ensures later { D.failures self.old.journal.disk ≤ D.failures self.new.journal.disk }
         ensures cause { result ≡ Err CreateFault.Store → Rose (D.failures self.old.journal.disk) (D.failures self.new.journal.disk) }
@@ -242,7 +242,7 @@ impl<D: Disk> Engine<D> {
         ensures case { (w : World) (settings : schema.Settings) → settings.limit ≡ self.old.store.settings.log_limit → Stands w self.old
             → Meets commit_fault w self.old self.new result (committed (outcome_of settings (fails commit_fault result) w.upkeep) session w.visible) }
         ensures log { (w : World) (settings : schema.Settings) → settings.limit ≡ self.old.store.settings.log_limit → Stands w self.old
-            → let done = committed (outcome_of settings (fails commit_fault result) w.upkeep) session w.visible in LogsCase D.seen D.may_leave commit_fault result done.attempted done.written self.old.journal self.new.journal }
+            → let done = committed (outcome_of settings (fails commit_fault result) w.upkeep) session w.visible in LogsCase D.seen D.may_leave D.moment D.left_since commit_fault result done.attempted done.written self.old.journal self.new.journal }
         ensures rows { self.new.store.rows ≡ self.old.store.rows }
         ensures points { self.new.store.upkeep.points ≡ self.old.store.upkeep.points }
         ensures settings { self.new.store.settings ≡ self.old.store.settings }
@@ -259,7 +259,7 @@ impl<D: Disk> Engine<D> {
         ensures case { (w : World) (settings : schema.Settings) → settings.limit ≡ self.old.store.settings.log_limit → Stands w self.old
             → MeetsMark w self.old self.new result (marking (outcome_of settings (fails create_fault result) w.upkeep) view w.upkeep) }
         ensures log { (w : World) (settings : schema.Settings) → settings.limit ≡ self.old.store.settings.log_limit → Stands w self.old
-            → let done = marking (outcome_of settings (fails create_fault result) w.upkeep) view w.upkeep in LogsCase D.seen D.may_leave create_fault result done.attempted (mark_written done) self.old.journal self.new.journal }
+            → let done = marking (outcome_of settings (fails create_fault result) w.upkeep) view w.upkeep in LogsCase D.seen D.may_leave D.moment D.left_since create_fault result done.attempted (mark_written done) self.old.journal self.new.journal }
         ensures sessions { self.new.store.sessions ≡ self.old.store.sessions }
         ensures settings { self.new.store.settings ≡ self.old.store.settings }
         ensures later { D.failures self.old.journal.disk ≤ D.failures self.new.journal.disk }

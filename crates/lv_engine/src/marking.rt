@@ -30,7 +30,7 @@ pub(crate) fn mark<D: Disk>(
     ensures case { (w : World) (settings : schema.Settings) → settings.limit ≡ (store_of store.old).settings.log_limit → Stands w (engine_of store.old journal.old)
         → MeetsMark w (engine_of store.old journal.old) (engine_of store.new journal.new) result (marking (outcome_of settings (fails create_fault result) w.upkeep) view w.upkeep) }
     ensures log { (w : World) (settings : schema.Settings) → settings.limit ≡ (store_of store.old).settings.log_limit → Stands w (engine_of store.old journal.old)
-        → let done = marking (outcome_of settings (fails create_fault result) w.upkeep) view w.upkeep in LogsCase D.seen D.may_leave create_fault result done.attempted (mark_written done) journal.old journal.new }
+        → let done = marking (outcome_of settings (fails create_fault result) w.upkeep) view w.upkeep in LogsCase D.seen D.may_leave D.moment D.left_since create_fault result done.attempted (mark_written done) journal.old journal.new }
     ensures sessions { (store_of store.new).sessions ≡ (store_of store.old).sessions }
     ensures settings { (store_of store.new).settings ≡ (store_of store.old).settings }
     ensures later { D.failures journal.old.disk ≤ D.failures journal.new.disk }

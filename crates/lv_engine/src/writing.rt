@@ -30,7 +30,7 @@ pub(crate) fn write<D: Disk>(
         → TellsOutcome result (outcome_of settings (fails create_fault result) u rec.now) }
     ensures longer { OnOk result ((u : Upkeep) → length_of journal.old ≡ u.journal → length_of journal.new ≡ need u rec.now) }
     ensures stays { OnErr result (length_of journal.new ≡ length_of journal.old) }
-    ensures log { LogsWrite D.seen D.may_leave result rec.now journal.old journal.new }
+    ensures log { LogsWrite D.seen D.may_leave D.moment D.left_since result rec.now journal.old journal.new }
     ensures later { D.failures journal.old.disk ≤ D.failures journal.new.disk }
     ensures cause { result ≡ Err CreateFault.Store → Rose (D.failures journal.old.disk) (D.failures journal.new.disk) }
 {

@@ -12,7 +12,7 @@ use Rattle.std.proofs.lemmas.List.Sums.{sum_by-cons}
 use Rattle.std.proofs.lemmas.Nat.{from_le_bytes-to_le_bytes_4}
 use Rattle.lv_journal.specs.declared.found.Found.{Found}
 use Rattle.lv_journal.specs.declared.found.Found.TheVariants.{Missing, Shut, Broken, Open}
-use Rattle.lv_journal.specs.Bytes.{magic, frame, opened, spelled, length_with, length_of, begins_frame, found_at, payloads, bad_from, records_of, bad_place, IsPayload, Closed, Staged}
+use Rattle.lv_journal.specs.Bytes.{magic, frame, opened, spelled, length_with, length_of, begins_frame, found_at, payloads, bad_from, records_of, bad_place, IsJournal, IsPayload, Closed, Staged}
 use Rattle.lv_journal.specs.Standing.{Keeps, RecordsOr, RecordsIn}
 use Rattle.lv_journal.proofs.Bytes.{opened_closed}
 use Rattle.lv_journal.proofs.Standing.{all_push}
@@ -132,14 +132,16 @@ bad_begins ps c rest found all is at =
           ∙ bad_from_by more.0 (length (spelled ps)) rest found at,
     )
 
--- the records of bytes with a closed gate behind them, whatever stands there
-pub closed_means : (ps : List (List ℕ)) (c : List ℕ) → AllByRecursion IsPayload ps → Closed ps c → records_of c ≡ ps
+-- bytes with a closed gate behind these records are a journal with them, whatever stands behind the gate
+pub closed_means : (ps : List (List ℕ)) (c : List ℕ) → AllByRecursion IsPayload ps → Closed ps c → IsJournal ps c
 closed_means ps c all closed =
-    let are = records_begin ps c (closed.gate ∷ closed.behind) Shut all closed.is (found_shut closed.gate closed.behind closed.shut) in
-    are.1 ∙ append-nil ps
+    let shut = found_shut closed.gate closed.behind closed.shut in
+    let are = records_begin ps c (closed.gate ∷ closed.behind) Shut all closed.is shut in
+    let good = bad_begins ps c (closed.gate ∷ closed.behind) Shut all closed.is shut in
+    record { good = good.1; all = are.1 ∙ append-nil ps }
 
 -- a whole frame behind a gate counts if the gate is open
-pub staged_means : (ps : List (List ℕ)) (p c : List ℕ) → AllByRecursion IsPayload ps → IsPayload p → Staged ps p c → (records_of c ≡ ps) ⊎ (records_of c ≡ ps ++ p ∷ [])
+pub staged_means : (ps : List (List ℕ)) (p c : List ℕ) → AllByRecursion IsPayload ps → IsPayload p → Staged ps p c → IsJournal ps c ⊎ IsJournal (ps ++ p ∷ []) c
 staged_means ps p c all is staged = elim (cases_eq staged.gate 1) [
   | inl is_open ↦ inr (closed_means (ps ++ p ∷ []) c (all_push ps p all is) (opened_closed ps p c staged.next staged.behind staged.shut (staged.is ∙ ap (λ (g : ℕ). spelled ps ++ (g ∷ frame p ++ staged.next ∷ staged.behind)) is_open)))
   | inr shut ↦ inl (closed_means ps c all (record { gate = staged.gate; behind = frame p ++ staged.next ∷ staged.behind; shut = shut; is = staged.is }))
@@ -159,7 +161,7 @@ told_in ps q (Some c) all is keeps = keeps_in ps q c all is keeps
 
 pub told_records : (ps : List (List ℕ)) (seen : Option (List ℕ)) → AllByRecursion IsPayload ps → IfSome seen (Keeps ps None) → IfSome (option_map records_of seen) (λ rs. rs ≡ ps)
 told_records ps None all keeps = tt
-told_records ps (Some c) all keeps = closed_means ps c all keeps
+told_records ps (Some c) all keeps = (closed_means ps c all keeps).all
 
 -- the length of a journal counts its records
 opened_counts : (ps : List (List ℕ)) → length (opened ps) ≡ sum_by (λ (p : List ℕ). length p + 5) ps

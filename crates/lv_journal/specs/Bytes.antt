@@ -92,3 +92,8 @@ pub record Staged (ps : List (List ℕ)) (p bytes : List ℕ) : Type 0 where
 pub record Begins (ps : List (List ℕ)) (bytes : List ℕ) : Type 0 where
   pub rest : List ℕ
   pub is : bytes ≡ spelled ps ++ rest
+
+-- a journal that is nowhere bad, with these records
+pub record IsJournal (ps : List (List ℕ)) (bytes : List ℕ) : Type 0 where
+  pub good : bad_place bytes ≡ None
+  pub all : records_of bytes ≡ ps

@@ -1,8 +1,8 @@
 -- What a journal stands for.
-use Rattle.std.specs.Prelude.{◌≡◌, ◌⊎◌, ◌<◌, ◌≤◌, ◌+◌, ◌^◌, ℕ, List, [], ◌∷◌, ◌++◌, length, Option, Some, None, IfSome, is_some}
+use Rattle.std.specs.Prelude.{◌≡◌, ◌⊎◌, ◌<◌, ◌≤◌, ◌+◌, ◌^◌, ℕ, List, [], ◌∷◌, ◌++◌, length, Option, Some, None, IfSome, IsSomeAnd, is_some}
 use Rattle.std.specs.Option.{option_map}
 use Rattle.std.specs.List.{AllByRecursion}
-use Rattle.lv_journal.specs.Bytes.{spelled, records_of, IsPayload, Closed, Staged}
+use Rattle.lv_journal.specs.Bytes.{spelled, records_of, IsJournal, IsPayload, Closed, Staged}
 use Rattle.lv_journal.specs.declared.writer.Writer.{Writer}
 
 -- the records and no more, or the records and one whose gate may be open or closed
@@ -23,15 +23,15 @@ pub record Stands {D : Type 0} (seen : D → Option (List ℕ)) (may_leave : D �
 abbrev pub IsStanding : {D : Type 0} → (D → Option (List ℕ)) → (D → List ℕ → Type 0) → Writer D → Type 0
 IsStanding seen may_leave journal = (ps : List (List ℕ)) × (doubt : Option (List ℕ)) × Stands seen may_leave journal ps doubt
 
--- the records, or these and the one in doubt
+-- the bytes are a journal with the records, or with these and the one in doubt
 abbrev pub RecordsIn : List (List ℕ) → Option (List ℕ) → List ℕ → Type 0
-RecordsIn ps None bytes = records_of bytes ≡ ps
-RecordsIn ps (Some q) bytes = (records_of bytes ≡ ps) ⊎ (records_of bytes ≡ ps ++ q ∷ [])
+RecordsIn ps None bytes = IsJournal ps bytes
+RecordsIn ps (Some q) bytes = IsJournal ps bytes ⊎ IsJournal (ps ++ q ∷ []) bytes
 
--- the records, or these and the one in doubt, or these and the new one
+-- with the records, or with these and the one in doubt, or with these and the new one
 abbrev pub RecordsOr : List (List ℕ) → Option (List ℕ) → List ℕ → List ℕ → Type 0
 RecordsOr ps doubt p bytes =
-    (records_of bytes ≡ ps) ⊎ IfSome doubt (λ q. records_of bytes ≡ ps ++ q ∷ []) ⊎ (records_of bytes ≡ ps ++ p ∷ [])
+    IsJournal ps bytes ⊎ IsSomeAnd doubt (λ q. IsJournal (ps ++ q ∷ []) bytes) ⊎ IsJournal (ps ++ p ∷ []) bytes
 
 -- a put of n bytes takes no memory
 pub record IsReserved {D : Type 0} (ready : D → ℕ → ℕ → ℕ → Type 0) (journal : Writer D) (n : ℕ) : Type 0 where

@@ -75,8 +75,8 @@ impl<D: Disk> Journal<D> {
         self.writer.reserve(payload)
     }
 
-    /// What a journal that stands for some records has: these are the records of what is told and of each image, but for one
-    /// in doubt, and the length counts them.
+    /// What a journal that stands for some records has: what is told, and each image, is nowhere bad and has these records, but
+    /// for one in doubt; and the length counts them.
     pub fn meaning(&self)
         ensures told { (ps : List (List ℕ)) (q : Option (List ℕ)) → Stands D.seen D.may_leave self.now ps q → IfSome (D.seen self.now.disk) (RecordsIn ps q) }
         ensures images { (ps : List (List ℕ)) (q : Option (List ℕ)) → Stands D.seen D.may_leave self.now ps q → (c : List ℕ) → D.may_leave self.now.disk c → RecordsIn ps q c }

@@ -33,18 +33,18 @@ pub returns-in_err-write-clause-case : goal.returns-in_err-write-clause-case
 returns-in_err-write-clause-case g c = λ w settings limit is.
     let p = c.args.store.now in
     let rec_is : Commit (c.last.result + 1) c.args.ready.actions ≡ next_record (store_of p) c.args.ready.actions = ap (λ (n : ℕ). Commit (n + 1) c.args.ready.actions) c.last.ensures in
-    commit_refused g.D.Disk.seen g.D.Disk.may_leave c.args.session c.args.ready.actions w (engine_of p c.args.journal.now) (engine_of p c.write.new.journal) settings c.from_residual.result c.in_err-write.field-0.0 (err_is _ _ c.from_residual.ensures.1)
+    commit_refused g.D.Disk.seen g.D.Disk.may_leave g.D.Disk.moment g.D.Disk.left_since c.args.session c.args.ready.actions w (engine_of p c.args.journal.now) (engine_of p c.write.new.journal) settings c.from_residual.result c.in_err-write.field-0.0 (err_is _ _ c.from_residual.ensures.1)
     (tells_at c.in_err-write.field-0.0 settings w.upkeep (Commit (c.last.result + 1) c.args.ready.actions) (next_record (store_of p) c.args.ready.actions) rec_is (c.in_err-write.ensures.outcome settings w.upkeep limit is.journal_is))
     (record { store_is = refl; length_is = c.in_err-write.ensures.stays }) is
-    (logs_at g.D.Disk.seen g.D.Disk.may_leave c.in_err-write.field-0.0 c.args.journal.now c.write.new.journal (Commit (c.last.result + 1) c.args.ready.actions) (next_record (store_of p) c.args.ready.actions) rec_is c.in_err-write.ensures.log)
+    (logs_at g.D.Disk.seen g.D.Disk.may_leave g.D.Disk.moment g.D.Disk.left_since c.in_err-write.field-0.0 c.args.journal.now c.write.new.journal (Commit (c.last.result + 1) c.args.ready.actions) (next_record (store_of p) c.args.ready.actions) rec_is c.in_err-write.ensures.log)
 
 pub returns-clause-case : goal.returns-clause-case
 returns-clause-case g c = λ w settings limit is.
     let p = c.args.store.now in
     let rec_is : Commit (c.last.result + 1) c.args.ready.actions ≡ next_record (store_of p) c.args.ready.actions = ap (λ (n : ℕ). Commit (n + 1) c.args.ready.actions) c.last.ensures in
-    commit_done g.D.Disk.seen g.D.Disk.may_leave c.args.session c.args.ready.actions w (engine_of p c.args.journal.now) (engine_of c.add_commit.new.self c.write.new.journal) settings c.add_commit.result c.add_commit.ensures.number
+    commit_done g.D.Disk.seen g.D.Disk.may_leave g.D.Disk.moment g.D.Disk.left_since c.args.session c.args.ready.actions w (engine_of p c.args.journal.now) (engine_of c.add_commit.new.self c.write.new.journal) settings c.add_commit.result c.add_commit.ensures.number
     (subst (λ (rec : Rec). outcome_of settings false w.upkeep rec ≡ good) rec_is (c.in_ok-write.ensures.outcome settings w.upkeep limit is.journal_is))
     (subst (λ (actions : List Action). store.Stands (wrote (next_record (store_of p) actions) (cases.with_commit c.args.session (transaction c.args.session w.visible) w.visible) w) (store_of c.add_commit.new.self))
     (c.actions_of-actions.ensures (c.last.result + 1) c.args.ready.actions refl) (c.add_commit.ensures.case w is.store_stands))
     (subst (λ (rec : Rec). length_of c.write.new.journal ≡ need w.upkeep rec) rec_is (c.in_ok-write.ensures.longer w.upkeep is.journal_is))
-    (subst (λ (rec : Rec). LogsWrite g.D.Disk.seen g.D.Disk.may_leave (Ok tt) rec c.args.journal.now c.write.new.journal) rec_is c.in_ok-write.ensures.log)
+    (subst (λ (rec : Rec). LogsWrite g.D.Disk.seen g.D.Disk.may_leave g.D.Disk.moment g.D.Disk.left_since (Ok tt) rec c.args.journal.now c.write.new.journal) rec_is c.in_ok-write.ensures.log)

@@ -30,11 +30,11 @@ returns-in_err-write-clause-case g c = λ w settings limit is.
 pub returns-in_err-write-clause-log : goal.returns-in_err-write-clause-log
 returns-in_err-write-clause-log g c = λ w settings limit is.
     let rec_is : c.table_record-rec.result ≡ table_record c.args.def = c.table_record-rec.ensures ∙ ap table_record c.in_ok-def.ensures.ready.copied_is in
-    logged_at w (engine_of c.args.store.now c.args.journal.now) (engine_of c.prepare_table.new.self c.write.new.journal) (table_record c.args.def) tt (cases.with_table c.args.def w.visible) g.D.Disk.seen g.D.Disk.may_leave c.args.journal.now c.write.new.journal
+    logged_at w (engine_of c.args.store.now c.args.journal.now) (engine_of c.prepare_table.new.self c.write.new.journal) (table_record c.args.def) tt (cases.with_table c.args.def w.visible) g.D.Disk.seen g.D.Disk.may_leave g.D.Disk.moment g.D.Disk.left_since c.args.journal.now c.write.new.journal
     c.from_residual-in_err-write.result c.in_err-write.field-0.0 (err_is _ _ c.from_residual-in_err-write.ensures.1)
     (λ fails. outcome_of settings fails w.upkeep (table_record c.args.def))
     (tells_at c.in_err-write.field-0.0 settings w.upkeep c.table_record-rec.result (table_record c.args.def) rec_is (c.in_err-write.ensures.outcome settings w.upkeep (limit ∙ sym (ap (λ (e : StoreKept). e.settings.log_limit) c.prepare_table.ensures.kept)) is.journal_is))
-    (logs_at g.D.Disk.seen g.D.Disk.may_leave c.in_err-write.field-0.0 c.args.journal.now c.write.new.journal c.table_record-rec.result (table_record c.args.def) rec_is c.in_err-write.ensures.log)
+    (logs_at g.D.Disk.seen g.D.Disk.may_leave g.D.Disk.moment g.D.Disk.left_since c.in_err-write.field-0.0 c.args.journal.now c.write.new.journal c.table_record-rec.result (table_record c.args.def) rec_is c.in_err-write.ensures.log)
 
 pub returns-clause-case : goal.returns-clause-case
 returns-clause-case g c = λ w settings limit is.
@@ -49,7 +49,7 @@ returns-clause-case g c = λ w settings limit is.
 pub returns-clause-log : goal.returns-clause-log
 returns-clause-log g c = λ w settings limit is.
     let rec_is : c.table_record-rec.result ≡ table_record c.args.def = c.table_record-rec.ensures ∙ ap table_record c.in_ok-def.ensures.ready.copied_is in
-    logs_done w (engine_of c.args.store.now c.args.journal.now) (engine_of c.add_table.new.self c.write.new.journal) (table_record c.args.def) tt (cases.with_table c.args.def w.visible) g.D.Disk.seen g.D.Disk.may_leave c.args.journal.now c.write.new.journal
+    logs_done w (engine_of c.args.store.now c.args.journal.now) (engine_of c.add_table.new.self c.write.new.journal) (table_record c.args.def) tt (cases.with_table c.args.def w.visible) g.D.Disk.seen g.D.Disk.may_leave g.D.Disk.moment g.D.Disk.left_since c.args.journal.now c.write.new.journal
     (outcome_of settings false w.upkeep (table_record c.args.def))
     (subst (λ (rec : Rec). outcome_of settings false w.upkeep rec ≡ good) rec_is (c.in_ok-write.ensures.outcome settings w.upkeep (limit ∙ sym (ap (λ (e : StoreKept). e.settings.log_limit) c.prepare_table.ensures.kept)) is.journal_is))
-    (subst (λ (rec : Rec). LogsWrite g.D.Disk.seen g.D.Disk.may_leave (Ok tt) rec c.args.journal.now c.write.new.journal) rec_is c.in_ok-write.ensures.log)
+    (subst (λ (rec : Rec). LogsWrite g.D.Disk.seen g.D.Disk.may_leave g.D.Disk.moment g.D.Disk.left_since (Ok tt) rec c.args.journal.now c.write.new.journal) rec_is c.in_ok-write.ensures.log)

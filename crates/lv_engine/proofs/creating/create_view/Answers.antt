@@ -24,7 +24,7 @@ returns-in_err-rec-clause-case g c = λ w settings limit is.
 
 pub returns-in_err-rec-clause-log : goal.returns-in_err-rec-clause-log
 returns-in_err-rec-clause-log g c = λ w settings limit is.
-    memory_logs g.D.Disk.seen g.D.Disk.may_leave c.args.journal.now c.args.journal.now refl c.from_residual-in_err-rec.result (err_is _ _ c.from_residual-in_err-rec.ensures.1)
+    memory_logs g.D.Disk.seen g.D.Disk.may_leave g.D.Disk.moment g.D.Disk.left_since c.args.journal.now c.args.journal.now refl c.from_residual-in_err-rec.result (err_is _ _ c.from_residual-in_err-rec.ensures.1)
     (λ fails. cases.view_made (outcome_of settings fails w.upkeep) c.args.def w.visible)
 
 pub write-requires : goal.write-requires
@@ -51,12 +51,12 @@ pub returns-in_err-write-clause-log : goal.returns-in_err-write-clause-log
 returns-in_err-write-clause-log g c = λ w settings limit is.
     let there = subst (store.Stands w) (sym c.prepare_view.ensures.kept) is.store_stands in
     let rec_is = c.in_ok-rec.ensures ∙ view_rec w c.args.def c.in_ok-ready.ready.def c.prepare_view.new.self c.in_ok-ready.ensures.def there in
-    logged_at w (engine_of c.args.store.now c.args.journal.now) (engine_of c.prepare_view.new.self c.write.new.journal) (view_record c.args.def w.visible) tt (cases.with_view c.args.def w.visible) g.D.Disk.seen g.D.Disk.may_leave c.args.journal.now c.write.new.journal
+    logged_at w (engine_of c.args.store.now c.args.journal.now) (engine_of c.prepare_view.new.self c.write.new.journal) (view_record c.args.def w.visible) tt (cases.with_view c.args.def w.visible) g.D.Disk.seen g.D.Disk.may_leave g.D.Disk.moment g.D.Disk.left_since c.args.journal.now c.write.new.journal
     c.from_residual-in_err-write.result c.in_err-write.field-0.0 (err_is _ _ c.from_residual-in_err-write.ensures.1)
     (λ fails. outcome_of settings fails w.upkeep (view_record c.args.def w.visible))
     (tells_at c.in_err-write.field-0.0 settings w.upkeep c.in_ok-rec.rec (view_record c.args.def w.visible) rec_is
     (c.in_err-write.ensures.outcome settings w.upkeep (limit ∙ sym (ap (λ (e : StoreKept). e.settings.log_limit) c.prepare_view.ensures.kept)) is.journal_is))
-    (logs_at g.D.Disk.seen g.D.Disk.may_leave c.in_err-write.field-0.0 c.args.journal.now c.write.new.journal c.in_ok-rec.rec (view_record c.args.def w.visible) rec_is c.in_err-write.ensures.log)
+    (logs_at g.D.Disk.seen g.D.Disk.may_leave g.D.Disk.moment g.D.Disk.left_since c.in_err-write.field-0.0 c.args.journal.now c.write.new.journal c.in_ok-rec.rec (view_record c.args.def w.visible) rec_is c.in_err-write.ensures.log)
 
 pub returns-clause-case : goal.returns-clause-case
 returns-clause-case g c = λ w settings limit is.
@@ -72,8 +72,8 @@ pub returns-clause-log : goal.returns-clause-log
 returns-clause-log g c = λ w settings limit is.
     let there = subst (store.Stands w) (sym c.prepare_view.ensures.kept) is.store_stands in
     let rec_is = c.in_ok-rec.ensures ∙ view_rec w c.args.def c.in_ok-ready.ready.def c.prepare_view.new.self c.in_ok-ready.ensures.def there in
-    logs_done w (engine_of c.args.store.now c.args.journal.now) (engine_of c.add_view.new.self c.write.new.journal) (view_record c.args.def w.visible) tt (cases.with_view c.args.def w.visible) g.D.Disk.seen g.D.Disk.may_leave c.args.journal.now c.write.new.journal
+    logs_done w (engine_of c.args.store.now c.args.journal.now) (engine_of c.add_view.new.self c.write.new.journal) (view_record c.args.def w.visible) tt (cases.with_view c.args.def w.visible) g.D.Disk.seen g.D.Disk.may_leave g.D.Disk.moment g.D.Disk.left_since c.args.journal.now c.write.new.journal
     (outcome_of settings false w.upkeep (view_record c.args.def w.visible))
     (subst (λ (rec : Rec). outcome_of settings false w.upkeep rec ≡ good) rec_is
     (c.in_ok-write.ensures.outcome settings w.upkeep (limit ∙ sym (ap (λ (e : StoreKept). e.settings.log_limit) c.prepare_view.ensures.kept)) is.journal_is))
-    (subst (λ (rec : Rec). LogsWrite g.D.Disk.seen g.D.Disk.may_leave (Ok tt) rec c.args.journal.now c.write.new.journal) rec_is c.in_ok-write.ensures.log)
+    (subst (λ (rec : Rec). LogsWrite g.D.Disk.seen g.D.Disk.may_leave g.D.Disk.moment g.D.Disk.left_since (Ok tt) rec c.args.journal.now c.write.new.journal) rec_is c.in_ok-write.ensures.log)

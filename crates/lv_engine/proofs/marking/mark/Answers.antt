@@ -32,9 +32,9 @@ returns-in_err-write-clause-log g c = λ w settings limit is.
     let new = engine_of c.args.store.now c.write.new.journal in
     let test = test_is w e new c.args.view is false (apart_test _ _ (λ same. c.if-marked-point.false (c.marked.ensures ∙ same ∙ sym c.point-point.ensures))) in
     let rec_is : Mark c.args.view c.point-point.result ≡ mark_record c.args.view w.upkeep = ap (Mark c.args.view) (c.point-point.ensures ∙ point_is w e new c.args.view is) in
-    mark_logged w e new c.args.view is test g.D.Disk.seen g.D.Disk.may_leave c.args.journal.now c.write.new.journal c.from_residual.result c.in_err-write.field-0.0 (err_is _ _ c.from_residual.ensures.1) settings
+    mark_logged w e new c.args.view is test g.D.Disk.seen g.D.Disk.may_leave g.D.Disk.moment g.D.Disk.left_since c.args.journal.now c.write.new.journal c.from_residual.result c.in_err-write.field-0.0 (err_is _ _ c.from_residual.ensures.1) settings
     (tells_at c.in_err-write.field-0.0 settings w.upkeep (Mark c.args.view c.point-point.result) (mark_record c.args.view w.upkeep) rec_is (c.in_err-write.ensures.outcome settings w.upkeep limit is.journal_is))
-    (logs_at g.D.Disk.seen g.D.Disk.may_leave c.in_err-write.field-0.0 c.args.journal.now c.write.new.journal (Mark c.args.view c.point-point.result) (mark_record c.args.view w.upkeep) rec_is c.in_err-write.ensures.log)
+    (logs_at g.D.Disk.seen g.D.Disk.may_leave g.D.Disk.moment g.D.Disk.left_since c.in_err-write.field-0.0 c.args.journal.now c.write.new.journal (Mark c.args.view c.point-point.result) (mark_record c.args.view w.upkeep) rec_is c.in_err-write.ensures.log)
 
 pub returns-clause-case : goal.returns-clause-case
 returns-clause-case g c = λ w settings limit is.
@@ -55,6 +55,6 @@ returns-clause-log g c = λ w settings limit is.
     let new = engine_of c.mark.new.self c.write.new.journal in
     let test = test_is w e new c.args.view is false (apart_test _ _ (λ same. c.if-marked-point.false (c.marked.ensures ∙ same ∙ sym c.point-point.ensures))) in
     let rec_is : Mark c.args.view c.point-point.result ≡ mark_record c.args.view w.upkeep = ap (Mark c.args.view) (c.point-point.ensures ∙ point_is w e new c.args.view is) in
-    mark_logs w e new c.args.view is test g.D.Disk.seen g.D.Disk.may_leave c.args.journal.now c.write.new.journal (outcome_of settings false w.upkeep)
+    mark_logs w e new c.args.view is test g.D.Disk.seen g.D.Disk.may_leave g.D.Disk.moment g.D.Disk.left_since c.args.journal.now c.write.new.journal (outcome_of settings false w.upkeep)
     (subst (λ (rec : Rec). outcome_of settings false w.upkeep rec ≡ good) rec_is (c.in_ok-write.ensures.outcome settings w.upkeep limit is.journal_is))
-    (subst (λ (rec : Rec). LogsWrite g.D.Disk.seen g.D.Disk.may_leave (Ok tt) rec c.args.journal.now c.write.new.journal) rec_is c.in_ok-write.ensures.log)
+    (subst (λ (rec : Rec). LogsWrite g.D.Disk.seen g.D.Disk.may_leave g.D.Disk.moment g.D.Disk.left_since (Ok tt) rec c.args.journal.now c.write.new.journal) rec_is c.in_ok-write.ensures.log)

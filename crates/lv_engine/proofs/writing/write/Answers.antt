@@ -6,6 +6,6 @@ use Rattle.lv_engine.proofs.writing.write.Goals as goal
 
 pub returns-clause-log : goal.returns-clause-log
 returns-clause-log g c = λ recs doubt has.
-    failed_logs g.D.Disk.seen g.D.Disk.may_leave recs doubt c.args.rec.now c.as_slice.result.now c.put.new.self has.spelled has.doubtful
+    failed_logs g.D.Disk.seen g.D.Disk.may_leave g.D.Disk.moment g.D.Disk.left_since recs doubt c.args.rec.now c.as_slice.result.now c.put.new.self has.spelled has.doubtful
     (subst (λ (bytes : List ℕ). Spells bytes c.args.rec.now) (sym c.as_slice.ensures) c.in_ok-payload.ensures.spelled)
     (c.in-Err.ensures.failed (map spelling recs) (option_map spelling doubt) (c.in_ok-reserve.ensures.same (map spelling recs) (option_map spelling doubt) has.stands))
