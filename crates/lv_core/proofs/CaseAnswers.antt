@@ -149,18 +149,18 @@ queried_turn session query w = shown (reply.Rows (queried session query w.visibl
 no_less : (a b : ℕ) → b ≡ a → a ≤ b
 no_less a b e = omega (arith, e)
 
-module _ {D : Type 0} (seen : D → Option (List ℕ)) (may_leave : D → List ℕ → Type 0) (failures : D → ℕ) where
+module _ {D : Type 0} (seen : D → Option (List ℕ)) (may_leave : D → List ℕ → Type 0) (moment : D → ℕ) (left_since : D → ℕ → List ℕ → Type 0) (failures : D → ℕ) where
   abbrev Recorded : Option Rec → Option Rec → Writer D → Writer D → Type 0
-  Recorded attempted written old new = Journals seen may_leave failures attempted written old new
+  Recorded attempted written old new = Journals seen may_leave moment left_since failures attempted written old new
 
   abbrev Gives : World → EngineView D → EngineView D → List Forced → (Bool → Turn) → Answered → Type 0
-  Gives w old new steps turn_if a = GivesTurn seen may_leave failures w old new steps turn_if a
+  Gives w old new steps turn_if a = GivesTurn seen may_leave moment left_since failures w old new steps turn_if a
 
   abbrev Ans : {E : Type 0} → World → EngineView D → EngineView D → Result Answered E → List Forced → (Bool → Turn) → Type 0
-  Ans w old new r steps turn_if = Answers seen may_leave failures w old new r steps turn_if
+  Ans w old new r steps turn_if = Answers seen may_leave moment left_since failures w old new r steps turn_if
 
   abbrev Undone : EngineView D → EngineView D → Type 0
-  Undone old new = IsUndone seen may_leave failures old new
+  Undone old new = IsUndone seen may_leave moment left_since failures old new
 
   abbrev Caused : Bool → EngineView D → EngineView D → Type 0
   Caused fails old new = fails ≡ true → Rose (failures old.journal.disk) (failures new.journal.disk)
@@ -168,7 +168,7 @@ module _ {D : Type 0} (seen : D → Option (List ℕ)) (may_leave : D → List �
   -- ---- journals
   pub journals_same : (old new : Writer D) → new ≡ old → Recorded None None old new
   journals_same old new same = record {
-    logs = λ recs doubt has. subst (λ (j : Writer D). HasRecords seen may_leave recs doubt j) (sym same) has;
+    logs = unchanged_logs seen may_leave moment left_since old new same;
     later = no_less (failures old.disk) (failures new.disk) (ap (λ (j : Writer D). failures j.disk) same);
   }
 
@@ -182,10 +182,10 @@ module _ {D : Type 0} (seen : D → Option (List ℕ)) (may_leave : D → List �
     journal = journals_same old.journal new.journal (ap (λ (e : EngineView D). e.journal) same);
   }
 
-  pub refused_quiet : {A : Type 0} (fault : Option Fault) (c : Case A) (old new : Writer D) → new ≡ old → c.attempted ≡ None → c.written ≡ None → LogsUnless seen may_leave fault c.attempted c.written old new
+  pub refused_quiet : {A : Type 0} (fault : Option Fault) (c : Case A) (old new : Writer D) → new ≡ old → c.attempted ≡ None → c.written ≡ None → LogsUnless seen may_leave moment left_since fault c.attempted c.written old new
   refused_quiet None c old new same attempted written = (journals_same old new same).logs
   refused_quiet (Some f) c old new same attempted written =
-      subst (λ (o : Option Rec). LogsUnless seen may_leave (Some f) o c.written old new) (sym attempted) (subst (λ (o : Option Rec). LogsUnless seen may_leave (Some f) None o old new) (sym written) (journals_same old new same).logs)
+      subst (λ (o : Option Rec). LogsUnless seen may_leave moment left_since (Some f) o c.written old new) (sym attempted) (subst (λ (o : Option Rec). LogsUnless seen may_leave moment left_since (Some f) None o old new) (sym written) (journals_same old new same).logs)
 
   -- ---- a case that is answered, and one that is refused
   module _ {A : Type 0} (make : A → Reply) (case_if : Bool → Case A) (w : World) (old new : EngineView D) where
@@ -201,7 +201,7 @@ module _ {D : Type 0} (seen : D → Option (List ℕ)) (may_leave : D → List �
     refuses fails a f none is h journal cause = record { fails = fails; forced = none; reply = is ∙ sym (ap (reply_or make) h.0); stands = h.1; journal = journal; cause = cause }
 
     pub answers_refused : {E : Type 0} (fails : Bool) (r : Result Answered E) (fault : Option Fault) → IsRefusal fault r → Refuses fault w old new (case_if fails)
-        → LogsUnless seen may_leave fault (case_if fails).attempted (case_if fails).written old.journal new.journal → failures old.journal.disk ≤ failures new.journal.disk → Caused fails old new → Ans w old new r [] turns
+        → LogsUnless seen may_leave moment left_since fault (case_if fails).attempted (case_if fails).written old.journal new.journal → failures old.journal.disk ≤ failures new.journal.disk → Caused fails old new → Ans w old new r [] turns
     answers_refused fails (Ok a) (Some f) is h logs later cause = refuses fails a f is.0 is.1 h (record { logs = logs; later = later }) cause
     answers_refused fails (Err e) (Some f) is h logs later cause = absurd is
     answers_refused fails (Ok a) None is h logs later cause = absurd is
@@ -226,7 +226,7 @@ module _ {D : Type 0} (seen : D → Option (List ℕ)) (may_leave : D → List �
     after_is fails r new is h = subst (λ (r : Result (Option ℕ) Fault). Stands (alone_after r session (case_if fails) w) new) (sym is) h
 
     pub alone_ok : (fails : Bool) (new : EngineView D) (a : Answered) (number : Option ℕ) → a.forced ≡ [] → a.reply ≡ reply.Alone count number → ((case_if fails).answer ≡ Ok number) × Stands (world_after (case_if fails) w) new
-        → Recorded (case_if fails).attempted (case_if fails).written old.journal new.journal → Caused fails old new → GivesAlone seen may_leave failures count session w old new case_if a
+        → Recorded (case_if fails).attempted (case_if fails).written old.journal new.journal → Caused fails old new → GivesAlone seen may_leave moment left_since failures count session w old new case_if a
     alone_ok fails new a number none is h journal cause = record {
       fails = fails;
       forced = none;
@@ -243,7 +243,7 @@ module _ {D : Type 0} (seen : D → Option (List ℕ)) (may_leave : D → List �
       journal_is = sym (ap (λ (e : EngineView D). e.journal) ended)
 
       pub alone_refused : {E : Type 0} (r : Result Answered E) (fault : Option Fault) → IsRefusal fault r → Refuses fault w old mid (case_if fails)
-          → LogsUnless seen may_leave fault (case_if fails).attempted (case_if fails).written old.journal mid.journal → CommitsAlone seen may_leave failures count session w old new r case_if
+          → LogsUnless seen may_leave moment left_since fault (case_if fails).attempted (case_if fails).written old.journal mid.journal → CommitsAlone seen may_leave moment left_since failures count session w old new r case_if
       alone_refused (Ok a) (Some f) is h logs = record {
         fails = fails;
         forced = is.0;
@@ -294,7 +294,7 @@ module _ {D : Type 0} (seen : D → Option (List ℕ)) (may_leave : D → List �
       pub stands : Stands (turned [] t w) new
       pub journal : Recorded t.attempted t.written old.journal new.journal
 
-    fits : (count : ℕ) (mid new : EngineView D) (a : Answered) (h : GivesAlone seen may_leave failures count session made mid new committing a)
+    fits : (count : ℕ) (mid new : EngineView D) (a : Answered) (h : GivesAlone seen may_leave moment left_since failures count session made mid new committing a)
         → Fits mid new a (turn_by reply_alone (with_count count (committing h.fails).answer (committing h.fails) w.visible))
     fits count mid new a h = by (committing h.fails).answer refl
       where
@@ -311,7 +311,7 @@ module _ {D : Type 0} (seen : D → Option (List ℕ)) (may_leave : D → List �
           journal = subst (λ (o : Option Rec). Recorded (committing h.fails).attempted o mid.journal new.journal) (commit_ends (outcome_if h.fails) session made.visible f is).1 h.journal;
         }
 
-    commit_gives : (count : ℕ) (old mid new : EngineView D) (a : Answered) → changing.answer ≡ Ok count → mid.journal ≡ old.journal → GivesAlone seen may_leave failures count session made mid new committing a → Gives w old new [] both a
+    commit_gives : (count : ℕ) (old mid new : EngineView D) (a : Answered) → changing.answer ≡ Ok count → mid.journal ≡ old.journal → GivesAlone seen may_leave moment left_since failures count session made mid new committing a → Gives w old new [] both a
     commit_gives count old mid new a e same h =
         let fit = subst (λ (t : Turn). Fits mid new a t) (sym (alone_is count h.fails e)) (fits count mid new a h) in
         record {
@@ -324,7 +324,7 @@ module _ {D : Type 0} (seen : D → Option (List ℕ)) (may_leave : D → List �
         }
 
     pub answers_committed : {E : Type 0} (count : ℕ) (old mid new : EngineView D) (r : Result Answered E) → changing.answer ≡ Ok count → mid.journal ≡ old.journal → with_transaction mid session None ≡ old
-        → CommitsAlone seen may_leave failures count session made mid new r committing → Ans w old new r [] both
+        → CommitsAlone seen may_leave moment left_since failures count session made mid new r committing → Ans w old new r [] both
     answers_committed count old mid new (Ok a) e same again h = commit_gives count old mid new a e same h
     answers_committed count old mid new (Err x) e same again h = subst (λ (e : EngineView D). Undone e new) again h
 

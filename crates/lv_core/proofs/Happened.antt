@@ -21,10 +21,14 @@ use Rattle.lv_plain.proofs.GivenEntries.{given_comes, shown}
 use Rattle.lv_plain.proofs.LegalLaws.{Legal-snoc, after-append}
 use Rattle.lv_plain.proofs.WrittenEntries.{given_record, records_of-append}
 use Rattle.lv_upkeep.specs.Kept.{claim_kept}
+use Rattle.lv_crash.specs.Attempts.{Attempt, as_attempt}
+use Rattle.lv_crash.proofs.Follows.{event_follows}
+use Rattle.lv_crash.proofs.Staying.{attempts_append}
 use Rattle.lv_engine.specs.Kept.{EngineView, Stands}
 use Rattle.lv_engine.specs.Records.{HasRecords}
-use Rattle.lv_core.specs.Run.{AreClaims, CoreView, Gave, IsRoomy, IsRun, claim_count, failures_shown, first_state, rules_of, settings_of, state_of, view_of, written_of}
+use Rattle.lv_core.specs.Run.{AreClaims, CoreView, Gave, IsLogged, IsRoomy, IsRun, asked_of, claim_count, failures_shown, first_state, rules_of, settings_of, state_of, view_of, written_of}
 use Rattle.lv_core.proofs.Binds.{reads_blames_no_disk}
+use Rattle.lv_core.proofs.Logged.{given_attempt, logged_on}
 use Rattle.lv_core.proofs.RecordsGo.{Goes}
 use Rattle.lv_core.proofs.Claims.{claims_are, claims_kept, counted, few_claims}
 
@@ -47,15 +51,15 @@ caused_more : (opened shows old new : ℕ) (b : Bool) → min (opened + shows) (
 caused_more opened shows old new false le later rose = grind arith
 caused_more opened shows old new true le later rose = let more = rose refl in grind arith
 
-module _ {D : Type 0} (seen : D → Option (List ℕ)) (may_leave : D → List ℕ → Type 0) (failures : D → ℕ) where
+module _ {D : Type 0} (seen : D → Option (List ℕ)) (may_leave : D → List ℕ → Type 0) (moment : D → ℕ) (left_since : D → ℕ → List ℕ → Type 0) (failures : D → ℕ) where
   abbrev pub IsHeld : CoreView D → Type 0
-  IsHeld c = IsRun seen may_leave failures c
+  IsHeld c = IsRun seen may_leave moment left_since failures c
 
   -- what comes of an event
   pub record Comes (c : CoreView D) (event : Event) (fails : Bool) (new : EngineView D) : Type 0 where
     pub stands : Stands (given_by fails c event).next.world new
     pub settings : new.store.settings ≡ c.engine.store.settings
-    pub goes : Goes seen may_leave (written_by (its_rules c) fails event (state_of c)) c.engine.journal new.journal
+    pub goes : Goes seen may_leave moment left_since (written_by (its_rules c) false event (state_of c)) (written_by (its_rules c) fails event (state_of c)) c.engine.journal new.journal
     pub later : failures c.engine.journal.disk ≤ failures new.journal.disk
     pub cause : fails ≡ true → Rose (failures c.engine.journal.disk) (failures new.journal.disk)
 
@@ -80,11 +84,12 @@ module _ {D : Type 0} (seen : D → Option (List ℕ)) (may_leave : D → List �
         sym (records_of-append rules (first_state c) c.entries (given.entry ∷ []) ∙ ap (λ (o : Option Rec). written_of c ++ cons_option o []) (given_record rules fails event (state_of c)))
 
     module _ (new : EngineView D) (came : Comes c event fails new) where
-      records_gone : (recs : List Rec) → HasRecords seen may_leave recs None c.opened.journal → (doubt : Option Rec) × HasRecords seen may_leave (recs ++ written_of (gone new)) doubt new.journal
+      asked_gone : asked_of c ++ as_attempt (written_by rules false event (state_of c)) (written_by rules fails event (state_of c)) ≡ asked_of (gone new)
+      asked_gone = sym (attempts_append rules (first_state c) c.entries (given.entry ∷ []) ∙ ap (λ (l : List Attempt). asked_of c ++ l) (given_attempt rules fails event (state_of c)))
+
+      records_gone : (recs : List Rec) → HasRecords seen may_leave recs None c.opened.journal → IsLogged seen may_leave moment left_since failures recs (gone new)
       records_gone recs has =
-          let before = held.records recs has in
-          let now = came.goes (recs ++ written_of c) before.0 before.1 in
-          (now.0, subst (λ (rs : List Rec). HasRecords seen may_leave rs now.0 new.journal) (append_assoc recs (written_of c) (cons_option (written_by rules fails event (state_of c)) []) ∙ ap (λ (rs : List Rec). recs ++ rs) (written_gone new)) now.1)
+          logged_on seen may_leave moment left_since failures c (gone new) recs (written_by rules false event (state_of c)) (written_by rules fails event (state_of c)) (held.records recs has) refl (written_gone new) asked_gone (event_follows rules fails event (state_of c)) came.goes
 
       shows_cause : shows_failure given.entry ≡ true → Rose (failures c.engine.journal.disk) (failures new.journal.disk)
       shows_cause = by fails refl
@@ -98,7 +103,7 @@ module _ {D : Type 0} (seen : D → Option (List ℕ)) (may_leave : D → List �
           subst (λ n. min (failures c.opened.journal.disk + n) (2 ^ 64 - 1) ≤ failures new.journal.disk) (sym (shown_more c.entries given.entry))
           (caused_more (failures c.opened.journal.disk) (failures_shown c.entries) (failures c.engine.journal.disk) (failures new.journal.disk) (shows_failure given.entry) held.caused came.later shows_cause)
 
-      gone_gave : Gave seen may_leave failures event c (gone new)
+      gone_gave : Gave seen may_leave moment left_since failures event c (gone new)
       gone_gave = record {
         run = record {
           within = held.within;
@@ -127,7 +132,7 @@ module _ {D : Type 0} (seen : D → Option (List ℕ)) (may_leave : D → List �
   -- the same of what a run keeps, by the entry that was added
   pub happened : (policy : ℕ) (p : Program) (old new opened : EngineView D) (places next : Places) (es later more : List Entry) (c : CoreView D) (event : Event) (fails : Bool) (e : Entry) → view_of policy p old opened places es ≡ c
       → IsHeld c → MayHappen c.program (state_of c) event → later ≡ es → more ≡ later ++ e ∷ [] → next ≡ (given_by fails c event).next.places → e ≡ (given_by fails c event).entry → Comes c event fails new
-      → Gave seen may_leave failures event c (view_of policy p new opened next more)
+      → Gave seen may_leave moment left_since failures event c (view_of policy p new opened next more)
   happened policy p old new opened places next es later more c event fails e is held may same added counted entry came =
       let settings_is : settings_of new.store.settings policy ≡ c.settings = ap (λ s. settings_of s policy) (came.settings ∙ ap (λ (v : CoreView D). v.engine.store.settings) (sym is)) ∙ ap (λ (v : CoreView D). v.settings) is in
       let program_is : p ≡ c.program = ap (λ (v : CoreView D). v.program) is in
@@ -135,7 +140,7 @@ module _ {D : Type 0} (seen : D → Option (List ℕ)) (may_leave : D → List �
       let entries_is : more ≡ c.entries ++ (given_by fails c event).entry ∷ [] = added ∙ λ i. (same ∙ ap (λ (v : CoreView D). v.entries) is) i ++ entry i ∷ [] in
       let gone_is : view_of policy p new opened next more ≡ gone c event fails held may new =
       λ i. record { settings = settings_is i; program = program_is i; places = counted i; entries = entries_is i; engine = new; opened = opened_is i } in
-      subst (Gave seen may_leave failures event c) (sym gone_is) (gone_gave c event fails held may new came)
+      subst (Gave seen may_leave moment left_since failures event c) (sym gone_is) (gone_gave c event fails held may new came)
 
   -- nothing has happened
   pub unchanged : (policy : ℕ) (p : Program) (old new opened : EngineView D) (places : Places) (es later : List Entry) (c : CoreView D) → view_of policy p old opened places es ≡ c → later ≡ es → new ≡ old
@@ -147,14 +152,14 @@ module _ {D : Type 0} (seen : D → Option (List ℕ)) (may_leave : D → List �
   few_held c held = few_claims (state_of c).world c.engine held.stands held.claims.nobody
 
   -- a call has made room for nine, and its entry has taken one
-  pub roomy : (c : CoreView D) (spare left : ℕ) → IsHeld c → 9 ≤ spare → left + 1 ≡ spare → IsRoomy seen may_leave failures c left
+  pub roomy : (c : CoreView D) (spare left : ℕ) → IsHeld c → 9 ≤ spare → left + 1 ≡ spare → IsRoomy seen may_leave moment left_since failures c left
   roomy c spare left held made taken = record { run = held; room = omega (arith, few_held c held, made, taken) }
 
-  pub roomy_again : (c d : CoreView D) (spare more : ℕ) → d ≡ c → IsRoomy seen may_leave failures c spare → spare ≤ more → IsRoomy seen may_leave failures d more
-  roomy_again c d spare more same held le = subst (λ (v : CoreView D). IsRoomy seen may_leave failures v more) (sym same) (record { run = held.run; room = omega (arith, held.room, le) })
+  pub roomy_again : (c d : CoreView D) (spare more : ℕ) → d ≡ c → IsRoomy seen may_leave moment left_since failures c spare → spare ≤ more → IsRoomy seen may_leave moment left_since failures d more
+  roomy_again c d spare more same held le = subst (λ (v : CoreView D). IsRoomy seen may_leave moment left_since failures v more) (sym same) (record { run = held.run; room = omega (arith, held.room, le) })
 
   -- ---- a worker gives its claim up
-  module _ (c : CoreView D) (worker : ℕ) (spare : ℕ) (roomy : IsRoomy seen may_leave failures c spare) (is : IsWorker worker) (some : is_some (claim_kept c.engine.store.upkeep worker) ≡ true) where
+  module _ (c : CoreView D) (worker : ℕ) (spare : ℕ) (roomy : IsRoomy seen may_leave moment left_since failures c spare) (is : IsWorker worker) (some : is_some (claim_kept c.engine.store.upkeep worker) ≡ true) where
     same_claims : c.engine.store.upkeep.claims ≡ (state_of c).world.upkeep.claims
     same_claims = claims_are (state_of c).world c.engine roomy.run.stands
 
@@ -170,7 +175,7 @@ module _ {D : Type 0} (seen : D → Option (List ℕ)) (may_leave : D → List �
     pub room_to_release : 0 < spare
     room_to_release = omega (arith, fewer, roomy.room)
 
-    pub roomy_released : (d : CoreView D) (left : ℕ) → Gave seen may_leave failures (release_of worker) c d → left + 1 ≡ spare → IsRoomy seen may_leave failures d left
+    pub roomy_released : (d : CoreView D) (left : ℕ) → Gave seen may_leave moment left_since failures (release_of worker) c d → left + 1 ≡ spare → IsRoomy seen may_leave moment left_since failures d left
     roomy_released d left gave taken =
         let same : d.engine.store.upkeep.claims ≡ slice_set c.engine.store.upkeep.claims worker None =
         claims_are (state_of d).world d.engine gave.run.stands ∙ ap (λ (s : State). s.world.upkeep.claims) gave.state ∙ ap (λ (claims : List (Option Forced)). slice_set claims worker None) (sym same_claims) in

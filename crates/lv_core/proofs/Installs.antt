@@ -16,31 +16,31 @@ use Rattle.lv_core.proofs.Held.{gave, setup_held, stands_held}
 use Rattle.lv_core.proofs.WorkerAnswers.{worker_there}
 use Rattle.lv_core.proofs.Workers.{installed_free}
 
-module _ {D : Type 0} (seen : D → Option (List ℕ)) (may_leave : D → List ℕ → Type 0) (failures : D → ℕ) (policy : ℕ) (p : Program) (old opened : EngineView D) (places : Places) (es : List Entry) (spare : ℕ) (v : CoreView D)
-    (held : IsRoomy seen may_leave failures (view_of policy p old opened places es) spare) (is : view_of policy p old opened places es ≡ v) (worker : ℕ) (may : IsWorker worker) (setup : setup_answered v.program v.places ≡ true)
+module _ {D : Type 0} (seen : D → Option (List ℕ)) (may_leave : D → List ℕ → Type 0) (moment : D → ℕ) (left_since : D → ℕ → List ℕ → Type 0) (failures : D → ℕ) (policy : ℕ) (p : Program) (old opened : EngineView D) (places : Places) (es : List Entry) (spare : ℕ) (v : CoreView D)
+    (held : IsRoomy seen may_leave moment left_since failures (view_of policy p old opened places es) spare) (is : view_of policy p old opened places es ≡ v) (worker : ℕ) (may : IsWorker worker) (setup : setup_answered v.program v.places ≡ true)
     (later more : List Entry) (new : EngineView D) (e : Entry) (same : later ≡ es) (added : more ≡ later ++ e ∷ []) (settings : new.store.settings ≡ old.store.settings) (journal : new.journal ≡ old.journal)
     (gives : GivesEntry (given_by false v (install_of worker)) new e) where
   abbrev pub middle : CoreView D
   middle = view_of policy p new opened places more
 
-  pub gave_install : Gave seen may_leave failures (install_of worker) v middle
+  pub gave_install : Gave seen may_leave moment left_since failures (install_of worker) v middle
   gave_install =
-      gave seen may_leave failures policy p old opened places es spare v held is (install_of worker) later more new e (may, setup_held seen may_leave failures policy p old opened places es spare v held is setup) refl refl same added settings
+      gave seen may_leave moment left_since failures policy p old opened places es spare v held is (install_of worker) later more new e (may, setup_held seen may_leave moment left_since failures policy p old opened places es spare v held is setup) refl refl same added settings
       journal gives
 
-  pub roomy_middle : (room left : ℕ) → 10 ≤ room → left + 1 ≡ room → IsRoomy seen may_leave failures middle left
-  roomy_middle room left enough taken = roomy seen may_leave failures middle room left gave_install.run (omega (arith, enough)) taken
+  pub roomy_middle : (room left : ℕ) → 10 ≤ room → left + 1 ≡ room → IsRoomy seen may_leave moment left_since failures middle left
+  roomy_middle room left enough taken = roomy seen may_leave moment left_since failures middle room left gave_install.run (omega (arith, enough)) taken
 
   pub free_middle : claim_of (state_of middle).world.upkeep worker ≡ None
   free_middle =
       ap (λ (s : State). claim_of s.world.upkeep worker) gave_install.state
-      ∙ installed_free worker (state_of v).world.upkeep (worker_there (state_of v).world old worker (stands_held seen may_leave failures policy p old opened places es spare v held is) may.1)
+      ∙ installed_free worker (state_of v).world.upkeep (worker_there (state_of v).world old worker (stands_held seen may_leave moment left_since failures policy p old opened places es spare v held is) may.1)
 
   shown : (b : Bool) → b ≡ shows_install e → shows_install (given_by false v (install_of worker)).entry ≡ b
   shown b is = sym (is ∙ ap shows_install gives.entry)
 
-  pub installs_alone : (b : Bool) → b ≡ shows_install e → b ≡ false → Installs seen may_leave failures worker v middle
-  installs_alone b shows is = record { mid = middle; gave = gave_install; cleans = subst (λ (t : Bool). CleansIf seen may_leave failures t middle middle) (sym (shown b shows ∙ is)) refl }
+  pub installs_alone : (b : Bool) → b ≡ shows_install e → b ≡ false → Installs seen may_leave moment left_since failures worker v middle
+  installs_alone b shows is = record { mid = middle; gave = gave_install; cleans = subst (λ (t : Bool). CleansIf seen may_leave moment left_since failures t middle middle) (sym (shown b shows ∙ is)) refl }
 
   -- ---- the clean-up
   module _ (room left : ℕ) (enough : 10 ≤ room) (taken : left + 1 ≡ room) (last : EngineView D) (most : List Entry) (x : Entry) (joined : most ≡ more ++ x ∷ []) (kept : last.store.settings ≡ new.store.settings) (quiet : last.journal ≡ new.journal)
@@ -48,18 +48,18 @@ module _ {D : Type 0} (seen : D → Option (List ℕ)) (may_leave : D → List �
     abbrev pub end : CoreView D
     end = view_of policy p last opened places most
 
-    pub gave_clean : Gave seen may_leave failures clean_up middle end
+    pub gave_clean : Gave seen may_leave moment left_since failures clean_up middle end
     gave_clean =
         let mid_held = roomy_middle room left enough taken in
         let answered : setup_answered p places ≡ true = subst (λ (c : CoreView D). setup_answered c.program c.places ≡ true) (sym is) setup in
-        gave seen may_leave failures policy p new opened places more left middle mid_held refl clean_up more most last x (setup_held seen may_leave failures policy p new opened places more left middle mid_held refl answered) refl refl refl joined kept
+        gave seen may_leave moment left_since failures policy p new opened places more left middle mid_held refl clean_up more most last x (setup_held seen may_leave moment left_since failures policy p new opened places more left middle mid_held refl answered) refl refl refl joined kept
         quiet shows
 
-    pub roomy_end : (rest : ℕ) → rest + 1 ≡ left → IsRoomy seen may_leave failures end rest
-    roomy_end rest gone = roomy seen may_leave failures end left rest gave_clean.run (omega (arith, enough, taken)) gone
+    pub roomy_end : (rest : ℕ) → rest + 1 ≡ left → IsRoomy seen may_leave moment left_since failures end rest
+    roomy_end rest gone = roomy seen may_leave moment left_since failures end left rest gave_clean.run (omega (arith, enough, taken)) gone
 
     pub free_end : claim_of (state_of end).world.upkeep worker ≡ None
     free_end = ap (λ (s : State). claim_of s.world.upkeep worker) gave_clean.state ∙ free_middle
 
-    pub installs_and_cleans : (b : Bool) → b ≡ shows_install e → b ≡ true → Installs seen may_leave failures worker v end
-    installs_and_cleans b shown_by is = record { mid = middle; gave = gave_install; cleans = subst (λ (t : Bool). CleansIf seen may_leave failures t middle end) (sym (shown b shown_by ∙ is)) gave_clean }
+    pub installs_and_cleans : (b : Bool) → b ≡ shows_install e → b ≡ true → Installs seen may_leave moment left_since failures worker v end
+    installs_and_cleans b shown_by is = record { mid = middle; gave = gave_install; cleans = subst (λ (t : Bool). CleansIf seen may_leave moment left_since failures t middle end) (sym (shown b shown_by ∙ is)) gave_clean }

@@ -17,7 +17,7 @@ use Rattle.lv_engine.specs.Answering.{LogsUnless, MarkRefuses}
 use Rattle.lv_engine.specs.Kept.{EngineView}
 use Rattle.lv_engine.specs.Records.{Logs}
 use Rattle.lv_core.specs.Answering.{GivesMark, IsUndone}
-use Rattle.lv_core.proofs.RecordsGo.{Follows}
+use Rattle.lv_crash.proofs.Follows.{Follows}
 
 some_fault : (a b : Fault) → ◌≡◌ {A = Option Fault} (Some a) (Some b) → a ≡ b
 some_fault a b e = cc
@@ -39,18 +39,18 @@ mark_follows rules fails view u = by (slice_index u.marks view == point u view)
     by true = inl refl
     by false = writes (outcome_of rules.settings fails u (mark_record view u))
 
-module _ {D : Type 0} (seen : D → Option (List ℕ)) (may_leave : D → List ℕ → Type 0) (failures : D → ℕ) (rules : Rules) (view : ℕ) (w : World) (old new : EngineView D) where
+module _ {D : Type 0} (seen : D → Option (List ℕ)) (may_leave : D → List ℕ → Type 0) (moment : D → ℕ) (left_since : D → ℕ → List ℕ → Type 0) (failures : D → ℕ) (rules : Rules) (view : ℕ) (w : World) (old new : EngineView D) where
   abbrev m : Bool → Marking
   m fails = marking (outcome_of rules.settings fails w.upkeep) view w.upkeep
 
-  pub mark_undone : (fails : Bool) (fault : Option Fault) → fault ≡ None → MarkRefuses fault w old new (m fails) → LogsUnless seen may_leave fault (m fails).attempted (mark_written (m fails)) old.journal new.journal
-      → failures old.journal.disk ≤ failures new.journal.disk → IsUndone seen may_leave failures old new
+  pub mark_undone : (fails : Bool) (fault : Option Fault) → fault ≡ None → MarkRefuses fault w old new (m fails) → LogsUnless seen may_leave moment left_since fault (m fails).attempted (mark_written (m fails)) old.journal new.journal
+      → failures old.journal.disk ≤ failures new.journal.disk → IsUndone seen may_leave moment left_since failures old new
   mark_undone fails (Some f) none h logs later = absurd cc
   mark_undone fails None none h logs later = record { same = h; journal = record { logs = logs; later = later } }
 
-  pub mark_refused : (fails : Bool) (fault : Option Fault) (f : Fault) → fault ≡ Some f → MarkRefuses fault w old new (m fails) → LogsUnless seen may_leave fault (m fails).attempted (mark_written (m fails)) old.journal new.journal
+  pub mark_refused : (fails : Bool) (fault : Option Fault) (f : Fault) → fault ≡ Some f → MarkRefuses fault w old new (m fails) → LogsUnless seen may_leave moment left_since fault (m fails).attempted (mark_written (m fails)) old.journal new.journal
       → failures old.journal.disk ≤ failures new.journal.disk → (fails ≡ true → Rose (failures old.journal.disk) (failures new.journal.disk))
-      → GivesMark seen may_leave failures rules view w old new (entry.Marked view (outcome.Refused f))
+      → GivesMark seen may_leave moment left_since failures rules view w old new (entry.Marked view (outcome.Refused f))
   mark_refused fails None f is h logs later cause = absurd cc
   mark_refused fails (Some g) f is h logs later cause =
       let quiet : answered_record rules fails (m fails).answer view w.upkeep ≡ None = ap (λ (r : Result (Option ℕ) Fault). answered_record rules fails r view w.upkeep) h.0 in
@@ -59,6 +59,6 @@ module _ {D : Type 0} (seen : D → Option (List ℕ)) (may_leave : D → List �
         fails = fails;
         entry = ap (λ (x : Fault). entry.Marked view (outcome.Refused x)) (sym (some_fault g f is)) ∙ sym (ap (λ (r : Result (Option ℕ) Fault). entry.Marked view (mark_outcome rules fails r)) h.0);
         stands = h.1;
-        journal = record { logs = subst (λ (o : Option Rec). Logs seen may_leave (m fails).attempted o old.journal new.journal) same logs; later = later };
+        journal = record { logs = subst (λ (o : Option Rec). Logs seen may_leave moment left_since (m fails).attempted o old.journal new.journal) same logs; later = later };
         cause = cause;
       }

@@ -6,6 +6,7 @@ use Rattle.lv_schema.specs.declared.bound.Bound.{Bound}
 use Rattle.lv_schema.specs.declared.fault.Fault.{Fault}
 use Rattle.lv_schema.specs.declared.forced.Forced.{Forced}
 use Rattle.lv_schema.specs.declared.open.Open.{Open}
+use Rattle.lv_schema.specs.declared.rec.Rec.{Rec}
 use Rattle.lv_schema.specs.Tasks.{pending_tasks}
 use Rattle.lv_schema.specs.UpkeepCases.{outcome_of}
 use Rattle.lv_schema.specs.World.{Settings, World}
@@ -24,7 +25,7 @@ use Rattle.lv_core.specs.declared.answered.Answered.{Answered}
 use Rattle.lv_core.specs.Answering.{GivesTurn, IsNext}
 use Rattle.lv_core.specs.Run.{CoreView, Gave, IsRun, next_bound, state_of, view_of, world_of}
 use Rattle.lv_core.proofs.Happened.{Comes, given_by, happened, its_rules}
-use Rattle.lv_core.proofs.RecordsGo.{goes, turn_follows}
+use Rattle.lv_core.proofs.RecordsGo.{Goes, goes, turn_asks, turn_follows}
 use Rattle.lv_core.proofs.Standing.{changes_are, free_here}
 
 -- nobody is live in the world of an engine over which a run begins
@@ -34,11 +35,11 @@ nobody_live (suc n) zero = refl
 nobody_live (suc n) (suc k) = nobody_live n k
 
 -- ---- what a turn needs
-module _ {D : Type 0} (seen : D → Option (List ℕ)) (may_leave : D → List ℕ → Type 0) (failures : D → ℕ) where
+module _ {D : Type 0} (seen : D → Option (List ℕ)) (may_leave : D → List ℕ → Type 0) (moment : D → ℕ) (left_since : D → ℕ → List ℕ → Type 0) (failures : D → ℕ) where
   abbrev Gives : World → EngineView D → EngineView D → List Forced → (Bool → Turn) → Answered → Type 0
-  Gives w old new steps turn_if a = GivesTurn seen may_leave failures w old new steps turn_if a
+  Gives w old new steps turn_if a = GivesTurn seen may_leave moment left_since failures w old new steps turn_if a
 
-  module _ (c : CoreView D) (session : ℕ) (held : IsRun seen may_leave failures c) (may : may_turn c.program c.places session ≡ true) where
+  module _ (c : CoreView D) (session : ℕ) (held : IsRun seen may_leave moment left_since failures c) (may : may_turn c.program c.places session ≡ true) where
     abbrev now : State
     now = state_of c
 
@@ -97,12 +98,14 @@ module _ {D : Type 0} (seen : D → Option (List ℕ)) (may_leave : D → List �
     given_turn new a places = Gives now.world c.engine new (steps_at places) (turn_at places) a
 
     module _ (new : EngineView D) (a : Answered) (kept : new.store.settings ≡ c.engine.store.settings) (h : given_turn new a now.places) where
-      pub turn_comes : Comes seen may_leave failures c (turn_of session) h.fails new
+      pub turn_comes : Comes seen may_leave moment left_since failures c (turn_of session) h.fails new
       turn_comes = record {
         stands = h.stands;
         settings = kept;
-        goes = goes seen may_leave (turn_at now.places h.fails).attempted (turn_at now.places h.fails).written c.engine.journal new.journal
-            (turn_follows (outcome_of c.settings h.fails now.world.upkeep) (pending_tasks now.world) session (line_at now.places) now.world.visible) h.journal.logs;
+        goes = subst (λ (asked : Option Rec). Goes seen may_leave moment left_since asked (turn_at now.places h.fails).written c.engine.journal new.journal)
+            (turn_asks c.settings now.world.upkeep h.fails (pending_tasks now.world) session (line_at now.places) now.world.visible)
+            (goes seen may_leave moment left_since (turn_at now.places h.fails).attempted (turn_at now.places h.fails).written c.engine.journal new.journal
+            (turn_follows (outcome_of c.settings h.fails now.world.upkeep) (pending_tasks now.world) session (line_at now.places) now.world.visible) h.journal.logs);
         later = h.journal.later;
         cause = h.cause;
       }
@@ -118,9 +121,9 @@ pub next_line_is : (p : Program) (places slice : Places) (session place : ℕ) (
     → line ≡ next_line p places session
 next_line_is p places slice session place line same at is = is ∙ ap (λ k. slice_index_or (lines_of p session) k []) (at ∙ ap (λ ps. slice_index ps session) same)
 
-module _ {D : Type 0} (seen : D → Option (List ℕ)) (may_leave : D → List ℕ → Type 0) (failures : D → ℕ) where
+module _ {D : Type 0} (seen : D → Option (List ℕ)) (may_leave : D → List ℕ → Type 0) (moment : D → ℕ) (left_since : D → ℕ → List ℕ → Type 0) (failures : D → ℕ) where
   abbrev TurnOf : Settings → World → EngineView D → EngineView D → ℕ → List ℕ → Answered → Type 0
-  TurnOf settings w old new session line a = GivesTurn seen may_leave failures w old new (steps_of settings session (bound_line reads session line w.visible) w)
+  TurnOf settings w old new session line a = GivesTurn seen may_leave moment left_since failures w old new (steps_of settings session (bound_line reads session line w.visible) w)
       (λ fails. read_turn (outcome_of settings fails w.upkeep) (pending_tasks w) session (bound_line reads session line w.visible) w.visible) a
 
   abbrev pub AnswersLine : EngineView D → EngineView D → ℕ → List ℕ → Answered → Type 0
@@ -128,9 +131,9 @@ module _ {D : Type 0} (seen : D → Option (List ℕ)) (may_leave : D → List �
 
   -- ---- one turn more
   pub turn_taken : (policy : ℕ) (p : Program) (old new opened : EngineView D) (places next : Places) (es later more : List Entry) (c : CoreView D) (session place : ℕ) (line : List ℕ) (a : Answered)
-      → view_of policy p old opened places es ≡ c → IsRun seen may_leave failures c → may_turn c.program c.places session ≡ true → place ≡ slice_index places session → line ≡ next_line p places session
+      → view_of policy p old opened places es ≡ c → IsRun seen may_leave moment left_since failures c → may_turn c.program c.places session ≡ true → place ≡ slice_index places session → line ≡ next_line p places session
       → later ≡ es → next ≡ slice_set places session (place + 1) → more ≡ later ++ Session session (place + 1) a.forced a.reply ∷ [] → new.store.settings ≡ old.store.settings
-      → AnswersLine old new session line a → Gave seen may_leave failures (turn_of session) c (view_of policy p new opened next more)
+      → AnswersLine old new session line a → Gave seen may_leave moment left_since failures (turn_of session) c (view_of policy p new opened next more)
   turn_taken policy p old new opened places next es later more c session place line a is held may at line_is same counted added kept answers =
       let s : State = state_of c in
       let w : World = s.world in
@@ -143,25 +146,25 @@ module _ {D : Type 0} (seen : D → Option (List ℕ)) (may_leave : D → List �
       let from_now : TurnOf c.settings w c.engine new session line a = subst (λ (e : EngineView D). TurnOf c.settings w e new session line a) engine_is told in
       let turn : TurnOf c.settings w c.engine new session (next_line c.program s.places session) a = subst (λ (l : List ℕ). TurnOf c.settings w c.engine new session l a) next_is from_now in
       let kept_is : new.store.settings ≡ c.engine.store.settings = kept ∙ ap (λ (e : EngineView D). e.store.settings) engine_is in
-      happened seen may_leave failures policy p old new opened places next es later more c (turn_of session) turn.fails (Session session (place + 1) a.forced a.reply) is held (may_now seen may_leave failures c session held may) same added
-      (turn_counts seen may_leave failures c session held may turn.fails next place at_is counted_is)
-      (turn_entry seen may_leave failures c session held may new a kept_is turn place (at_is ∙ ap (λ ps. slice_index ps session) held.places_are))
-      (turn_comes seen may_leave failures c session held may new a kept_is turn)
+      happened seen may_leave moment left_since failures policy p old new opened places next es later more c (turn_of session) turn.fails (Session session (place + 1) a.forced a.reply) is held (may_now seen may_leave moment left_since failures c session held may) same added
+      (turn_counts seen may_leave moment left_since failures c session held may turn.fails next place at_is counted_is)
+      (turn_entry seen may_leave moment left_since failures c session held may new a kept_is turn place (at_is ∙ ap (λ ps. slice_index ps session) held.places_are))
+      (turn_comes seen may_leave moment left_since failures c session held may new a kept_is turn)
 
   -- ---- before a turn
-  module _ (policy : ℕ) (p : Program) (old opened : EngineView D) (places : Places) (es : List Entry) (c : CoreView D) (held : IsRun seen may_leave failures (view_of policy p old opened places es)) (is : view_of policy p old opened places es ≡ c)
+  module _ (policy : ℕ) (p : Program) (old opened : EngineView D) (places : Places) (es : List Entry) (c : CoreView D) (held : IsRun seen may_leave moment left_since failures (view_of policy p old opened places es)) (is : view_of policy p old opened places es ≡ c)
       (session : ℕ) (may : may_turn c.program c.places session ≡ true) where
-    held_here : IsRun seen may_leave failures c
-    held_here = subst (λ (v : CoreView D). IsRun seen may_leave failures v) is held
+    held_here : IsRun seen may_leave moment left_since failures c
+    held_here = subst (λ (v : CoreView D). IsRun seen may_leave moment left_since failures v) is held
 
     pub place_held : session < length places
-    place_held = subst (λ (v : CoreView D). session < length v.places) (sym is) (place_there seen may_leave failures c session held_here may)
+    place_held = subst (λ (v : CoreView D). session < length v.places) (sym is) (place_there seen may_leave moment left_since failures c session held_here may)
 
     pub small_held : slice_index places session < 100000
-    small_held = subst (λ (v : CoreView D). slice_index v.places session < 100000) (sym is) (place_small seen may_leave failures c session held_here may)
+    small_held = subst (λ (v : CoreView D). slice_index v.places session < 100000) (sym is) (place_small seen may_leave moment left_since failures c session held_here may)
 
     pub next_held : IsNext old session
-    next_held = subst (λ (v : CoreView D). IsNext v.engine session) (sym is) (next_ready seen may_leave failures c session held_here may)
+    next_held = subst (λ (v : CoreView D). IsNext v.engine session) (sym is) (next_ready seen may_leave moment left_since failures c session held_here may)
 
   -- the next statement, by what was read of it
   pub bound_here : (policy : ℕ) (p : Program) (old opened : EngineView D) (places : Places) (es : List Entry) (c : CoreView D) → view_of policy p old opened places es ≡ c → (session : ℕ) (line : List ℕ) → line ≡ next_line p places session

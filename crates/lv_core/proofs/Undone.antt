@@ -11,6 +11,7 @@ use Rattle.lv_engine.specs.Kept.{EngineView, IsSame, Stands}
 use Rattle.lv_core.specs.Answering.{IsUndone}
 use Rattle.lv_core.specs.Run.{CoreView, IsRoomy, IsRun, failures_shown, settings_of, state_of, view_of, written_of}
 use Rattle.lv_core.specs.Run as run
+use Rattle.lv_core.proofs.Logged.{logged_undone}
 
 stands_yet : {D : Type 0} (w : World) (old new : EngineView D) → IsSame old new → Stands w old → Stands w new
 stands_yet w old new same h = record {
@@ -25,12 +26,12 @@ still_caused shown old new le later = omega (arith, le, later)
 abbrev pub over : {D : Type 0} → CoreView D → EngineView D → CoreView D
 over c new = record c { engine = new }
 
-module _ {D : Type 0} (seen : D → Option (List ℕ)) (may_leave : D → List ℕ → Type 0) (failures : D → ℕ) where
-  module _ (c : CoreView D) (new : EngineView D) (undone : IsUndone seen may_leave failures c.engine new) where
+module _ {D : Type 0} (seen : D → Option (List ℕ)) (may_leave : D → List ℕ → Type 0) (moment : D → ℕ) (left_since : D → ℕ → List ℕ → Type 0) (failures : D → ℕ) where
+  module _ (c : CoreView D) (new : EngineView D) (undone : IsUndone seen may_leave moment left_since failures c.engine new) where
     pub same_run : run.IsSame c (over c new)
     same_run = record { settings = refl; program = refl; opened = refl; places = refl; entries = refl; store = undone.same.store_is }
 
-    held_yet : IsRun seen may_leave failures c → IsRun seen may_leave failures (over c new)
+    held_yet : IsRun seen may_leave moment left_since failures c → IsRun seen may_leave moment left_since failures (over c new)
     held_yet held = record {
       within = held.within;
       settings_are = held.settings_are ∙ ap (λ (s : StoreKept). settings_of s.settings c.settings.policy) (sym undone.same.store_is);
@@ -42,29 +43,29 @@ module _ {D : Type 0} (seen : D → Option (List ℕ)) (may_leave : D → List �
       places_are = held.places_are;
       claims = held.claims;
       stands = stands_yet (state_of c).world c.engine new undone.same held.stands;
-      records = λ recs has. let before = held.records recs has in (before.0, undone.journal.logs (recs ++ written_of c) before.0 before.1);
+      records = λ recs has. logged_undone seen may_leave moment left_since failures c new recs (held.records recs has) undone.journal.logs;
       caused = still_caused (failures c.opened.journal.disk + failures_shown c.entries) (failures c.engine.journal.disk) (failures new.journal.disk) held.caused undone.journal.later;
     }
 
-    pub roomy_yet : (spare more : ℕ) → IsRoomy seen may_leave failures c spare → spare ≤ more → IsRoomy seen may_leave failures (over c new) more
+    pub roomy_yet : (spare more : ℕ) → IsRoomy seen may_leave moment left_since failures c spare → spare ≤ more → IsRoomy seen may_leave moment left_since failures (over c new) more
     roomy_yet spare more held le = record {
       run = held_yet held.run;
       room = omega (arith, held.room, le, ap (λ (s : StoreKept). run.claim_count s.upkeep.claims) undone.same.store_is);
     }
 
   -- what a run keeps then
-  module _ (policy : ℕ) (p : Program) (old new opened : EngineView D) (places : Places) (es later : List Entry) (c : CoreView D) (is : view_of policy p old opened places es ≡ c) (same : later ≡ es) (undone : IsUndone seen may_leave failures old new) where
+  module _ (policy : ℕ) (p : Program) (old new opened : EngineView D) (places : Places) (es later : List Entry) (c : CoreView D) (is : view_of policy p old opened places es ≡ c) (same : later ≡ es) (undone : IsUndone seen may_leave moment left_since failures old new) where
     abbrev seen_with : StoreKept → List Entry → CoreView D
     seen_with s later = record { settings = settings_of s.settings policy; program = p; places = places; entries = later; engine = new; opened = opened }
 
     over_is : view_of policy p new opened places later ≡ over c new
     over_is = (λ i. seen_with (undone.same.store_is i) (same i)) ∙ ap (λ (v : CoreView D). over v new) is
 
-    undone_here : IsUndone seen may_leave failures c.engine new
-    undone_here = subst (λ (v : CoreView D). IsUndone seen may_leave failures v.engine new) is undone
+    undone_here : IsUndone seen may_leave moment left_since failures c.engine new
+    undone_here = subst (λ (v : CoreView D). IsUndone seen may_leave moment left_since failures v.engine new) is undone
 
     pub same_undone : run.IsSame c (view_of policy p new opened places later)
     same_undone = subst (λ (v : CoreView D). run.IsSame c v) (sym over_is) (same_run c new undone_here)
 
-    pub roomy_undone : (spare more : ℕ) → IsRoomy seen may_leave failures c spare → spare ≤ more → IsRoomy seen may_leave failures (view_of policy p new opened places later) more
-    roomy_undone spare more held le = subst (λ (v : CoreView D). IsRoomy seen may_leave failures v more) (sym over_is) (roomy_yet c new undone_here spare more held le)
+    pub roomy_undone : (spare more : ℕ) → IsRoomy seen may_leave moment left_since failures c spare → spare ≤ more → IsRoomy seen may_leave moment left_since failures (view_of policy p new opened places later) more
+    roomy_undone spare more held le = subst (λ (v : CoreView D). IsRoomy seen may_leave moment left_since failures v more) (sym over_is) (roomy_yet c new undone_here spare more held le)

@@ -61,10 +61,10 @@ module _ (p : Program) (places : Places) (views : List Pending) where
   tells_ended (Err e) tells = tt
 
 -- ---- a claim that ends
-module _ {D : Type 0} (seen : D → Option (List ℕ)) (may_leave : D → List ℕ → Type 0) (failures : D → ℕ) where
+module _ {D : Type 0} (seen : D → Option (List ℕ)) (may_leave : D → List ℕ → Type 0) (moment : D → ℕ) (left_since : D → ℕ → List ℕ → Type 0) (failures : D → ℕ) where
   -- a worker that has none
-  pub frees_none : (c : CoreView D) (worker : ℕ) → claim_of (state_of c).world.upkeep worker ≡ None → Frees seen may_leave failures worker c c
-  frees_none c worker none = subst (λ (o : Option Forced). FreesBy seen may_leave failures o worker c c) (sym none) refl
+  pub frees_none : (c : CoreView D) (worker : ℕ) → claim_of (state_of c).world.upkeep worker ≡ None → Frees seen may_leave moment left_since failures worker c c
+  frees_none c worker none = subst (λ (o : Option Forced). FreesBy seen may_leave moment left_since failures o worker c c) (sym none) refl
 
   pub same_views : (c : CoreView D) (worker : ℕ) → claim_of (state_of c).world.upkeep worker ≡ None → unclaimed (state_of c).world ≡ views_for worker (state_of c).world
   same_views c worker none =
@@ -73,11 +73,11 @@ module _ {D : Type 0} (seen : D → Option (List ℕ)) (may_leave : D → List �
       ap (λ (claims : List (Option Forced)). unclaimed (without claims)) (sym (set_none w.upkeep.claims worker none))
 
   -- a worker that has one
-  module _ (old new : CoreView D) (worker : ℕ) (run : IsRun seen may_leave failures old) (is : IsWorker worker) (gave : Gave seen may_leave failures (release_of worker) old new) where
-    pub frees_some : is_some (claim_of (state_of old).world.upkeep worker) ≡ true → Frees seen may_leave failures worker old new
+  module _ (old new : CoreView D) (worker : ℕ) (run : IsRun seen may_leave moment left_since failures old) (is : IsWorker worker) (gave : Gave seen may_leave moment left_since failures (release_of worker) old new) where
+    pub frees_some : is_some (claim_of (state_of old).world.upkeep worker) ≡ true → Frees seen may_leave moment left_since failures worker old new
     frees_some some = by (claim_of (state_of old).world.upkeep worker) some
       where
-        by : (o : Option Forced) → is_some o ≡ true → FreesBy seen may_leave failures o worker old new
+        by : (o : Option Forced) → is_some o ≡ true → FreesBy seen may_leave moment left_since failures o worker old new
         by None e = absurd cc
         by (Some f) e = gave
 
@@ -93,7 +93,7 @@ module _ {D : Type 0} (seen : D → Option (List ℕ)) (may_leave : D → List �
     released_places = gave.run.places_are ∙ ap (λ (s : State). s.places) gave.state ∙ sym run.places_are
 
   -- ---- a take after a claim has ended
-  pub free_after : {E : Type 0} (old new : CoreView D) (worker : ℕ) (taken : Result (Taken Assignment) E) → Fetches seen may_leave failures worker old new taken → hands_out taken ≡ false → claim_of (state_of old).world.upkeep worker ≡ None
+  pub free_after : {E : Type 0} (old new : CoreView D) (worker : ℕ) (taken : Result (Taken Assignment) E) → Fetches seen may_leave moment left_since failures worker old new taken → hands_out taken ≡ false → claim_of (state_of old).world.upkeep worker ≡ None
       → claim_of (state_of new).world.upkeep worker ≡ None
   free_after old new worker (Ok (Work a)) fetches none free = absurd cc
   free_after old new worker (Ok Idle) fetches none free = ap (λ (c : CoreView D). claim_of (state_of c).world.upkeep worker) fetches ∙ free
@@ -101,7 +101,7 @@ module _ {D : Type 0} (seen : D → Option (List ℕ)) (may_leave : D → List �
   free_after old new worker (Err e) fetches none free = ap (λ (c : CoreView D). claim_of (state_of c).world.upkeep worker) fetches ∙ free
 
   -- before the setup is answered nobody has a claim
-  pub unclaimed_before : (c : CoreView D) (worker : ℕ) → IsRun seen may_leave failures c → setup_answered c.program c.places ≡ false → claim_of (state_of c).world.upkeep worker ≡ None
+  pub unclaimed_before : (c : CoreView D) (worker : ℕ) → IsRun seen may_leave moment left_since failures c → setup_answered c.program c.places ≡ false → claim_of (state_of c).world.upkeep worker ≡ None
   unclaimed_before c worker run before = by (claim_of (state_of c).world.upkeep worker) refl
     where
       by : (o : Option Forced) → claim_of (state_of c).world.upkeep worker ≡ o → claim_of (state_of c).world.upkeep worker ≡ None

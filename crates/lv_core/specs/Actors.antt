@@ -94,18 +94,18 @@ shows_install (entry.Installed worker view lo hi) = true
 shows_install other = false
 
 -- ---- what the calls add
-module _ {D : Type 0} (seen : D → Option (List ℕ)) (may_leave : D → List ℕ → Type 0) (failures : D → ℕ) where
+module _ {D : Type 0} (seen : D → Option (List ℕ)) (may_leave : D → List ℕ → Type 0) (moment : D → ℕ) (left_since : D → ℕ → List ℕ → Type 0) (failures : D → ℕ) where
   -- a worker's claim ends, if it has one
   abbrev pub FreesBy : Option Step → ℕ → CoreView D → CoreView D → Type 0
   FreesBy None worker old new = new ≡ old
-  FreesBy (Some claim) worker old new = Gave seen may_leave failures (release_of worker) old new
+  FreesBy (Some claim) worker old new = Gave seen may_leave moment left_since failures (release_of worker) old new
 
   abbrev pub Frees : ℕ → CoreView D → CoreView D → Type 0
   Frees worker old new = FreesBy (claim_of (state_of old).world.upkeep worker) worker old new
 
   -- a worker has fetched a step, which is computed from this
   pub record HasFetched (worker : ℕ) (old new : CoreView D) (input : Input) : Type 0 where
-    pub gave : Gave seen may_leave failures (fetch_of worker) old new
+    pub gave : Gave seen may_leave moment left_since failures (fetch_of worker) old new
     pub step : Step
     pub fetches : (fetching old.settings worker (state_of old).world).0 ≡ fetched step
     pub input_is : input ≡ input_between (state_of old).world.visible step
@@ -123,7 +123,7 @@ module _ {D : Type 0} (seen : D → Option (List ℕ)) (may_leave : D → List �
 
   -- a session's give answers its next statement, if that may be answered now
   abbrev pub TurnsBy : {E : Type 0} → Bool → ℕ → CoreView D → CoreView D → Result (Unit {0}) E → Type 0
-  TurnsBy true session old new (Ok done) = Gave seen may_leave failures (turn_of session) old new
+  TurnsBy true session old new (Ok done) = Gave seen may_leave moment left_since failures (turn_of session) old new
   TurnsBy true session old new (Err e) = IsSame old new
   TurnsBy false session old new (Ok done) = new ≡ old
   TurnsBy false session old new (Err e) = ⊥
@@ -133,12 +133,12 @@ module _ {D : Type 0} (seen : D → Option (List ℕ)) (may_leave : D → List �
 
   -- an entry that shows that a step was installed is followed by a clean-up
   abbrev pub CleansIf : Bool → CoreView D → CoreView D → Type 0
-  CleansIf true old new = Gave seen may_leave failures clean_up old new
+  CleansIf true old new = Gave seen may_leave moment left_since failures clean_up old new
   CleansIf false old new = new ≡ old
 
   pub record Installs (worker : ℕ) (old new : CoreView D) : Type 0 where
     pub mid : CoreView D
-    pub gave : Gave seen may_leave failures (install_of worker) old mid
+    pub gave : Gave seen may_leave moment left_since failures (install_of worker) old mid
     pub cleans : CleansIf (shows_install (give (rules_of old.settings old.program) false (install_of worker) (state_of old)).entry) mid new
 
   -- a worker's give installs, once the setup is answered

@@ -45,10 +45,10 @@ abbrev pub alone_after : {A : Type 0} → Result A Fault → ℕ → Case A → 
 alone_after (Ok a) session c w = world_after c w
 alone_after (Err fault) session c w = world_after (rolled_back session w.visible) w
 
-module _ {D : Type 0} (seen : D → Option (List ℕ)) (may_leave : D → List ℕ → Type 0) (failures : D → ℕ) where
+module _ {D : Type 0} (seen : D → Option (List ℕ)) (may_leave : D → List ℕ → Type 0) (moment : D → ℕ) (left_since : D → ℕ → List ℕ → Type 0) (failures : D → ℕ) where
   -- what becomes of a journal, by the record that the disk was asked to keep and the one that was written
   pub record Journals (attempted written : Option Rec) (old new : Writer D) : Type 0 where
-    pub logs : Logs seen may_leave attempted written old new
+    pub logs : Logs seen may_leave moment left_since attempted written old new
     pub later : failures old.disk ≤ failures new.disk
 
   -- The steps and the reply of a turn, the world after it, and the journal, for a disk that failed or did not. It failed only

@@ -48,7 +48,7 @@ impl<D: Disk> Core<D> {
     ) -> Result<Taken<Assignment>, NoMemory>
         requires worker { IsWorker worker }
         requires free { claim_of (state_of self.old.run).world.upkeep worker ≡ None }
-        ensures done { Fetches D.seen D.may_leave D.failures worker self.old.run self.new.run result }
+        ensures done { Fetches D.seen D.may_leave D.moment D.left_since D.failures worker self.old.run self.new.run result }
         ensures tells { Tells self.old.run.program self.old.run.places (unclaimed (state_of self.old.run).world) result }
         ensures slots { self.new.slots ≡ self.old.slots }
     {
@@ -74,7 +74,7 @@ impl<D: Disk> Core<D> {
         steps: &mut Steps<L>,
     ) -> Result<Taken<Assignment>, NoMemory>
         requires { IsWorker worker }
-        ensures done { Takes D.seen D.may_leave D.failures worker self.old.run self.new.run result }
+        ensures done { Takes D.seen D.may_leave D.moment D.left_since D.failures worker self.old.run self.new.run result }
         ensures tells { Tells self.old.run.program self.old.run.places (views_for worker (state_of self.old.run).world) result }
         ensures free { hands_out result ≡ false → claim_of (state_of self.new.run).world.upkeep worker ≡ None }
         ensures slots { self.new.slots ≡ slots_without worker self.old.slots }
@@ -91,7 +91,7 @@ impl<D: Disk> Core<D> {
         offers: Items<JobResult>,
         steps: &mut Steps<L>,
     ) -> Result<(), NoMemory>
-        ensures done { Turns D.seen D.may_leave D.failures session self.old.run self.new.run result }
+        ensures done { Turns D.seen D.may_leave D.moment D.left_since D.failures session self.old.run self.new.run result }
         ensures slots { self.new.slots ≡ self.old.slots }
     {
         if !self.left(session) {
@@ -108,7 +108,7 @@ impl<D: Disk> Core<D> {
         steps: &mut Steps<L>,
     ) -> Result<(), NoMemory>
         requires { IsWorker worker }
-        ensures done { Gives D.seen D.may_leave D.failures worker self.old.run self.new.run result }
+        ensures done { Gives D.seen D.may_leave D.moment D.left_since D.failures worker self.old.run self.new.run result }
         ensures free { OnOk result (claim_of (state_of self.new.run).world.upkeep worker ≡ None) }
         ensures slots { OnOk result (self.new.slots ≡ slots_without worker self.old.slots) }
         ensures kept { OnErr result (self.new.slots ≡ self.old.slots) }
@@ -143,7 +143,7 @@ impl<D: Disk> Core<D> {
         requires last { actor ≤ 24 }
         ensures session { actor ≤ 16 → self.new.run ≡ self.old.run }
         ensures forced { actor ≤ 16 → HandsForced actor self.old.run result }
-        ensures worker { 16 < actor → Takes D.seen D.may_leave D.failures (actor - 16) self.old.run self.new.run result }
+        ensures worker { 16 < actor → Takes D.seen D.may_leave D.moment D.left_since D.failures (actor - 16) self.old.run self.new.run result }
         ensures idle { IfOk result (λ taken. (taken ≡ Idle) ↔ Waits self.old.run actor) }
         ensures ended { IfOk result (λ taken. (taken ≡ Ended) ↔ Ends self.old.run actor) }
         ensures free { hands_out result ≡ false → HoldsNothing self.new.run actor }
@@ -171,8 +171,8 @@ impl<D: Disk> Core<D> {
     ) -> Result<(), NoMemory>
         requires first { 1 ≤ actor }
         requires last { actor ≤ 24 }
-        ensures session { actor ≤ 16 → Turns D.seen D.may_leave D.failures actor self.old.run self.new.run result }
-        ensures worker { 16 < actor → Gives D.seen D.may_leave D.failures (actor - 16) self.old.run self.new.run result }
+        ensures session { actor ≤ 16 → Turns D.seen D.may_leave D.moment D.left_since D.failures actor self.old.run self.new.run result }
+        ensures worker { 16 < actor → Gives D.seen D.may_leave D.moment D.left_since D.failures (actor - 16) self.old.run self.new.run result }
         ensures free { OnOk result (HoldsNothing self.new.run actor) }
     {
         if actor <= SESSIONS {
@@ -188,7 +188,7 @@ impl<D: Disk> Core<D> {
         requires first { 1 ≤ actor }
         requires last { actor ≤ 24 }
         ensures session { actor ≤ 16 → self.new.run ≡ self.old.run }
-        ensures worker { 16 < actor → Frees D.seen D.may_leave D.failures (actor - 16) self.old.run self.new.run }
+        ensures worker { 16 < actor → Frees D.seen D.may_leave D.moment D.left_since D.failures (actor - 16) self.old.run self.new.run }
         ensures free { HoldsNothing self.new.run actor }
     {
         if actor <= SESSIONS {

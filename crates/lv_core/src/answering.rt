@@ -39,7 +39,7 @@ fn create_table<D: Disk>(
 ) -> Result<Answered, NoMemory>
     requires bound { IsBoundTable engine.old.store.tables engine.old.store.views def }
     ensures case { (w : World) (settings : schema.Settings) → settings.limit ≡ engine.old.store.settings.log_limit → Stands w engine.old
-        → Answers D.seen D.may_leave D.failures w engine.old engine.new result [] (λ fails. turn_by (λ _. reply.Made) (table_made (outcome_of settings fails w.upkeep) def w.visible)) }
+        → Answers D.seen D.may_leave D.moment D.left_since D.failures w engine.old engine.new result [] (λ fails. turn_by (λ _. reply.Made) (table_made (outcome_of settings fails w.upkeep) def w.visible)) }
     ensures settings { engine.new.store.settings ≡ engine.old.store.settings }
 {
     match engine.create_table(alloc, def) {
@@ -58,7 +58,7 @@ fn create_view<D: Disk, L: Ledger>(
     requires bound { IsBoundView engine.old.store.tables engine.old.store.views def }
     requires nobody { live_kept engine.old.store.sessions ≡ [] }
     ensures case { (w : World) (settings : schema.Settings) → settings.limit ≡ engine.old.store.settings.log_limit → Stands w engine.old
-        → Answers D.seen D.may_leave D.failures w engine.old engine.new result [] (λ fails. turn_by (λ _. reply.Made) (view_made (outcome_of settings fails w.upkeep) def w.visible)) }
+        → Answers D.seen D.may_leave D.moment D.left_since D.failures w engine.old engine.new result [] (λ fails. turn_by (λ _. reply.Made) (view_made (outcome_of settings fails w.upkeep) def w.visible)) }
     ensures settings { engine.new.store.settings ≡ engine.old.store.settings }
 {
     match engine.create_view(alloc, def, steps) {
@@ -71,7 +71,7 @@ fn create_view<D: Disk, L: Ledger>(
 fn begin<D: Disk>(engine: &mut Engine<D>, alloc: Global, session: u32) -> Answered
     requires session { session < 17 }
     requires free { transaction_at engine.old.store.sessions session ≡ None }
-    ensures case { (w : World) → Stands w engine.old → GivesTurn D.seen D.may_leave D.failures w engine.old engine.new [] (λ _. turn_by reply.Began (began session w.visible)) result }
+    ensures case { (w : World) → Stands w engine.old → GivesTurn D.seen D.may_leave D.moment D.left_since D.failures w engine.old engine.new [] (λ _. turn_by reply.Began (began session w.visible)) result }
     ensures settings { engine.new.store.settings ≡ engine.old.store.settings }
 {
     let snapshot = engine.begin(session);
@@ -87,7 +87,7 @@ fn commit<D: Disk>(
     requires session { session < 17 }
     requires live { IsLive engine.old.store.sessions session }
     ensures case { (w : World) (settings : schema.Settings) → settings.limit ≡ engine.old.store.settings.log_limit → Stands w engine.old
-        → Answers D.seen D.may_leave D.failures w engine.old engine.new result [] (λ fails. turn_by reply.Committed (committed (outcome_of settings fails w.upkeep) session w.visible)) }
+        → Answers D.seen D.may_leave D.moment D.left_since D.failures w engine.old engine.new result [] (λ fails. turn_by reply.Committed (committed (outcome_of settings fails w.upkeep) session w.visible)) }
     ensures settings { engine.new.store.settings ≡ engine.old.store.settings }
 {
     match engine.commit(alloc, session) {
@@ -100,7 +100,7 @@ fn commit<D: Disk>(
 fn roll_back<D: Disk>(engine: &mut Engine<D>, alloc: Global, session: u32) -> Answered
     requires session { session < 17 }
     requires live { IsLive engine.old.store.sessions session }
-    ensures case { (w : World) → Stands w engine.old → GivesTurn D.seen D.may_leave D.failures w engine.old engine.new [] (λ _. turn_by (λ _. reply.RolledBack) (rolled_back session w.visible)) result }
+    ensures case { (w : World) → Stands w engine.old → GivesTurn D.seen D.may_leave D.moment D.left_since D.failures w engine.old engine.new [] (λ _. turn_by (λ _. reply.RolledBack) (rolled_back session w.visible)) result }
     ensures settings { engine.new.store.settings ≡ engine.old.store.settings }
 {
     engine.rollback(session);
@@ -109,7 +109,7 @@ fn roll_back<D: Disk>(engine: &mut Engine<D>, alloc: Global, session: u32) -> An
 
 /// SHOW TASKS.
 fn show_tasks<D: Disk>(engine: &Engine<D>, alloc: Global) -> Result<Answered, NoMemory>
-    ensures { (w : World) → Stands w engine.now → Answers D.seen D.may_leave D.failures w engine.now engine.now result [] (λ _. shown (reply.Tasks (pending_tasks w)) w.visible) }
+    ensures { (w : World) → Stands w engine.now → Answers D.seen D.may_leave D.moment D.left_since D.failures w engine.now engine.now result [] (λ _. shown (reply.Tasks (pending_tasks w)) w.visible) }
 {
     let tasks = engine.tasks(alloc)?;
     Ok(replied(alloc, Reply::Tasks(tasks)))
@@ -126,7 +126,7 @@ fn answer<D: Disk, L: Ledger>(
 ) -> Result<Answered, NoMemory>
     requires ready { IsReady engine.old session statement }
     ensures case { (w : World) (settings : schema.Settings) → settings.combine ≡ engine.old.store.settings.combine → settings.limit ≡ engine.old.store.settings.log_limit → Stands w engine.old
-        → Answers D.seen D.may_leave D.failures w engine.old engine.new result (steps_of settings session (Ok statement) w)
+        → Answers D.seen D.may_leave D.moment D.left_since D.failures w engine.old engine.new result (steps_of settings session (Ok statement) w)
         (λ fails. bound_turn (outcome_of settings fails w.upkeep) (pending_tasks w) session statement w.visible) }
     ensures settings { engine.new.store.settings ≡ engine.old.store.settings }
     ensures fresh { (w : World) (query : AQuery) → Stands w engine.old → statement ≡ bound.Query query → ReadsNoTable session query w → steps.new ≡ steps.old }
@@ -156,7 +156,7 @@ pub fn answer_line<D: Disk, L: Ledger>(
     requires next { IsNext engine.old session }
     requires line { IsStatementLine line.now }
     ensures case { (w : World) (settings : schema.Settings) → settings.combine ≡ engine.old.store.settings.combine → settings.limit ≡ engine.old.store.settings.log_limit → Stands w engine.old
-        → Answers D.seen D.may_leave D.failures w engine.old engine.new result (steps_of settings session (bound_line reads session line.now w.visible) w)
+        → Answers D.seen D.may_leave D.moment D.left_since D.failures w engine.old engine.new result (steps_of settings session (bound_line reads session line.now w.visible) w)
         (λ fails. read_turn (outcome_of settings fails w.upkeep) (pending_tasks w) session (bound_line reads session line.now w.visible) w.visible) }
     ensures settings { engine.new.store.settings ≡ engine.old.store.settings }
     ensures fresh { (w : World) (query : AQuery) → Stands w engine.old → bound_line reads session line.now w.visible ≡ Ok (bound.Query query) → ReadsNoTable session query w → steps.new ≡ steps.old }

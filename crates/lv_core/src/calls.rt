@@ -63,7 +63,7 @@ impl<D: Disk> Core<D> {
     /// What the core keeps of its run: its entries are legal, and its engine stands for the world after them. It is a law,
     /// and the call does nothing.
     pub fn known(&self)
-        ensures { IsRun D.seen D.may_leave D.failures self.now.run }
+        ensures { IsRun D.seen D.may_leave D.moment D.left_since D.failures self.now.run }
     {
         self.run.known();
     }
@@ -152,7 +152,7 @@ impl<D: Disk> Core<D> {
         steps: &mut Steps<L>,
     ) -> Result<(), NoMemory>
         requires may { may_turn self.old.run.program self.old.run.places session ≡ true }
-        ensures done { OnOk result (Gave D.seen D.may_leave D.failures (turn_of session) self.old.run self.new.run) }
+        ensures done { OnOk result (Gave D.seen D.may_leave D.moment D.left_since D.failures (turn_of session) self.old.run self.new.run) }
         ensures slots { self.new.slots ≡ self.old.slots }
         ensures kept { OnErr result (IsSame self.old.run self.new.run) }
         ensures fresh { (query : AQuery) → next_bound self.old.run session ≡ Ok (bound.Query query) → ReadsNoTable session query (state_of self.old.run).world → steps.new ≡ steps.old }
@@ -171,7 +171,7 @@ impl<D: Disk> Core<D> {
     ) -> Result<(), NoMemory>
         requires worker { IsWorker worker }
         requires setup { setup_answered self.old.run.program self.old.run.places ≡ true }
-        ensures done { OnOk result (Gave D.seen D.may_leave D.failures (fetch_of worker) self.old.run self.new.run) }
+        ensures done { OnOk result (Gave D.seen D.may_leave D.moment D.left_since D.failures (fetch_of worker) self.old.run self.new.run) }
         ensures slot { OnOk result (self.new.slots ≡ slots_given worker (next_input self.old.run worker) self.old.slots) }
         ensures kept { OnErr result ((self.new.run ≡ self.old.run) × (self.new.slots ≡ self.old.slots)) }
     {
@@ -204,7 +204,7 @@ impl<D: Disk> Core<D> {
     ) -> Result<(), NoMemory>
         requires worker { IsWorker worker }
         requires setup { setup_answered self.old.run.program self.old.run.places ≡ true }
-        ensures done { OnOk result (Gave D.seen D.may_leave D.failures (install_of worker) self.old.run self.new.run) }
+        ensures done { OnOk result (Gave D.seen D.may_leave D.moment D.left_since D.failures (install_of worker) self.old.run self.new.run) }
         ensures slot { OnOk result (self.new.slots ≡ slots_without worker self.old.slots) }
         ensures kept { OnErr result ((self.new.run ≡ self.old.run) × (self.new.slots ≡ self.old.slots)) }
     {
@@ -223,7 +223,7 @@ impl<D: Disk> Core<D> {
     ) -> Result<(), NoMemory>
         requires worker { IsWorker worker }
         requires setup { setup_answered self.old.run.program self.old.run.places ≡ true }
-        ensures done { OnOk result (Gave D.seen D.may_leave D.failures (install_of worker) self.old.run self.new.run) }
+        ensures done { OnOk result (Gave D.seen D.may_leave D.moment D.left_since D.failures (install_of worker) self.old.run self.new.run) }
         ensures slot { OnOk result (self.new.slots ≡ slots_without worker self.old.slots) }
         ensures kept { OnErr result ((self.new.run ≡ self.old.run) × (self.new.slots ≡ self.old.slots)) }
     {
@@ -236,7 +236,7 @@ impl<D: Disk> Core<D> {
     pub fn release(&mut self, worker: u32)
         requires worker { IsWorker worker }
         requires claim { is_some (claim_kept self.old.run.engine.store.upkeep worker) ≡ true }
-        ensures done { Gave D.seen D.may_leave D.failures (release_of worker) self.old.run self.new.run }
+        ensures done { Gave D.seen D.may_leave D.moment D.left_since D.failures (release_of worker) self.old.run self.new.run }
         ensures slot { self.new.slots ≡ slots_without worker self.old.slots }
     {
         self.run.release(worker);
@@ -248,7 +248,7 @@ impl<D: Disk> Core<D> {
     pub fn mark(&mut self, alloc: Global, view: &Text) -> Result<(), NoMemory>
         requires setup { setup_answered self.old.run.program self.old.run.places ≡ true }
         requires name { is_lower_name view.now ≡ true }
-        ensures done { OnOk result (Gave D.seen D.may_leave D.failures (mark_of view.now) self.old.run self.new.run) }
+        ensures done { OnOk result (Gave D.seen D.may_leave D.moment D.left_since D.failures (mark_of view.now) self.old.run self.new.run) }
         ensures slots { self.new.slots ≡ self.old.slots }
         ensures kept { OnErr result (IsSame self.old.run self.new.run) }
     {
@@ -259,7 +259,7 @@ impl<D: Disk> Core<D> {
     /// nothing. Cost: that of the engine's `clean`.
     pub fn clean(&mut self, alloc: Global) -> Result<(), NoMemory>
         requires setup { setup_answered self.old.run.program self.old.run.places ≡ true }
-        ensures done { OnOk result (Gave D.seen D.may_leave D.failures clean_up self.old.run self.new.run) }
+        ensures done { OnOk result (Gave D.seen D.may_leave D.moment D.left_since D.failures clean_up self.old.run self.new.run) }
         ensures slots { self.new.slots ≡ self.old.slots }
         ensures kept { OnErr result ((self.new.run ≡ self.old.run) × (self.new.slots ≡ self.old.slots)) }
     {

@@ -34,7 +34,7 @@ pub fn change_inside<D: Disk, L: Ledger>(
     requires live { IsLive engine.old.store.sessions session }
     requires few { (transaction_of engine.old.store.sessions session).changes < 4294967295 }
     requires bound { IsBoundChange engine.old.store.tables change.now }
-    ensures case { (w : World) → Stands w engine.old → Answers D.seen D.may_leave D.failures w engine.old engine.new result [] (λ _. turn_by reply.Changed (changed session change.now w.visible)) }
+    ensures case { (w : World) → Stands w engine.old → Answers D.seen D.may_leave D.moment D.left_since D.failures w engine.old engine.new result [] (λ _. turn_by reply.Changed (changed session change.now w.visible)) }
     ensures settings { engine.new.store.settings ≡ engine.old.store.settings }
 {
     match engine.change(alloc, session, change, steps) {
@@ -64,7 +64,7 @@ fn commit_alone<D: Disk>(
     requires session { session < 17 }
     requires live { IsLive engine.old.store.sessions session }
     ensures case { (w : World) (settings : schema.Settings) → settings.limit ≡ engine.old.store.settings.log_limit → Stands w engine.old
-        → CommitsAlone D.seen D.may_leave D.failures count session w engine.old engine.new result (λ fails. committed (outcome_of settings fails w.upkeep) session w.visible) }
+        → CommitsAlone D.seen D.may_leave D.moment D.left_since D.failures count session w engine.old engine.new result (λ fails. committed (outcome_of settings fails w.upkeep) session w.visible) }
     ensures settings { engine.new.store.settings ≡ engine.old.store.settings }
 {
     match engine.commit(alloc, session) {
@@ -89,7 +89,7 @@ pub fn change_alone<D: Disk, L: Ledger>(
     requires free { transaction_at engine.old.store.sessions session ≡ None }
     requires bound { IsBoundChange engine.old.store.tables change.now }
     ensures case { (w : World) (settings : schema.Settings) → settings.limit ≡ engine.old.store.settings.log_limit → Stands w engine.old
-        → Answers D.seen D.may_leave D.failures w engine.old engine.new result []
+        → Answers D.seen D.may_leave D.moment D.left_since D.failures w engine.old engine.new result []
         (λ fails. turn_by (λ done. reply.Alone done.0 done.1) (alone (outcome_of settings fails w.upkeep) session change.now w.visible)) }
     ensures settings { engine.new.store.settings ≡ engine.old.store.settings }
 {
@@ -116,7 +116,7 @@ pub fn change<D: Disk, L: Ledger>(
     requires few { (transaction_of engine.old.store.sessions session).changes < 4294967295 }
     requires bound { IsBoundChange engine.old.store.tables change.now }
     ensures case { (w : World) (settings : schema.Settings) (tasks : List (ℕ × ℕ)) → settings.limit ≡ engine.old.store.settings.log_limit → Stands w engine.old
-        → Answers D.seen D.may_leave D.failures w engine.old engine.new result [] (λ fails. bound_turn (outcome_of settings fails w.upkeep) tasks session (bound.Change change.now) w.visible) }
+        → Answers D.seen D.may_leave D.moment D.left_since D.failures w engine.old engine.new result [] (λ fails. bound_turn (outcome_of settings fails w.upkeep) tasks session (bound.Change change.now) w.visible) }
     ensures settings { engine.new.store.settings ≡ engine.old.store.settings }
 {
     if engine.live(session).is_some() {

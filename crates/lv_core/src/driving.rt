@@ -18,7 +18,7 @@ impl<D: Disk + Send> Machine for Core<D> {
 
     type Done = Results;
 
-    ghost keeps = { λ core. IsRun D.seen D.may_leave D.failures core.run };
+    ghost keeps = { λ core. IsRun D.seen D.may_leave D.moment D.left_since D.failures core.run };
 
     ghost is_idle = { λ core actor. Waits core.run actor };
 
@@ -74,7 +74,7 @@ pub fn drive_core<R: Threads + Wait + Sync, D: Disk + Send, G: Gate + Sync>(
 ) -> Driven<Core<D>>
     requires sessions { sessions ≤ 16 }
     requires workers { workers ≤ 8 }
-    ensures known { IsRun D.seen D.may_leave D.failures result.machine.run }
+    ensures known { IsRun D.seen D.may_leave D.moment D.left_since D.failures result.machine.run }
 {
     core.known();
     drive(rt, core, sessions, workers, turns, gate)

@@ -34,7 +34,7 @@ pub fn mark_view<D: Disk>(
 ) -> Result<Entry, NoMemory>
     requires view { view < length engine.old.store.views }
     ensures case { (rules : Rules) (w : World) → rules.settings.limit ≡ engine.old.store.settings.log_limit → Stands w engine.old
-        → MarksView D.seen D.may_leave D.failures rules view w engine.old engine.new result }
+        → MarksView D.seen D.may_leave D.moment D.left_since D.failures rules view w engine.old engine.new result }
     ensures settings { engine.new.store.settings ≡ engine.old.store.settings }
 {
     match engine.mark(alloc, view) {

@@ -35,7 +35,7 @@ fn query_inside<D: Disk, L: Ledger>(
     requires live { IsLive engine.old.store.sessions session }
     requires bound { IsBoundQuery engine.old.store.tables engine.old.store.views query.now }
     ensures case { (w : World) (settings : schema.Settings) → settings.combine ≡ engine.old.store.settings.combine → Stands w engine.old
-        → Answers D.seen D.may_leave D.failures w engine.old engine.new result (forced_by settings session query.now w) (λ _. shown (reply.Rows (queried session query.now w.visible)) w.visible) }
+        → Answers D.seen D.may_leave D.moment D.left_since D.failures w engine.old engine.new result (forced_by settings session query.now w) (λ _. shown (reply.Rows (queried session query.now w.visible)) w.visible) }
     ensures sessions { engine.new.store.sessions ≡ engine.old.store.sessions }
     ensures refused { OnErr result (engine.new ≡ engine.old) }
     ensures settings { engine.new.store.settings ≡ engine.old.store.settings }
@@ -63,7 +63,7 @@ fn query_alone<D: Disk, L: Ledger>(
     requires free { transaction_at engine.old.store.sessions session ≡ None }
     requires bound { IsBoundQuery engine.old.store.tables engine.old.store.views query.now }
     ensures case { (w : World) (settings : schema.Settings) → settings.combine ≡ engine.old.store.settings.combine → Stands w engine.old
-        → Answers D.seen D.may_leave D.failures w engine.old engine.new result (forced_by settings session query.now w) (λ _. shown (reply.Rows (queried session query.now w.visible)) w.visible) }
+        → Answers D.seen D.may_leave D.moment D.left_since D.failures w engine.old engine.new result (forced_by settings session query.now w) (λ _. shown (reply.Rows (queried session query.now w.visible)) w.visible) }
     ensures settings { engine.new.store.settings ≡ engine.old.store.settings }
     ensures fresh { (w : World) → Stands w engine.old → ReadsNoTable session query.now w → steps.new ≡ steps.old }
 {
@@ -85,7 +85,7 @@ pub fn query<D: Disk, L: Ledger>(
     requires session { session < 17 }
     requires bound { IsBoundQuery engine.old.store.tables engine.old.store.views query.now }
     ensures case { (w : World) (settings : schema.Settings) → settings.combine ≡ engine.old.store.settings.combine → Stands w engine.old
-        → Answers D.seen D.may_leave D.failures w engine.old engine.new result (forced_by settings session query.now w) (λ _. shown (reply.Rows (queried session query.now w.visible)) w.visible) }
+        → Answers D.seen D.may_leave D.moment D.left_since D.failures w engine.old engine.new result (forced_by settings session query.now w) (λ _. shown (reply.Rows (queried session query.now w.visible)) w.visible) }
     ensures settings { engine.new.store.settings ≡ engine.old.store.settings }
     ensures fresh { (w : World) → Stands w engine.old → ReadsNoTable session query.now w → steps.new ≡ steps.old }
 {

@@ -58,7 +58,7 @@ impl<D: Disk> Model for Run<D> {
 
     ghost view = { λ r. view_of r.policy r.program r.engine r.opening.engine.value r.places r.entries.list };
 
-    ghost invariant = { λ r. IsKept D.seen D.may_leave D.failures (view_of r.policy r.program r.engine r.opening.engine.value r.places r.entries.list) r.entries.spare r.opening.counts.length r.opening.counts.faults };
+    ghost invariant = { λ r. IsKept D.seen D.may_leave D.moment D.left_since D.failures (view_of r.policy r.program r.engine r.opening.engine.value r.places r.entries.list) r.entries.spare r.opening.counts.length r.opening.counts.faults };
 }
 
 /// No statement of any session is answered.
@@ -127,7 +127,7 @@ impl<D: Disk> Run<D> {
 
     /// The entries are legal, and the engine stands for the world after them: a law, and the call does nothing.
     pub fn known(&self)
-        ensures { IsRun D.seen D.may_leave D.failures self.now }
+        ensures { IsRun D.seen D.may_leave D.moment D.left_since D.failures self.now }
     {
         let _ = &self.entries;
     }
@@ -230,7 +230,7 @@ impl<D: Disk> Run<D> {
         steps: &mut Steps<L>,
     ) -> Result<(), NoMemory>
         requires may { may_turn self.old.program self.old.places session ≡ true }
-        ensures done { OnOk result (Gave D.seen D.may_leave D.failures (turn_of session) self.old self.new) }
+        ensures done { OnOk result (Gave D.seen D.may_leave D.moment D.left_since D.failures (turn_of session) self.old self.new) }
         ensures kept { OnErr result (IsSame self.old self.new) }
         ensures fresh { (query : AQuery) → next_bound self.old session ≡ Ok (bound.Query query) → ReadsNoTable session query (state_of self.old).world → steps.new ≡ steps.old }
     {
@@ -261,7 +261,7 @@ impl<D: Disk> Run<D> {
         requires worker { IsWorker worker }
         requires setup { setup_answered self.old.program self.old.places ≡ true }
         requires policy { self.old.settings.policy ≡ picker.now.kind }
-        ensures done { OnOk result (Gave D.seen D.may_leave D.failures (fetch_of worker) self.old self.new) }
+        ensures done { OnOk result (Gave D.seen D.may_leave D.moment D.left_since D.failures (fetch_of worker) self.old self.new) }
         ensures input { IfOk result (λ input. input ≡ next_input self.old worker) }
         ensures kept { OnErr result (self.new ≡ self.old) }
     {
@@ -284,7 +284,7 @@ impl<D: Disk> Run<D> {
         requires setup { setup_answered self.old.program self.old.places ≡ true }
         requires policy { self.old.settings.policy ≡ picker.now.kind }
         requires free { claim_of (state_of self.old).world.upkeep worker ≡ None }
-        ensures fetched { IfOk result (λ given. (input : Input) → given ≡ Some input → HasFetched D.seen D.may_leave D.failures worker self.old self.new input) }
+        ensures fetched { IfOk result (λ given. (input : Input) → given ≡ Some input → HasFetched D.seen D.may_leave D.moment D.left_since D.failures worker self.old self.new input) }
         ensures idle { IfOk result (λ given. given ≡ None → self.new ≡ self.old) }
         ensures none { IfOk result (λ given. (given ≡ None) ↔ (unclaimed (state_of self.old).world ≡ [])) }
         ensures kept { OnErr result (self.new ≡ self.old) }
@@ -308,7 +308,7 @@ impl<D: Disk> Run<D> {
     ) -> Result<(), NoMemory>
         requires worker { IsWorker worker }
         requires setup { setup_answered self.old.program self.old.places ≡ true }
-        ensures done { OnOk result (Gave D.seen D.may_leave D.failures (install_of worker) self.old self.new) }
+        ensures done { OnOk result (Gave D.seen D.may_leave D.moment D.left_since D.failures (install_of worker) self.old self.new) }
         ensures kept { OnErr result (self.new ≡ self.old) }
     {
         make_room(&mut self.entries, 1)?;
@@ -327,7 +327,7 @@ impl<D: Disk> Run<D> {
     ) -> Result<(), NoMemory>
         requires worker { IsWorker worker }
         requires setup { setup_answered self.old.program self.old.places ≡ true }
-        ensures done { OnOk result (Installs D.seen D.may_leave D.failures worker self.old self.new) }
+        ensures done { OnOk result (Installs D.seen D.may_leave D.moment D.left_since D.failures worker self.old self.new) }
         ensures free { OnOk result (claim_of (state_of self.new).world.upkeep worker ≡ None) }
         ensures kept { OnErr result (self.new ≡ self.old) }
     {
@@ -346,7 +346,7 @@ impl<D: Disk> Run<D> {
     pub fn release(&mut self, worker: u32)
         requires worker { IsWorker worker }
         requires claim { is_some (claim_kept self.old.engine.store.upkeep worker) ≡ true }
-        ensures { Gave D.seen D.may_leave D.failures (release_of worker) self.old self.new }
+        ensures { Gave D.seen D.may_leave D.moment D.left_since D.failures (release_of worker) self.old self.new }
     {
         let entry = release(&mut self.engine, worker);
         self.entries.push(entry);
@@ -355,7 +355,7 @@ impl<D: Disk> Run<D> {
     /// The claim ends that a worker, 1 to 8, may have. It takes no memory.
     pub fn end_claim(&mut self, worker: u32)
         requires { IsWorker worker }
-        ensures done { Frees D.seen D.may_leave D.failures worker self.old self.new }
+        ensures done { Frees D.seen D.may_leave D.moment D.left_since D.failures worker self.old self.new }
         ensures free { claim_of (state_of self.new).world.upkeep worker ≡ None }
         ensures views { unclaimed (state_of self.new).world ≡ views_for worker (state_of self.old).world }
         ensures program { self.new.program ≡ self.old.program }
@@ -371,7 +371,7 @@ impl<D: Disk> Run<D> {
     pub fn mark(&mut self, alloc: Global, view: &Text) -> Result<(), NoMemory>
         requires setup { setup_answered self.old.program self.old.places ≡ true }
         requires name { is_lower_name view.now ≡ true }
-        ensures done { OnOk result (Gave D.seen D.may_leave D.failures (mark_of view.now) self.old self.new) }
+        ensures done { OnOk result (Gave D.seen D.may_leave D.moment D.left_since D.failures (mark_of view.now) self.old self.new) }
         ensures kept { OnErr result (IsSame self.old self.new) }
     {
         make_room(&mut self.entries, 1)?;
@@ -388,7 +388,7 @@ impl<D: Disk> Run<D> {
     /// What nobody needs is dropped. Want of memory changes nothing.
     pub fn clean(&mut self, alloc: Global) -> Result<(), NoMemory>
         requires setup { setup_answered self.old.program self.old.places ≡ true }
-        ensures done { OnOk result (Gave D.seen D.may_leave D.failures clean_up self.old self.new) }
+        ensures done { OnOk result (Gave D.seen D.may_leave D.moment D.left_since D.failures clean_up self.old self.new) }
         ensures kept { OnErr result (self.new ≡ self.old) }
     {
         make_room(&mut self.entries, 1)?;

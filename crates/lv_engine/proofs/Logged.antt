@@ -11,22 +11,30 @@ use Rattle.lv_journal.specs.Standing.{RecordsIn, RecordsOr}
 use Rattle.lv_journal.specs.declared.writer.Writer.{Writer}
 use Rattle.lv_journal.proofs.Meaning.{keeps_in}
 use Rattle.lv_record.specs.Spelling.{Spells, spelling}
-use Rattle.lv_engine.specs.Records.{Goes, HasRecords, IsDoubt, IsJournalWith, IsLeftBy, IsSpelled, LeavesMore, Logs}
+use Rattle.lv_engine.specs.Records.{HasRecords, IsDoubt, IsJournalWith, IsLeftBy, IsSpelled, LeavesMore, Logged, Logs}
 
 -- ---- what a crash may leave
-with_one : (recs : List Rec) (rec : Rec) (payload bytes : List ℕ) → payload ≡ spelling rec → IsJournal (map spelling recs ++ payload ∷ []) bytes → IsJournalWith (recs ++ rec ∷ []) bytes
-with_one recs rec payload bytes is h = subst (λ (ps : List (List ℕ)). IsJournal ps bytes) (ap (λ (p : List ℕ). map spelling recs ++ p ∷ []) is ∙ sym (map-append spelling recs (rec ∷ []))) h
+pub spelled_more : (recs : List Rec) (rec : Rec) → AllByRecursion IsSpelled recs → IsSpelled rec → AllByRecursion IsSpelled (recs ++ rec ∷ [])
+spelled_more [] rec all is = (is, tt)
+spelled_more (r ∷ recs) rec all is = (all.0, spelled_more recs rec all.1 is)
 
-left_or : (recs : List Rec) (doubt : Option Rec) (rec : Rec) (payload bytes : List ℕ) → payload ≡ spelling rec → RecordsOr (map spelling recs) (option_map spelling doubt) payload bytes → IsLeftBy recs doubt (Some rec) bytes
-left_or recs doubt rec payload bytes is (inl h) = inl h
-left_or recs None rec payload bytes is (inr (inl h)) = absurd h
-left_or recs (Some q) rec payload bytes is (inr (inl h)) = inr (inl (with_one recs q (spelling q) bytes refl h))
-left_or recs doubt rec payload bytes is (inr (inr h)) = inr (inr (with_one recs rec payload bytes is h))
+with_one : (recs : List Rec) (rec : Rec) (payload bytes : List ℕ) → AllByRecursion IsSpelled recs → Spells payload rec → IsJournal (map spelling recs ++ payload ∷ []) bytes → IsJournalWith (recs ++ rec ∷ []) bytes
+with_one recs rec payload bytes all here h = record {
+  spelled = spelled_more recs rec all (subst (λ (p : List ℕ). Spells p rec) here.1 here);
+  journal = subst (λ (ps : List (List ℕ)). IsJournal ps bytes) (ap (λ (p : List ℕ). map spelling recs ++ p ∷ []) here.1 ∙ sym (map-append spelling recs (rec ∷ []))) h;
+}
 
-left_in : (recs : List Rec) (doubt attempted : Option Rec) (bytes : List ℕ) → RecordsIn (map spelling recs) (option_map spelling doubt) bytes → IsLeftBy recs doubt attempted bytes
-left_in recs None attempted bytes h = inl h
-left_in recs (Some q) attempted bytes (inl h) = inl h
-left_in recs (Some q) attempted bytes (inr h) = inr (inl (with_one recs q (spelling q) bytes refl h))
+left_or : (recs : List Rec) (doubt : Option Rec) (rec : Rec) (payload bytes : List ℕ) → AllByRecursion IsSpelled recs → IfSome doubt IsSpelled → Spells payload rec → RecordsOr (map spelling recs) (option_map spelling doubt) payload bytes
+    → IsLeftBy recs doubt (Some rec) bytes
+left_or recs doubt rec payload bytes all doubtful here (inl h) = inl (record { spelled = all; journal = h })
+left_or recs None rec payload bytes all doubtful here (inr (inl h)) = absurd h
+left_or recs (Some q) rec payload bytes all doubtful here (inr (inl h)) = inr (inl (with_one recs q (spelling q) bytes all doubtful h))
+left_or recs doubt rec payload bytes all doubtful here (inr (inr h)) = inr (inr (with_one recs rec payload bytes all here h))
+
+left_in : (recs : List Rec) (doubt attempted : Option Rec) (bytes : List ℕ) → AllByRecursion IsSpelled recs → IfSome doubt IsSpelled → RecordsIn (map spelling recs) (option_map spelling doubt) bytes → IsLeftBy recs doubt attempted bytes
+left_in recs None attempted bytes all doubtful h = inl (record { spelled = all; journal = h })
+left_in recs (Some q) attempted bytes all doubtful (inl h) = inl (record { spelled = all; journal = h })
+left_in recs (Some q) attempted bytes all doubtful (inr h) = inr (inl (with_one recs q (spelling q) bytes all doubtful h))
 
 module _ {D : Type 0} (moment : D → ℕ) (left_since : D → ℕ → List ℕ → Type 0) where
   pub no_time : (d : D) (P : List ℕ → Type 0) → LeavesMore moment left_since d d P
@@ -49,7 +57,7 @@ module _ {D : Type 0} (seen : D → Option (List ℕ)) (may_leave : D → List �
   -- none
   pub unchanged_logs : (j k : Writer D) → k ≡ j → Logs seen may_leave moment left_since None None j k
   unchanged_logs j k same = λ recs doubt has.
-      subst (λ (w : Writer D). Goes seen may_leave moment left_since recs doubt None recs doubt j w) (sym same) (record { has = has; left = no_time moment left_since j.disk (IsLeftBy recs doubt None) })
+      subst (λ (w : Writer D). Logged seen may_leave moment left_since recs doubt None recs doubt j w) (sym same) (record { has = has; left = no_time moment left_since j.disk (IsLeftBy recs doubt None) })
 
   -- room was asked for
   module _ (recs : List Rec) (doubt attempted : Option Rec) (j k : Writer D) (has : HasRecords seen may_leave recs doubt j)
@@ -60,20 +68,20 @@ module _ {D : Type 0} (seen : D → Option (List ℕ)) (may_leave : D → List �
 
     pub leaves_yet : LeavesMore moment left_since j.disk k.disk (IsLeftBy recs doubt attempted)
     leaves_yet = time_passes moment left_since j.disk k.disk (may_leave k.disk) (IsLeftBy recs doubt attempted) time
-        (λ c left. left_in recs doubt attempted c (keeps_in (map spelling recs) (option_map spelling doubt) c has.stands.payloads has.stands.doubtful (has.stands.images c (crash c left))))
+        (λ c left. left_in recs doubt attempted c has.spelled has.doubtful (keeps_in (map spelling recs) (option_map spelling doubt) c has.stands.payloads has.stands.doubtful (has.stands.images c (crash c left))))
 
   -- a record was put, once room was there
   module _ (recs : List Rec) (doubt : Option Rec) (rec : Rec) (payload : List ℕ) (here : Spells payload rec) (j mid k : Writer D) (has : HasRecords seen may_leave recs doubt mid)
       (before : LeavesMore moment left_since j.disk mid.disk (IsLeftBy recs doubt (Some rec))) (images : LeavesOnly moment left_since mid.disk k.disk (RecordsOr (map spelling recs) (option_map spelling doubt) payload)) where
     leaves : LeavesMore moment left_since j.disk k.disk (IsLeftBy recs doubt (Some rec))
     leaves = goes_on moment left_since j.disk mid.disk k.disk (IsLeftBy recs doubt (Some rec)) before
-        (weaker moment left_since mid.disk k.disk (IsLeftBy recs doubt (Some rec)) (RecordsOr (map spelling recs) (option_map spelling doubt) payload) (λ c h. left_or recs doubt rec payload c here.1 h) images)
+        (weaker moment left_since mid.disk k.disk (IsLeftBy recs doubt (Some rec)) (RecordsOr (map spelling recs) (option_map spelling doubt) payload) (λ c h. left_or recs doubt rec payload c has.spelled has.doubtful here h) images)
 
     -- and is there
-    pub put_logs : (stands : journal.Stands seen may_leave k (map spelling recs ++ payload ∷ []) None) → AllByRecursion IsSpelled (recs ++ rec ∷ []) → Goes seen may_leave moment left_since recs doubt (Some rec) (recs ++ rec ∷ []) None j k
-    put_logs stands spelled = record {
+    pub put_logs : journal.Stands seen may_leave k (map spelling recs ++ payload ∷ []) None → Logged seen may_leave moment left_since recs doubt (Some rec) (recs ++ rec ∷ []) None j k
+    put_logs stands = record {
       has = record {
-        spelled = spelled;
+        spelled = spelled_more recs rec has.spelled (subst (λ (bytes : List ℕ). Spells bytes rec) here.1 here);
         doubtful = tt;
         stands = subst (λ (ps : List (List ℕ)). journal.Stands seen may_leave k ps None) (ap (λ (p : List ℕ). map spelling recs ++ p ∷ []) here.1 ∙ sym (map-append spelling recs (rec ∷ []))) stands;
       };
@@ -82,7 +90,7 @@ module _ {D : Type 0} (seen : D → Option (List ℕ)) (may_leave : D → List �
 
     -- the disk failed
     pub failed_logs : journal.Stands seen may_leave k (map spelling recs) (option_map spelling doubt) ⊎ journal.Stands seen may_leave k (map spelling recs) None ⊎ journal.Stands seen may_leave k (map spelling recs) (Some payload)
-        → (x : Option Rec) × IsDoubt doubt rec x × Goes seen may_leave moment left_since recs doubt (Some rec) recs x j k
+        → (x : Option Rec) × IsDoubt doubt rec x × Logged seen may_leave moment left_since recs doubt (Some rec) recs x j k
     failed_logs (inl s) = (doubt, inl refl, record { has = record { spelled = has.spelled; doubtful = has.doubtful; stands = s }; left = leaves })
     failed_logs (inr (inl s)) = (None, inr (inl refl), record { has = record { spelled = has.spelled; doubtful = tt; stands = s }; left = leaves })
     failed_logs (inr (inr s)) = (

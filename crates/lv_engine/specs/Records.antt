@@ -23,8 +23,9 @@ abbrev pub IsDoubt : Option Rec → Rec → Option Rec → Type 0
 IsDoubt before rec after = (after ≡ before) ⊎ (after ≡ None) ⊎ (after ≡ Some rec)
 
 -- bytes that are a journal with these records
-abbrev pub IsJournalWith : List Rec → List ℕ → Type 0
-IsJournalWith recs bytes = IsJournal (map spelling recs) bytes
+pub record IsJournalWith (recs : List Rec) (bytes : List ℕ) : Type 0 where
+  pub spelled : AllByRecursion IsSpelled recs
+  pub journal : IsJournal (map spelling recs) bytes
 
 -- what a crash during a call leaves: a journal with the records, or with these and the one in doubt, or with these and the
 -- one that the call asked the disk to keep
@@ -40,12 +41,12 @@ pub record LeavesMore {D : Type 0} (moment : D → ℕ) (left_since : D → ℕ 
 module _ {D : Type 0} (seen : D → Option (List ℕ)) (may_leave : D → List ℕ → Type 0) (moment : D → ℕ) (left_since : D → ℕ → List ℕ → Type 0) where
   -- a journal had these records and perhaps one in doubt, and has these and perhaps one in doubt; what a crash meanwhile may
   -- leave, by the record that the disk was asked to keep
-  pub record Goes (recs : List Rec) (doubt attempted : Option Rec) (next : List Rec) (after : Option Rec) (old new : Writer D) : Type 0 where
+  pub record Logged (recs : List Rec) (doubt attempted : Option Rec) (next : List Rec) (after : Option Rec) (old new : Writer D) : Type 0 where
     pub has : HasRecords seen may_leave next after new
     pub left : LeavesMore moment left_since old.disk new.disk (IsLeftBy recs doubt attempted)
 
   -- what a call does to the journal, by the record that it asked the disk to keep and the one that was written
   abbrev pub Logs : Option Rec → Option Rec → Writer D → Writer D → Type 0
-  Logs None written old new = (recs : List Rec) (doubt : Option Rec) → HasRecords seen may_leave recs doubt old → Goes recs doubt None recs doubt old new
-  Logs (Some rec) (Some written) old new = (recs : List Rec) (doubt : Option Rec) → HasRecords seen may_leave recs doubt old → Goes recs doubt (Some rec) (recs ++ rec ∷ []) None old new
-  Logs (Some rec) None old new = (recs : List Rec) (doubt : Option Rec) → HasRecords seen may_leave recs doubt old → (after : Option Rec) × IsDoubt doubt rec after × Goes recs doubt (Some rec) recs after old new
+  Logs None written old new = (recs : List Rec) (doubt : Option Rec) → HasRecords seen may_leave recs doubt old → Logged recs doubt None recs doubt old new
+  Logs (Some rec) (Some written) old new = (recs : List Rec) (doubt : Option Rec) → HasRecords seen may_leave recs doubt old → Logged recs doubt (Some rec) (recs ++ rec ∷ []) None old new
+  Logs (Some rec) None old new = (recs : List Rec) (doubt : Option Rec) → HasRecords seen may_leave recs doubt old → (after : Option Rec) × IsDoubt doubt rec after × Logged recs doubt (Some rec) recs after old new

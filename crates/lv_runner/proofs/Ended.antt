@@ -9,7 +9,7 @@ use Rattle.lv_words.specs.Words.{said}
 use Rattle.lv_runner.specs.declared.status.Status.{Status}
 use Rattle.lv_runner.specs.declared.status.Status.TheVariants.{Done, Words, Script, SourceFault, SinkFault, BadJournal, OpenFault, Differ, NoMemory}
 use Rattle.lv_runner.specs.Differing.{shown}
-use Rattle.lv_runner.specs.Ends.{All, DidDiffer, Ends, FailedOpening, HandedOut, NotAsked, Outside, Part, Refused, TurnedAway}
+use Rattle.lv_runner.specs.Ends.{All, Ends, FailedOpening, HandedOut, NotAsked, Other, Outside, Part, Refused, TurnedAway}
 
 -- the words that are said are one
 some_or : SaidWords → Option SaidWords → SaidWords
@@ -20,16 +20,16 @@ same_words : (v w : SaidWords) (words : List (List ℕ)) → said words ≡ Some
 unfolding some_or
 same_words v w words e f = ap (some_or v) (sym e ∙ f)
 
-module _ {D : Type 0} (seen : D → Option (List ℕ)) (may_leave : D → List ℕ → Type 0) (faults : D → ℕ) (holds : Option (List ℕ) → Option (List ℕ)) (old new : Outside) (back : Option D) (words : List (List ℕ)) (v : SaidWords) (is : said words ≡ Some v)
-    (s : Status) (ends : Ends seen may_leave faults v (holds v.log) v.log old new back s) where
+module _ {D : Type 0} (seen : D → Option (List ℕ)) (may_leave : D → List ℕ → Type 0) (moment : D → ℕ) (left_since : D → ℕ → List ℕ → Type 0) (faults : D → ℕ) (holds : Option (List ℕ) → Option (List ℕ)) (old new : Outside) (back : Option D) (words : List (List ℕ)) (v : SaidWords) (is : said words ≡ Some v)
+    (s : Status) (ends : Ends seen may_leave moment left_since faults v (holds v.log) v.log old new back s) where
   -- the run's end, told of any words that these are
-  ends_of : (w : SaidWords) → said words ≡ Some w → Ends seen may_leave faults w (holds w.log) w.log old new back s
-  ends_of w there = subst (λ (x : SaidWords). Ends seen may_leave faults x (holds x.log) x.log old new back s) (same_words v w words is there) ends
+  ends_of : (w : SaidWords) → said words ≡ Some w → Ends seen may_leave moment left_since faults w (holds w.log) w.log old new back s
+  ends_of w there = subst (λ (x : SaidWords). Ends seen may_leave moment left_since faults x (holds x.log) x.log old new back s) (same_words v w words is there) ends
 
-  at : (w : SaidWords) → said words ≡ Some w → (t : Status) → s ≡ t → Ends seen may_leave faults w (holds w.log) w.log old new back t
-  at w there t e = subst (Ends seen may_leave faults w (holds w.log) w.log old new back) e (ends_of w there)
+  at : (w : SaidWords) → said words ≡ Some w → (t : Status) → s ≡ t → Ends seen may_leave moment left_since faults w (holds w.log) w.log old new back t
+  at w there t e = subst (Ends seen may_leave moment left_since faults w (holds w.log) w.log old new back) e (ends_of w there)
 
-  pub is_done : (w : SaidWords) → said words ≡ Some w → s ≡ Done → All seen may_leave faults w (holds w.log) w.log old new back
+  pub is_done : (w : SaidWords) → said words ≡ Some w → s ≡ Done → All seen may_leave moment left_since faults w (holds w.log) w.log old new back
   is_done w there e = (at w there Done e).0
 
   pub is_flushed : s ≡ Done → IsTrue new.is_flushed
@@ -47,7 +47,7 @@ module _ {D : Type 0} (seen : D → Option (List ℕ)) (may_leave : D → List �
   pub is_sink : s ≡ SinkFault → Rose old.sink_faults new.sink_faults
   is_sink e = (at v is SinkFault e).1
 
-  pub is_part : (w : SaidWords) → said words ≡ Some w → s ≡ SinkFault → Part seen may_leave faults w (holds w.log) w.log old new back
+  pub is_part : (w : SaidWords) → said words ≡ Some w → s ≡ SinkFault → Part seen may_leave moment left_since faults w (holds w.log) w.log old new back
   is_part w there e = (at w there SinkFault e).0
 
   pub is_bad : (w : SaidWords) (offset : ℕ) → said words ≡ Some w → s ≡ BadJournal offset → IfSome (holds w.log) (λ bytes. BadAt bytes offset)
@@ -56,13 +56,13 @@ module _ {D : Type 0} (seen : D → Option (List ℕ)) (may_leave : D → List �
   pub is_open : s ≡ OpenFault → FailedOpening faults old.disks_faults new.disks_faults new.openings.count back
   is_open e = (at v is OpenFault e).0
 
-  pub is_other : (w : SaidWords) (session place : ℕ) (given kept : List ℕ) → said words ≡ Some w → s ≡ Differ session place given kept → DidDiffer w old.left new.left (shown session place given kept)
+  pub is_other : (w : SaidWords) (session place : ℕ) (given kept : List ℕ) → said words ≡ Some w → s ≡ Differ session place given kept → Other seen may_leave moment left_since faults w (holds w.log) w.log old new back (shown session place given kept)
   is_other w session place given kept there e = (at w there (Differ session place given kept) e).0
 
-  pub is_short : (w : SaidWords) → said words ≡ Some w → s ≡ NoMemory → Keeps old.written new.written ⊎ Part seen may_leave faults w (holds w.log) w.log old new back
+  pub is_short : (w : SaidWords) → said words ≡ Some w → s ≡ NoMemory → Keeps old.written new.written ⊎ Part seen may_leave moment left_since faults w (holds w.log) w.log old new back
   is_short w there e = by (at w there NoMemory e)
     where
-      by : Ends seen may_leave faults w (holds w.log) w.log old new back NoMemory → Keeps old.written new.written ⊎ Part seen may_leave faults w (holds w.log) w.log old new back
+      by : Ends seen may_leave moment left_since faults w (holds w.log) w.log old new back NoMemory → Keeps old.written new.written ⊎ Part seen may_leave moment left_since faults w (holds w.log) w.log old new back
       by (inl none) = inl none.0
       by (inr handed) = handed.0
 
@@ -86,11 +86,11 @@ module _ {D : Type 0} (seen : D → Option (List ℕ)) (may_leave : D → List �
   pub at_most_once : (w : SaidWords) → said words ≡ Some w → s ≡ NoMemory → NotAsked old.openings new.openings back ⊎ HandedOut w.log old.openings new.openings back
   at_most_once w there e = by (at w there NoMemory e)
     where
-      by : Ends seen may_leave faults w (holds w.log) w.log old new back NoMemory → NotAsked old.openings new.openings back ⊎ HandedOut w.log old.openings new.openings back
+      by : Ends seen may_leave moment left_since faults w (holds w.log) w.log old new back NoMemory → NotAsked old.openings new.openings back ⊎ HandedOut w.log old.openings new.openings back
       by (inl none) = inl none.1
       by (inr handed) = inr handed.1
 
-  kept_at : (t : Status) → Ends seen may_leave faults v (holds v.log) v.log old new back t → (t ≡ Done → ⊥) → (t ≡ SinkFault → ⊥) → (t ≡ NoMemory → ⊥) → Keeps old.written new.written
+  kept_at : (t : Status) → Ends seen may_leave moment left_since faults v (holds v.log) v.log old new back t → (t ≡ Done → ⊥) → (t ≡ SinkFault → ⊥) → (t ≡ NoMemory → ⊥) → Keeps old.written new.written
   kept_at Done ends done sink short = absurd (done refl)
   kept_at Words ends done sink short = absurd ends
   kept_at (Script line kind) ends done sink short = ends.2

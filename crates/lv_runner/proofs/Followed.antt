@@ -81,8 +81,8 @@ split [] i d lt = absurd (omega arith)
 split (y ∷ ys) zero d lt = refl
 split (y ∷ ys) (suc i) d lt = ap (λ zs. y ∷ zs) (split ys i d (omega arith))
 
-module _ {D : Type 0} (seen : D → Option (List ℕ)) (may_leave : D → List ℕ → Type 0) (failures : D → ℕ) where
-  pub may_next : (p : Program) (c : CoreView D) (events : List Event) (i : ℕ) (d : Event) → MayFollow p events → c.program ≡ p → IsRun seen may_leave failures c → HasFollowed c (take i events) → i < length events
+module _ {D : Type 0} (seen : D → Option (List ℕ)) (may_leave : D → List ℕ → Type 0) (moment : D → ℕ) (left_since : D → ℕ → List ℕ → Type 0) (failures : D → ℕ) where
+  pub may_next : (p : Program) (c : CoreView D) (events : List Event) (i : ℕ) (d : Event) → MayFollow p events → c.program ≡ p → IsRun seen may_leave moment left_since failures c → HasFollowed c (take i events) → i < length events
       → MayHappen c.program (state_of c) (get_or events i d) × IsScheduled (get_or events i d)
   may_next p c events i d may is run followed lt =
       let places : (state_of c).places ≡ places_after c.program (take i events) = sym run.places_are ∙ followed.places in
@@ -90,20 +90,20 @@ module _ {D : Type 0} (seen : D → Option (List ℕ)) (may_leave : D → List �
       may_here (state_of c) (take i events) (get_or events i d) (drop (suc i) events) (split events i d lt) places
 
   -- ---- what a core keeps: of no events, and of one more
-  has_followed : (c : CoreView D) (events : List Event) → IsRun seen may_leave failures c → events_of (rules_of c.settings c.program) (first_state c) c.entries ≡ events → HasFollowed c events
+  has_followed : (c : CoreView D) (events : List Event) → IsRun seen may_leave moment left_since failures c → events_of (rules_of c.settings c.program) (first_state c) c.entries ≡ events → HasFollowed c events
   has_followed c events run are = record {
     events_are = are;
     places = run.places_are ∙ (places_from (rules_of c.settings c.program) (first_state c) c.entries ∙ ap (places_after c.program) are);
   }
 
-  pub followed_none : (c : CoreView D) (events : List Event) → IsRun seen may_leave failures c → c.entries ≡ [] → HasFollowed c (take 0 events)
+  pub followed_none : (c : CoreView D) (events : List Event) → IsRun seen may_leave moment left_since failures c → c.entries ≡ [] → HasFollowed c (take 0 events)
   followed_none c events run none = has_followed c [] run (ap (events_of (rules_of c.settings c.program) (first_state c)) none)
 
   -- the same run goes on from the same state
   pub first_same : (old new : CoreView D) → GoesOn old new → first_state new ≡ first_state old
   first_same old new on i = first_state (record old { settings = on.settings i; program = on.program i; opened = on.opened i })
 
-  pub followed_more : (event : Event) (old new : CoreView D) (events : List Event) → Gave seen may_leave failures event old new → HasFollowed old events → HasFollowed new (events ++ event ∷ [])
+  pub followed_more : (event : Event) (old new : CoreView D) (events : List Event) → Gave seen may_leave moment left_since failures event old new → HasFollowed old events → HasFollowed new (events ++ event ∷ [])
   followed_more event old new events gave followed = has_followed new (events ++ event ∷ []) gave.run are
     where
       given_entry : List Entry
@@ -121,7 +121,7 @@ module _ {D : Type 0} (seen : D → Option (List ℕ)) (may_leave : D → List �
           ∙ (events_of-append (rules_of old.settings old.program) (first_state old) old.entries given_entry
           ∙ λ i. followed.events_are i ++ shows_event i)
 
-  pub followed_next : (events : List Event) (i : ℕ) (d : Event) (old new : CoreView D) → i < length events → Gave seen may_leave failures (get_or events i d) old new → HasFollowed old (take i events)
+  pub followed_next : (events : List Event) (i : ℕ) (d : Event) (old new : CoreView D) → i < length events → Gave seen may_leave moment left_since failures (get_or events i d) old new → HasFollowed old (take i events)
       → HasFollowed new (take (i + 1) events)
   followed_next events i d old new lt gave followed = subst (HasFollowed new) (sym (take_more events i d lt)) (followed_more (get_or events i d) old new (take i events) gave followed)
 

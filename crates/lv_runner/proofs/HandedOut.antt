@@ -26,15 +26,15 @@ retold : (told there : Option (List ℕ)) (P : List ℕ → Type 0) → ((bytes 
 retold None there P h some = tt
 retold (Some bytes) there P h some = subst (λ o. IfSome o P) (h bytes refl) some
 
-module _ {D : Type 0} (seen : D → Option (List ℕ)) (may_leave : D → List ℕ → Type 0) (faults : D → ℕ) where
-  pub reopened_as_told : (told : Option (List ℕ)) (disk : D) (recs : List Rec) (e : EngineView D) → TellsAtLeast seen may_leave faults told disk → IsReopened seen may_leave (seen disk) recs e
+module _ {D : Type 0} (seen : D → Option (List ℕ)) (may_leave : D → List ℕ → Type 0) (moment : D → ℕ) (left_since : D → ℕ → List ℕ → Type 0) (faults : D → ℕ) where
+  pub reopened_as_told : (told : Option (List ℕ)) (disk : D) (recs : List Rec) (e : EngineView D) → TellsAtLeast seen may_leave moment left_since faults told disk → IsReopened seen may_leave (seen disk) recs e
       → IsReopened seen may_leave told recs e
   reopened_as_told told disk recs e tells reopened = record { opens = retold told (seen disk) _ tells reopened.opens; apply = reopened.apply; stands = reopened.stands; records = reopened.records }
 
   module _ (w : SaidWords) (told : Option (List ℕ)) (bytes : List ℕ) (count : ℕ) where
     -- an engine that was opened
     pub over_opened : (written0 written1 : Option (List ℕ)) (is_flushed : Bool) (sink0 sink1 : ℕ) (status : Status) (back : Option D)
-        → EndsOver seen may_leave faults w told bytes count written0 written1 is_flushed sink0 sink1 status back → EndsOpened seen may_leave faults w told bytes count written0 written1 is_flushed sink0 sink1 status back
+        → EndsOver seen may_leave moment left_since faults w told bytes count written0 written1 is_flushed sink0 sink1 status back → EndsOpened seen may_leave moment left_since faults w told bytes count written0 written1 is_flushed sink0 sink1 status back
     over_opened written0 written1 is_flushed sink0 sink1 status None h = absurd h
     over_opened written0 written1 is_flushed sink0 sink1 Done (Some disk) h = h
     over_opened written0 written1 is_flushed sink0 sink1 Words (Some disk) h = absurd h
@@ -46,20 +46,20 @@ module _ {D : Type 0} (seen : D → Option (List ℕ)) (may_leave : D → List �
     over_opened written0 written1 is_flushed sink0 sink1 (Differ session place given kept) (Some disk) h = h
     over_opened written0 written1 is_flushed sink0 sink1 NoMemory (Some disk) h = by w.threads h
       where
-        by : (b : Bool) → IsShort seen may_leave faults w told bytes count written0 written1 is_flushed sink0 sink1 b disk → Keeps written0 written1 ⊎ HasWrittenPart seen may_leave faults w told bytes written0 written1 count disk
+        by : (b : Bool) → IsShort seen may_leave moment left_since faults w told bytes count written0 written1 is_flushed sink0 sink1 b disk → Keeps written0 written1 ⊎ HasWrittenPart seen may_leave moment left_since faults w told bytes written0 written1 count disk
         by false wrote = inr wrote
         by true either = either
 
     -- one that was not
     pub ends_unopened : (there : D) (written : Option (List ℕ)) (is_flushed : Bool) (sink : ℕ) (cause : JFault) (disk : D) (status : Status) → status ≡ unopened_as cause
-        → TellsAtLeast seen may_leave faults told there
+        → TellsAtLeast seen may_leave moment left_since faults told there
         → ((offset : ℕ) → cause ≡ journal.Bad offset → IfSome (seen there) (λ f. BadAt f offset)) → (cause ≡ journal.Failed → Rose count (faults disk))
-        → EndsOpened seen may_leave faults w told bytes count written written is_flushed sink sink status (Some disk)
+        → EndsOpened seen may_leave moment left_since faults w told bytes count written written is_flushed sink sink status (Some disk)
     ends_unopened there written is_flushed sink cause disk status is tells bad failed =
-        subst (λ s. EndsOpened seen may_leave faults w told bytes count written written is_flushed sink sink s (Some disk)) (sym is) (by cause bad failed)
+        subst (λ s. EndsOpened seen may_leave moment left_since faults w told bytes count written written is_flushed sink sink s (Some disk)) (sym is) (by cause bad failed)
       where
         by : (cause : JFault) → ((offset : ℕ) → cause ≡ journal.Bad offset → IfSome (seen there) (λ f. BadAt f offset)) → (cause ≡ journal.Failed → Rose count (faults disk))
-            → EndsOpened seen may_leave faults w told bytes count written written is_flushed sink sink (unopened_as cause) (Some disk)
+            → EndsOpened seen may_leave moment left_since faults w told bytes count written written is_flushed sink sink (unopened_as cause) (Some disk)
         by (journal.Bad offset) bad failed = (retold told (seen there) (λ f. BadAt f offset) tells (bad offset refl), Keeps-refl written)
         by journal.Failed bad failed = (failed refl, Keeps-refl written)
         by journal.NoMemory bad failed = inl (Keeps-refl written)
@@ -70,12 +70,12 @@ module _ {D : Type 0} (seen : D → Option (List ℕ)) (may_leave : D → List �
     handed count e = e ∙ ap (handed_out old.openings path) (sym (ap (λ (o : Openings). o.count) e))
 
     abbrev Opened : ℕ → Status → Option D → Type 0
-    Opened count status back = EndsOpened seen may_leave faults w told bytes count old.written new.written new.is_flushed old.sink_faults new.sink_faults status back
+    Opened count status back = EndsOpened seen may_leave moment left_since faults w told bytes count old.written new.written new.is_flushed old.sink_faults new.sink_faults status back
 
-    part : (disk : D) → HasWrittenPart seen may_leave faults w told bytes old.written new.written new.openings.count disk → Part seen may_leave faults w told path old new (Some disk)
+    part : (disk : D) → HasWrittenPart seen may_leave moment left_since faults w told bytes old.written new.written new.openings.count disk → Part seen may_leave moment left_since faults w told path old new (Some disk)
     part disk wrote = record { bytes = bytes; input = input; disk = disk; comes_back = refl; wrote = wrote }
 
-    at_end : new.openings ≡ handed_out old.openings path new.openings.count → (status : Status) (back : Option D) → Opened new.openings.count status back → Ends seen may_leave faults w told path old new back status
+    at_end : new.openings ≡ handed_out old.openings path new.openings.count → (status : Status) (back : Option D) → Opened new.openings.count status back → Ends seen may_leave moment left_since faults w told path old new back status
     at_end out status None h = absurd h
     at_end out Done (Some disk) h = (record { bytes = bytes; input = input; disk = disk; comes_back = refl; wrote = h.0 }, h.1, out)
     at_end out Words (Some disk) h = absurd h
@@ -84,28 +84,28 @@ module _ {D : Type 0} (seen : D → Option (List ℕ)) (may_leave : D → List �
     at_end out SinkFault (Some disk) h = (part disk h.0, h.1, out)
     at_end out (BadJournal offset) (Some disk) h = (h.0, h.1, out)
     at_end out OpenFault (Some disk) h = (h.0, h.1, inl out)
-    at_end out (Differ session place given kept) (Some disk) h = (record { bytes = bytes; input = input; differed = h.0 }, h.1, out)
+    at_end out (Differ session place given kept) (Some disk) h = (record { bytes = bytes; input = input; disk = disk; comes_back = refl; differed = h.0 }, h.1, out)
     at_end out NoMemory (Some disk) h = by h
       where
-        by : Keeps old.written new.written ⊎ HasWrittenPart seen may_leave faults w told bytes old.written new.written new.openings.count disk → Ends seen may_leave faults w told path old new (Some disk) NoMemory
+        by : Keeps old.written new.written ⊎ HasWrittenPart seen may_leave moment left_since faults w told bytes old.written new.written new.openings.count disk → Ends seen may_leave moment left_since faults w told path old new (Some disk) NoMemory
         by (inl kept) = inr (inl kept, out)
         by (inr wrote) = inr (inr (part disk wrote), out)
 
-    pub ends_opened : (count : ℕ) → new.openings ≡ handed_out old.openings path count → (status : Status) (back : Option D) → Opened count status back → Ends seen may_leave faults w told path old new back status
+    pub ends_opened : (count : ℕ) → new.openings ≡ handed_out old.openings path count → (status : Status) (back : Option D) → Opened count status back → Ends seen may_leave moment left_since faults w told path old new back status
     ends_opened count e status back h = at_end (handed count e) status back (subst (λ k. Opened k status back) (sym (ap (λ (o : Openings). o.count) e)) h)
 
 -- ---- a script that is not read, or not made
-module _ {D : Type 0} (seen : D → Option (List ℕ)) (may_leave : D → List ℕ → Type 0) (faults : D → ℕ) (w : SaidWords) (told path left0 left1 written : Option (List ℕ)) (faults0 faults1 sink_faults disks_faults : ℕ) (is_flushed : Bool) (openings : Openings) where
+module _ {D : Type 0} (seen : D → Option (List ℕ)) (may_leave : D → List ℕ → Type 0) (moment : D → ℕ) (left_since : D → ℕ → List ℕ → Type 0) (faults : D → ℕ) (w : SaidWords) (told path left0 left1 written : Option (List ℕ)) (faults0 faults1 sink_faults disks_faults : ℕ) (is_flushed : Bool) (openings : Openings) where
   abbrev before : Outside
   before = record { left = left0; source_faults = faults0; written = written; is_flushed = is_flushed; sink_faults = sink_faults; disks_faults = disks_faults; openings = openings }
 
   abbrev behind : Outside
   behind = record { left = left1; source_faults = faults1; written = written; is_flushed = is_flushed; sink_faults = sink_faults; disks_faults = disks_faults; openings = openings }
 
-  pub ends_unread : (unread : Unread) (status : Status) → status ≡ unread_as unread → WhyNone w.make left0 left1 faults0 faults1 unread → Ends seen may_leave faults w told path before behind None status
-  ends_unread unread status is h = subst (Ends seen may_leave faults w told path before behind None) (sym is) (by w.make refl unread h)
+  pub ends_unread : (unread : Unread) (status : Status) → status ≡ unread_as unread → WhyNone w.make left0 left1 faults0 faults1 unread → Ends seen may_leave moment left_since faults w told path before behind None status
+  ends_unread unread status is h = subst (Ends seen may_leave moment left_since faults w told path before behind None) (sym is) (by w.make refl unread h)
     where
-      by : (m : Option ℕ) → w.make ≡ m → (u : Unread) → WhyNone m left0 left1 faults0 faults1 u → Ends seen may_leave faults w told path before behind None (unread_as u)
+      by : (m : Option ℕ) → w.make ≡ m → (u : Unread) → WhyNone m left0 left1 faults0 faults1 u → Ends seen may_leave moment left_since faults w told path before behind None (unread_as u)
       by None m (why.Script line kind) h = (m, h, Keeps-refl written, refl)
       by None m why.Source h = (m, h, Keeps-refl written, refl)
       by (Some n) m (why.Script line kind) h = absurd h

@@ -15,8 +15,8 @@ from_ok (Ok a) e h = h
 from_ok (Err x) e h = absurd cc
 
 -- a core that goes on is run with the same, and was opened by the same
-pub same_store : {D : Type 0} (seen : D → Option (List ℕ)) (may_leave : D → List ℕ → Type 0) (failures : D → ℕ) (old new : CoreView D) → GoesOn old new → IsSameStore seen may_leave failures old.program (counts_of seen may_leave failures old) new
-same_store seen may_leave failures old new on = record {
+pub same_store : {D : Type 0} (seen : D → Option (List ℕ)) (may_leave : D → List ℕ → Type 0) (moment : D → ℕ) (left_since : D → ℕ → List ℕ → Type 0) (failures : D → ℕ) (old new : CoreView D) → GoesOn old new → IsSameStore seen may_leave moment left_since failures old.program (counts_of seen may_leave moment left_since failures old) new
+same_store seen may_leave moment left_since failures old new on = record {
   program = on.program;
   counts_are = λ i. record {
     combine = (on.settings i).combine;

@@ -42,15 +42,15 @@ front_same {A} xs ys front same = none front.0 front.1
 pub front_map : {A B : Type 0} (f : A → B) (xs ys : List A) → IsFront xs ys → IsFront (map f xs) (map f ys)
 front_map f xs ys front = (map f front.0, ap (map f) front.1 ∙ map-append f xs front.0)
 
-module _ {D : Type 0} (seen : D → Option (List ℕ)) (may_leave : D → List ℕ → Type 0) (failures : D → ℕ) where
+module _ {D : Type 0} (seen : D → Option (List ℕ)) (may_leave : D → List ℕ → Type 0) (moment : D → ℕ) (left_since : D → ℕ → List ℕ → Type 0) (failures : D → ℕ) where
   -- each entry of a run has names
-  pub run_has_names : (c : CoreView D) → IsRun seen may_leave failures c → HaveNames (names_now c) c.entries
+  pub run_has_names : (c : CoreView D) → IsRun seen may_leave moment left_since failures c → HaveNames (names_now c) c.entries
   run_has_names c run =
       subst (λ (n : Counts). AreNamed n c.entries) (names_in_use c.program (state_of c).world.visible)
       (entries_named (rules_of c.settings c.program) reads_binds names_no_table run.within (first_state c) c.entries run.begins.store_stands.steady run.legal)
 
   -- the names of the sessions, and of an engine's tables and views, are those of the world that it stands for
-  pub names_are : (c : CoreView D) (sessions tables views : List (List ℕ)) → IsRun seen may_leave failures c → sessions ≡ codes "setup" ∷ session_names c.program
+  pub names_are : (c : CoreView D) (sessions tables views : List (List ℕ)) → IsRun seen may_leave moment left_since failures c → sessions ≡ codes "setup" ∷ session_names c.program
       → tables ≡ map (λ t. t.name) c.engine.store.tables → views ≡ map (λ v. v.name) c.engine.store.views
       → record { sessions = sessions; tables = tables; views = views } ≡ names_now c
   names_are c sessions tables views run s t v =
@@ -59,7 +59,7 @@ module _ {D : Type 0} (seen : D → Option (List ℕ)) (may_leave : D → List �
       λ i. record { sessions = s i; tables = known_tables i; views = known_views i }
 
   -- names that there were are those that there are, where there are as many
-  module _ (c : CoreView D) (names : Names) (run : IsRun seen may_leave failures c) (were : WereNames names c) where
+  module _ (c : CoreView D) (names : Names) (run : IsRun seen may_leave moment left_since failures c) (were : WereNames names c) where
     pub sessions_stay : names.sessions ≡ codes "setup" ∷ session_names c.program
     sessions_stay = ap (λ (n : Names). n.sessions) were.names_are
 
@@ -78,7 +78,7 @@ module _ {D : Type 0} (seen : D → Option (List ℕ)) (may_leave : D → List �
         ap (λ (n : Names). n.views) were.names_are ∙ (ap (map (λ v. v.name)) (front_same were.then_.views (state_of c).world.visible.views were.views count) ∙ sym (ap (map (λ v. v.name)) now))
 
   -- so they are where those of tables and views are copied anew, unless there are as many
-  pub renewed : (c : CoreView D) (names : Names) (tables views : List (List ℕ)) → IsRun seen may_leave failures c → WereNames names c
+  pub renewed : (c : CoreView D) (names : Names) (tables views : List (List ℕ)) → IsRun seen may_leave moment left_since failures c → WereNames names c
       → ((length names.tables ≡ length c.engine.store.tables → names.tables ≡ map (λ t. t.name) c.engine.store.tables) → tables ≡ map (λ t. t.name) c.engine.store.tables)
       → ((length names.views ≡ length c.engine.store.views → names.views ≡ map (λ v. v.name) c.engine.store.views) → views ≡ map (λ v. v.name) c.engine.store.views)
       → record { sessions = names.sessions; tables = tables; views = views } ≡ names_now c
@@ -86,7 +86,7 @@ module _ {D : Type 0} (seen : D → Option (List ℕ)) (may_leave : D → List �
       names_are c names.sessions tables views run (sessions_stay c names run were) (t (tables_stay c names run were)) (v (views_stay c names run were))
 
   -- the names before an event are names that there were after it
-  pub were_names : (event : Event) (old new : CoreView D) (names : Names) → Gave seen may_leave failures event old new → names ≡ names_now old → WereNames names new
+  pub were_names : (event : Event) (old new : CoreView D) (names : Names) → Gave seen may_leave moment left_since failures event old new → names ≡ names_now old → WereNames names new
   were_names event old new names gave is =
       let grown = given_grows (rules_of old.settings old.program) gave.fails event (state_of old) in
       record {

@@ -1,11 +1,11 @@
 -- What was written is the output of the script, or a part of it.
 use Rattle.std.proofs.Common.{◌≡◌, ℕ, Bool, true, false, List, [], ◌++◌, map, take, drop, inl, inr, refl, sym, ap, ◌∙◌, subst, arith}
-use Rattle.std.specs.Prelude.{◌⊎◌, ◌||◌, Option, Some, None, IfSome, is_some, Ok}
+use Rattle.std.specs.Prelude.{◌⊎◌, ◌≤◌, ◌||◌, Option, Some, None, IfSome, is_some, Ok}
 use Rattle.std.specs.Io.KnownBytes.{Appends, Keeps}
 use Rattle.std.proofs.KnownBytes.{Appends-nil, Keeps-refl}
 use Rattle.std.proofs.lemmas.List.{append-nil, take-append-drop}
 use Rattle.lv_core.specs.Run.{CoreView, IsOpening, IsRun, first_state, rules_of, world_of}
-use Rattle.lv_engine.specs.Kept.{EngineView}
+use Rattle.lv_engine.specs.Kept.{EngineView, length_of}
 use Rattle.lv_lines.specs.Script.{script_of}
 use Rattle.lv_lines.specs.Transcript.{text_of}
 use Rattle.lv_order.specs.Places.{places_after}
@@ -34,6 +34,7 @@ use Rattle.lv_runner.specs.Late.{EndsSummed, EndsThreaded, HasRunBy, HasSummed, 
 use Rattle.lv_runner.specs.Opened.{IsOpened, OpensBy}
 use Rattle.lv_runner.specs.Output.{AreInOrder, begin_state, end_state, failures_in, names_after, names_of, output_by, output_of, run_rules, settings_in}
 use Rattle.lv_runner.specs.Written.{AreFirst, HasPart, HasWritten, HasWrittenPart, is_at_end}
+use Rattle.lv_runner.proofs.Crashes.{leaves_none}
 use Rattle.lv_runner.proofs.Worlds.{IsFrom, OneWorldLaw, as_long, first_is, from_back, from_opened, has_entries, rules_are}
 
 abbrev pub PlacesLaw : Type 0
@@ -46,9 +47,9 @@ AnsweredLaw = (p : Program) → IsFollowable p → all_answered p (places_after 
 at_end_with : (w : SaidWords) (threads : Bool) (made : Option ℕ) → w.threads ≡ threads → w.make ≡ made → is_at_end w ≡ threads || is_some made
 at_end_with w threads made t m i = t i || is_some (m i)
 
-module _ {D : Type 0} (seen : D → Option (List ℕ)) (may_leave : D → List ℕ → Type 0) (failures : D → ℕ) where
+module _ {D : Type 0} (seen : D → Option (List ℕ)) (may_leave : D → List ℕ → Type 0) (moment : D → ℕ) (left_since : D → ℕ → List ℕ → Type 0) (failures : D → ℕ) where
   module _ (w : SaidWords) (told : Option (List ℕ)) (bytes : List ℕ) (p : Program) (script : script_of bytes ≡ Ok p) (recs : List Rec) (count : ℕ) (c : CoreView D)
-      (run : IsRun seen may_leave failures c) (from : IsFrom seen may_leave failures w p recs count c) (opens : IfSome told (λ f. OpensBy w.threads f recs)) where
+      (run : IsRun seen may_leave moment left_since failures c) (from : IsFrom seen may_leave moment left_since failures w p recs count c) (opens : IfSome told (λ f. OpensBy w.threads f recs)) where
     abbrev opened : World
     opened = replay.state_of recs
 
@@ -56,10 +57,10 @@ module _ {D : Type 0} (seen : D → Option (List ℕ)) (may_leave : D → List �
     opened_is = record { recs = recs; opens = opens; apply = from.apply; is = refl }
 
     rules : rules_of c.settings c.program ≡ run_rules w p
-    rules = rules_are seen may_leave failures w p recs count c run from
+    rules = rules_are seen may_leave moment left_since failures w p recs count c run from
 
     first : first_state c ≡ begin_state w p opened
-    first = first_is seen may_leave failures w p recs count c run from
+    first = first_is seen may_leave moment left_since failures w p recs count c run from
 
     legal : Legal (run_rules w p) (begin_state w p opened) c.entries
     legal =
@@ -88,7 +89,7 @@ module _ {D : Type 0} (seen : D → Option (List ℕ)) (may_leave : D → List �
 
     pub wrote_all : (made : Option ℕ) → w.make ≡ made → all_answered p (end_state w p opened c.entries).places ≡ true
         → AreInOrder w.threads p (events_of (run_rules w p) (begin_state w p opened) c.entries)
-        → (written0 written1 : Option (List ℕ)) → Appends written0 written1 (output_now made c) → HasWritten seen may_leave failures w told bytes written0 written1 count c.engine.journal.disk
+        → (written0 written1 : Option (List ℕ)) → Appends written0 written1 (output_now made c) → HasWritten seen may_leave moment left_since failures w told bytes written0 written1 count c.engine.journal.disk
     wrote_all made m answered order written0 written1 wrote = record {
       opened = opened;
       opens = opened_is;
@@ -104,11 +105,11 @@ module _ {D : Type 0} (seen : D → Option (List ℕ)) (may_leave : D → List �
         text_is = refl;
       };
       wrote = subst (Appends written0 written1) (output_is made m) wrote;
-      has = has_entries seen may_leave failures w p recs count c run from;
+      has = has_entries seen may_leave moment left_since failures w p recs count c run from;
     }
 
     pub wrote_part : AreFirst w.threads p (events_of (run_rules w p) (begin_state w p opened) c.entries)
-        → (written0 written1 : Option (List ℕ)) → HasPart (is_at_end w) w p opened c.entries written0 written1 → HasWrittenPart seen may_leave failures w told bytes written0 written1 count c.engine.journal.disk
+        → (written0 written1 : Option (List ℕ)) → HasPart (is_at_end w) w p opened c.entries written0 written1 → HasWrittenPart seen may_leave moment left_since failures w told bytes written0 written1 count c.engine.journal.disk
     wrote_part order written0 written1 wrote = record {
       program = p;
       script = script;
@@ -118,7 +119,7 @@ module _ {D : Type 0} (seen : D → Option (List ℕ)) (may_leave : D → List �
       legal = legal;
       order = order;
       wrote = wrote;
-      has = has_entries seen may_leave failures w p recs count c run from;
+      has = has_entries seen may_leave moment left_since failures w p recs count c run from;
     }
 
     -- a front of the whole output
@@ -165,30 +166,30 @@ module _ {D : Type 0} (seen : D → Option (List ℕ)) (may_leave : D → List �
     first_in_threads t = subst (λ b. AreFirst b p (events_of (run_rules w p) (begin_state w p opened) c.entries)) (sym t) tt
 
   -- ---- how a run ends over the engine that it began with
-  module _ (w : SaidWords) (told : Option (List ℕ)) (bytes : List ℕ) (p : Program) (count : ℕ) (e : EngineView D) (begun_ : HasBegun seen may_leave failures told bytes p count e)
+  module _ (w : SaidWords) (told : Option (List ℕ)) (bytes : List ℕ) (p : Program) (count : ℕ) (e : EngineView D) (begun_ : HasBegun seen may_leave moment left_since failures told bytes p count e)
       (law : OneWorldLaw) (fresh : IsOpening e) (written0 written1 : Option (List ℕ)) (is_flushed : Bool) (faults0 faults1 : ℕ) where
     abbrev Over : Status → Option D → Type 0
-    Over status back = EndsOver seen may_leave failures w told bytes count written0 written1 is_flushed faults0 faults1 status back
+    Over status back = EndsOver seen may_leave moment left_since failures w told bytes count written0 written1 is_flushed faults0 faults1 status back
 
-    short_over : (b : Bool) → w.threads ≡ b → (disk : D) → IsShort seen may_leave failures w told bytes count written0 written1 is_flushed faults0 faults1 b disk → Over NoMemory (Some disk)
-    short_over b t disk h = subst (λ x. IsShort seen may_leave failures w told bytes count written0 written1 is_flushed faults0 faults1 x disk) (sym t) h
+    short_over : (b : Bool) → w.threads ≡ b → (disk : D) → IsShort seen may_leave moment left_since failures w told bytes count written0 written1 is_flushed faults0 faults1 b disk → Over NoMemory (Some disk)
+    short_over b t disk h = subst (λ x. IsShort seen may_leave moment left_since failures w told bytes count written0 written1 is_flushed faults0 faults1 x disk) (sym t) h
 
     -- ---- without threads
     module _ (places : PlacesLaw) (answered : AnsweredLaw) (followable : IsFollowable p) (alone : w.threads ≡ false) where
       abbrev opens : IfSome told (λ f. OpensBy w.threads f begun_.recs)
       opens = subst (λ b. IfSome told (λ f. OpensBy b f begun_.recs)) (sym alone) begun_.reopened.opens
 
-      module _ (c : CoreView D) (run : IsRun seen may_leave failures c) (from : IsFrom seen may_leave failures w p begun_.recs count c) where
+      module _ (c : CoreView D) (run : IsRun seen may_leave moment left_since failures c) (from : IsFrom seen may_leave moment left_since failures w p begun_.recs count c) where
         part : (k : ℕ) → HasFollowed c (take k (schedule p)) → HasPart (is_at_end w) w p (replay.state_of begun_.recs) c.entries written0 written1
-            → HasWrittenPart seen may_leave failures w told bytes written0 written1 count c.engine.journal.disk
+            → HasWrittenPart seen may_leave moment left_since failures w told bytes written0 written1 count c.engine.journal.disk
         part k followed wrote =
             wrote_part w told bytes p begun_.script begun_.recs count c run from opens (are_first w told bytes p begun_.script begun_.recs count c run from opens alone k followed) written0 written1 wrote
 
-        stopped_part : w.make ≡ None → HasStopped c (schedule p) written0 written1 → HasWrittenPart seen may_leave failures w told bytes written0 written1 count c.engine.journal.disk
+        stopped_part : w.make ≡ None → HasStopped c (schedule p) written0 written1 → HasWrittenPart seen may_leave moment left_since failures w told bytes written0 written1 count c.engine.journal.disk
         stopped_part m stopped =
             part stopped.count stopped.followed (front_of_next w told bytes p begun_.script begun_.recs count c run from opens (at_end_with w false None alone m) written0 written1 stopped)
 
-        ordered_at : w.make ≡ None → (status : Status) → EndsAt seen may_leave failures c (schedule p) written0 written1 is_flushed faults0 faults1 status → Over status (Some c.engine.journal.disk)
+        ordered_at : w.make ≡ None → (status : Status) → EndsAt seen may_leave moment left_since failures c (schedule p) written0 written1 is_flushed faults0 faults1 status → Over status (Some c.engine.journal.disk)
         ordered_at m Done ends = (
           wrote_all w told bytes p begun_.script begun_.recs count c run from opens None m
               (all_came w told bytes p begun_.script begun_.recs count c run from opens places answered followable ends.0)
@@ -204,19 +205,19 @@ module _ {D : Type 0} (seen : D → Option (List ℕ)) (may_leave : D → List �
         ordered_at m (Differ session place given kept) ends = absurd ends
         ordered_at m NoMemory ends = short_over false alone c.engine.journal.disk (stopped_part m ends)
 
-        front_part : (n : ℕ) → w.make ≡ Some n → HasFollowed c (schedule p) → AppendsFront written0 written1 (output_now (Some n) c) → HasWrittenPart seen may_leave failures w told bytes written0 written1 count c.engine.journal.disk
+        front_part : (n : ℕ) → w.make ≡ Some n → HasFollowed c (schedule p) → AppendsFront written0 written1 (output_now (Some n) c) → HasWrittenPart seen may_leave moment left_since failures w told bytes written0 written1 count c.engine.journal.disk
         front_part n m followed wrote =
             wrote_part w told bytes p begun_.script begun_.recs count c run from opens (all_first w told bytes p begun_.script begun_.recs count c run from opens alone followed) written0 written1
             (front_of_all w told bytes p begun_.script begun_.recs count c run from opens (Some n) m (at_end_with w false (Some n) alone m)
             (all_came w told bytes p begun_.script begun_.recs count c run from opens places answered followable followed) written0 written1 wrote)
 
         short_summed : (n : ℕ) → w.make ≡ Some n → (HasCome c (schedule p) × Keeps written0 written1) ⊎ (HasFollowed c (schedule p) × AppendsFront written0 written1 (output_now (Some n) c))
-            → HasWrittenPart seen may_leave failures w told bytes written0 written1 count c.engine.journal.disk
+            → HasWrittenPart seen may_leave moment left_since failures w told bytes written0 written1 count c.engine.journal.disk
         short_summed n m (inl h) =
             part h.0.count h.0.followed (nothing_yet w told bytes p begun_.script begun_.recs count c run from opens (at_end_with w false (Some n) alone m) written0 written1 h.1)
         short_summed n m (inr h) = front_part n m h.0 h.1
 
-        summed_at : (n : ℕ) → w.make ≡ Some n → (status : Status) → EndsSummed seen may_leave failures (Some n) c (schedule p) written0 written1 is_flushed faults0 faults1 status
+        summed_at : (n : ℕ) → w.make ≡ Some n → (status : Status) → EndsSummed seen may_leave moment left_since failures (Some n) c (schedule p) written0 written1 is_flushed faults0 faults1 status
             → Over status (Some c.engine.journal.disk)
         summed_at n m Done ends = (
           wrote_all w told bytes p begun_.script begun_.recs count c run from opens (Some n) m
@@ -236,54 +237,54 @@ module _ {D : Type 0} (seen : D → Option (List ℕ)) (may_leave : D → List �
       -- a core that was just made, and goes on
       module _ (old : CoreView D) (events : List Event) (status : Status) (back : Option D) (program : old.program ≡ p) (settings : old.settings ≡ settings_in w) (opened_ : old.opened ≡ e)
           (are : events ≡ schedule p) where
-        later : (new : CoreView D) → GoesOn old new → IsFrom seen may_leave failures w p begun_.recs count new
+        later : (new : CoreView D) → GoesOn old new → IsFrom seen may_leave moment left_since failures w p begun_.recs count new
         later new same =
-            from_opened seen may_leave failures w told bytes p count e begun_ law fresh new (same.program ∙ program) (same.settings ∙ settings) (same.opened ∙ opened_)
+            from_opened seen may_leave moment left_since failures w told bytes p count e begun_ law fresh new (same.program ∙ program) (same.settings ∙ settings) (same.opened ∙ opened_)
 
-        ends_ordered : w.make ≡ None → HasRun seen may_leave failures old events written0 written1 is_flushed faults0 faults1 status back → Over status back
+        ends_ordered : w.make ≡ None → HasRun seen may_leave moment left_since failures old events written0 written1 is_flushed faults0 faults1 status back → Over status back
         ends_ordered m ran =
-            let ends = subst (λ es. EndsAt seen may_leave failures ran.new es written0 written1 is_flushed faults0 faults1 status) are ran.ends in
+            let ends = subst (λ es. EndsAt seen may_leave moment left_since failures ran.new es written0 written1 is_flushed faults0 faults1 status) are ran.ends in
             subst (Over status) (sym ran.disk) (ordered_at ran.new ran.run (later ran.new ran.same) m status ends)
 
-        ends_summed : (n : ℕ) → w.make ≡ Some n → HasSummed seen may_leave failures (Some n) old events written0 written1 is_flushed faults0 faults1 status back → Over status back
+        ends_summed : (n : ℕ) → w.make ≡ Some n → HasSummed seen may_leave moment left_since failures (Some n) old events written0 written1 is_flushed faults0 faults1 status back → Over status back
         ends_summed n m ran =
-            let ends = subst (λ es. EndsSummed seen may_leave failures (Some n) ran.new es written0 written1 is_flushed faults0 faults1 status) are ran.ends in
+            let ends = subst (λ es. EndsSummed seen may_leave moment left_since failures (Some n) ran.new es written0 written1 is_flushed faults0 faults1 status) are ran.ends in
             subst (Over status) (sym ran.disk) (summed_at ran.new ran.run (later ran.new ran.same) n m status ends)
 
-        ends_by : (made : Option ℕ) → w.make ≡ made → HasRunBy seen may_leave failures made old events written0 written1 is_flushed faults0 faults1 status back → Over status back
+        ends_by : (made : Option ℕ) → w.make ≡ made → HasRunBy seen may_leave moment left_since failures made old events written0 written1 is_flushed faults0 faults1 status back → Over status back
         ends_by None m ran = ends_ordered m ran
         ends_by (Some n) m ran = ends_summed n m ran
 
-        pub ends_alone : HasRunBy seen may_leave failures w.make old events written0 written1 is_flushed faults0 faults1 status back → Over status back
+        pub ends_alone : HasRunBy seen may_leave moment left_since failures w.make old events written0 written1 is_flushed faults0 faults1 status back → Over status back
         ends_alone ran = ends_by w.make refl ran
 
     -- ---- in threads
     module _ (beside : w.threads ≡ true) (m : w.make ≡ None) (old : CoreView D) (settings : old.settings ≡ settings_in w) (opened_ : old.opened ≡ e) where
-      module _ (c : CoreView D) (run : IsRun seen may_leave failures c) where
-        module _ (same : IsSameStore seen may_leave failures p (counts_of seen may_leave failures old) c) where
-          abbrev from : IsFrom seen may_leave failures w p run.recs count c
-          from = from_back seen may_leave failures w told bytes p count e begun_ law fresh old c settings opened_ run same
+      module _ (c : CoreView D) (run : IsRun seen may_leave moment left_since failures c) where
+        module _ (same : IsSameStore seen may_leave moment left_since failures p (counts_of seen may_leave moment left_since failures old) c) where
+          abbrev from : IsFrom seen may_leave moment left_since failures w p run.recs count c
+          from = from_back seen may_leave moment left_since failures w told bytes p count e begun_ law fresh old c settings opened_ run same
 
           abbrev long : IfSome told (λ f. OpensBy w.threads f run.recs)
-          long = as_long seen may_leave failures w told bytes p count e begun_ law fresh old c settings opened_ run same beside
+          long = as_long seen may_leave moment left_since failures w told bytes p count e begun_ law fresh old c settings opened_ run same beside
 
-          back_front : IsAnswered c → AppendsFront written0 written1 (output_now None c) → HasWrittenPart seen may_leave failures w told bytes written0 written1 count c.engine.journal.disk
+          back_front : IsAnswered c → AppendsFront written0 written1 (output_now None c) → HasWrittenPart seen may_leave moment left_since failures w told bytes written0 written1 count c.engine.journal.disk
           back_front none wrote =
               wrote_part w told bytes p begun_.script run.recs count c run from long (first_in_threads w told bytes p begun_.script run.recs count c run from long beside) written0 written1
               (front_of_all w told bytes p begun_.script run.recs count c run from long None m (at_end_with w true None beside m)
               (left_none w told bytes p begun_.script run.recs count c run from long none) written0 written1 wrote)
 
-          back_all : IsAnswered c → Appends written0 written1 (output_now None c) → HasWritten seen may_leave failures w told bytes written0 written1 count c.engine.journal.disk
+          back_all : IsAnswered c → Appends written0 written1 (output_now None c) → HasWritten seen may_leave moment left_since failures w told bytes written0 written1 count c.engine.journal.disk
           back_all none wrote =
               wrote_all w told bytes p begun_.script run.recs count c run from long None m (left_none w told bytes p begun_.script run.recs count c run from long none)
               (in_threads w told bytes p begun_.script run.recs count c run from long beside) written0 written1 wrote
 
-        back_short : Keeps written0 written1 ⊎ (IsSameStore seen may_leave failures p (counts_of seen may_leave failures old) c × IsAnswered c × AppendsFront written0 written1 (output_now None c))
-            → Keeps written0 written1 ⊎ HasWrittenPart seen may_leave failures w told bytes written0 written1 count c.engine.journal.disk
+        back_short : Keeps written0 written1 ⊎ (IsSameStore seen may_leave moment left_since failures p (counts_of seen may_leave moment left_since failures old) c × IsAnswered c × AppendsFront written0 written1 (output_now None c))
+            → Keeps written0 written1 ⊎ HasWrittenPart seen may_leave moment left_since failures w told bytes written0 written1 count c.engine.journal.disk
         back_short (inl kept) = inl kept
         back_short (inr h) = inr (back_front h.0 h.1 h.2)
 
-        threaded_at : (status : Status) → EndsThreaded seen may_leave failures p (counts_of seen may_leave failures old) c written0 written1 is_flushed faults0 faults1 status → Over status (Some c.engine.journal.disk)
+        threaded_at : (status : Status) → EndsThreaded seen may_leave moment left_since failures p (counts_of seen may_leave moment left_since failures old) c written0 written1 is_flushed faults0 faults1 status → Over status (Some c.engine.journal.disk)
         threaded_at Done ends = (back_all ends.0 ends.1 ends.2, ends.3)
         threaded_at Words ends = absurd ends
         threaded_at (Script line kind) ends = absurd ends
@@ -296,37 +297,42 @@ module _ {D : Type 0} (seen : D → Option (List ℕ)) (may_leave : D → List �
             threads = beside;
             program = p;
             script = begun_.script;
-            kept = c.program;
-            given_counts = counts_of seen may_leave failures old;
-            kept_counts = counts_of seen may_leave failures c;
+            recs = begun_.recs;
+            opens = begun_.reopened.opens;
+            given_counts = counts_of seen may_leave moment left_since failures old;
             combine = ap (λ (s : Settings). s.combine) settings;
             log_limit = ap (λ (s : Settings). s.limit) settings;
             policy = ap (λ (s : Settings). s.policy) settings;
+            length = ap (λ (o : EngineView D). length_of o.journal) opened_ ∙ begun_.reopened.stands.journal_is;
+            counted = subst (λ (o : EngineView D). count ≤ failures o.journal.disk) (sym opened_) begun_.counted;
+            kept = c;
+            run = run;
+            disk_is = refl;
             differ = ends.0;
           },
           ends.1,
         )
         threaded_at NoMemory ends = short_over true beside c.engine.journal.disk (back_short ends)
 
-      pub ends_beside : (status : Status) (back : Option D) → HasThreaded seen may_leave failures p (counts_of seen may_leave failures old) written0 written1 is_flushed faults0 faults1 status back → Over status back
+      pub ends_beside : (status : Status) (back : Option D) → HasThreaded seen may_leave moment left_since failures p (counts_of seen may_leave moment left_since failures old) written0 written1 is_flushed faults0 faults1 status back → Over status back
       ends_beside status back ran = subst (Over status) (sym ran.disk) (threaded_at ran.new ran.run status ran.ends)
 
   -- want of memory
   module _ (w : SaidWords) (told : Option (List ℕ)) (bytes : List ℕ) (count : ℕ) (written0 written1 : Option (List ℕ)) (is_flushed : Bool) (faults0 faults1 : ℕ) where
-    pub short_alone : w.threads ≡ false → (disk : D) → HasWrittenPart seen may_leave failures w told bytes written0 written1 count disk
-        → EndsOver seen may_leave failures w told bytes count written0 written1 is_flushed faults0 faults1 NoMemory (Some disk)
-    short_alone t disk h = subst (λ b. IsShort seen may_leave failures w told bytes count written0 written1 is_flushed faults0 faults1 b disk) (sym t) h
+    pub short_alone : w.threads ≡ false → (disk : D) → HasWrittenPart seen may_leave moment left_since failures w told bytes written0 written1 count disk
+        → EndsOver seen may_leave moment left_since failures w told bytes count written0 written1 is_flushed faults0 faults1 NoMemory (Some disk)
+    short_alone t disk h = subst (λ b. IsShort seen may_leave moment left_since failures w told bytes count written0 written1 is_flushed faults0 faults1 b disk) (sym t) h
 
-    pub short_beside : w.threads ≡ true → (disk : D) → Keeps written0 written1 → EndsOver seen may_leave failures w told bytes count written0 written1 is_flushed faults0 faults1 NoMemory (Some disk)
-    short_beside t disk h = subst (λ b. IsShort seen may_leave failures w told bytes count written0 written1 is_flushed faults0 faults1 b disk) (sym t) (inl h)
+    pub short_beside : w.threads ≡ true → (disk : D) → Keeps written0 written1 → EndsOver seen may_leave moment left_since failures w told bytes count written0 written1 is_flushed faults0 faults1 NoMemory (Some disk)
+    short_beside t disk h = subst (λ b. IsShort seen may_leave moment left_since failures w told bytes count written0 written1 is_flushed faults0 faults1 b disk) (sym t) (inl h)
 
   -- where no core was made
-  module _ (w : SaidWords) (told : Option (List ℕ)) (bytes : List ℕ) (p : Program) (count : ℕ) (e : EngineView D) (begun_ : HasBegun seen may_leave failures told bytes p count e) (written : Option (List ℕ)) where
+  module _ (w : SaidWords) (told : Option (List ℕ)) (bytes : List ℕ) (p : Program) (count : ℕ) (e : EngineView D) (begun_ : HasBegun seen may_leave moment left_since failures told bytes p count e) (only_now : (disk : D) (image : List ℕ) → left_since disk (moment disk) image → may_leave disk image) (written : Option (List ℕ)) where
     at_once_part : (b : Bool) → HasPart b w p (replay.state_of begun_.recs) [] written written
     at_once_part false = record { whole = []; next = []; are = refl; one = omega arith; front = 0; wrote = Appends-nil written }
     at_once_part true = inl (Keeps-refl written)
 
-    pub ends_at_once : w.threads ≡ false → HasWrittenPart seen may_leave failures w told bytes written written count e.journal.disk
+    pub ends_at_once : w.threads ≡ false → HasWrittenPart seen may_leave moment left_since failures w told bytes written written count e.journal.disk
     ends_at_once alone =
         let stands = begun_.reopened.records.stands in
         record {
@@ -346,38 +352,39 @@ module _ {D : Type 0} (seen : D → Option (List ℕ)) (may_leave : D → List �
               images = λ image left. subst (λ rs. RecordsIn (map spelling rs) None image) (sym (append-nil begun_.recs))
                   (told_in (map spelling begun_.recs) None (Some image) stands.payloads stands.doubtful (stands.images image left));
             };
+            left = leaves_none seen may_leave moment left_since failures only_now e begun_.recs begun_.reopened.records begun_.reopened.apply;
             caused = omega (arith, begun_.counted);
           };
         }
 
   -- ---- how a run over a core ends
   module _ (old new : CoreView D) (events : List Event) (written0 written1 : Option (List ℕ)) (is_flushed : Bool) (faults0 faults1 : ℕ) (status : Status) (back : Option D) where
-    pub has_run : IsRun seen may_leave failures new → GoesOn old new → back ≡ Some new.engine.journal.disk → (s : Status) → status ≡ s
-        → EndsAt seen may_leave failures new events written0 written1 is_flushed faults0 faults1 s → HasRun seen may_leave failures old events written0 written1 is_flushed faults0 faults1 status back
+    pub has_run : IsRun seen may_leave moment left_since failures new → GoesOn old new → back ≡ Some new.engine.journal.disk → (s : Status) → status ≡ s
+        → EndsAt seen may_leave moment left_since failures new events written0 written1 is_flushed faults0 faults1 s → HasRun seen may_leave moment left_since failures old events written0 written1 is_flushed faults0 faults1 status back
     has_run run same disk s is ends = record {
       new = new;
       run = run;
       same = same;
       disk = disk;
-      ends = subst (EndsAt seen may_leave failures new events written0 written1 is_flushed faults0 faults1) (sym is) ends;
+      ends = subst (EndsAt seen may_leave moment left_since failures new events written0 written1 is_flushed faults0 faults1) (sym is) ends;
     }
 
-    pub has_summed : (made : Option ℕ) → IsRun seen may_leave failures new → GoesOn old new → back ≡ Some new.engine.journal.disk → (s : Status) → status ≡ s
-        → EndsSummed seen may_leave failures made new events written0 written1 is_flushed faults0 faults1 s → HasSummed seen may_leave failures made old events written0 written1 is_flushed faults0 faults1 status back
+    pub has_summed : (made : Option ℕ) → IsRun seen may_leave moment left_since failures new → GoesOn old new → back ≡ Some new.engine.journal.disk → (s : Status) → status ≡ s
+        → EndsSummed seen may_leave moment left_since failures made new events written0 written1 is_flushed faults0 faults1 s → HasSummed seen may_leave moment left_since failures made old events written0 written1 is_flushed faults0 faults1 status back
     has_summed made run same disk s is ends = record {
       new = new;
       run = run;
       same = same;
       disk = disk;
-      ends = subst (EndsSummed seen may_leave failures made new events written0 written1 is_flushed faults0 faults1) (sym is) ends;
+      ends = subst (EndsSummed seen may_leave moment left_since failures made new events written0 written1 is_flushed faults0 faults1) (sym is) ends;
     }
 
   pub has_threaded : (p : Program) (counts : Counts) (new : CoreView D) (written0 written1 : Option (List ℕ)) (is_flushed : Bool) (faults0 faults1 : ℕ) (status : Status) (back : Option D)
-      → IsRun seen may_leave failures new → back ≡ Some new.engine.journal.disk → (s : Status) → status ≡ s
-      → EndsThreaded seen may_leave failures p counts new written0 written1 is_flushed faults0 faults1 s → HasThreaded seen may_leave failures p counts written0 written1 is_flushed faults0 faults1 status back
+      → IsRun seen may_leave moment left_since failures new → back ≡ Some new.engine.journal.disk → (s : Status) → status ≡ s
+      → EndsThreaded seen may_leave moment left_since failures p counts new written0 written1 is_flushed faults0 faults1 s → HasThreaded seen may_leave moment left_since failures p counts written0 written1 is_flushed faults0 faults1 status back
   has_threaded p counts new written0 written1 is_flushed faults0 faults1 status back run disk s is ends = record {
     new = new;
     run = run;
     disk = disk;
-    ends = subst (EndsThreaded seen may_leave failures p counts new written0 written1 is_flushed faults0 faults1) (sym is) ends;
+    ends = subst (EndsThreaded seen may_leave moment left_since failures p counts new written0 written1 is_flushed faults0 faults1) (sym is) ends;
   }

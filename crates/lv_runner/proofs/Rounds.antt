@@ -15,21 +15,21 @@ use Rattle.lv_runner.specs.Late.{IsAnswered}
 use Rattle.lv_runner.specs.Rounds.{HasTurned, HasTurnedOnce, IsRoundDone}
 use Rattle.lv_runner.proofs.RoundPlaces.{all_left_none, left_none, length_after, more_here, none_left, same_there, setup_waits, waits}
 
-module _ {D : Type 0} (seen : D → Option (List ℕ)) (may_leave : D → List ℕ → Type 0) (failures : D → ℕ) where
+module _ {D : Type 0} (seen : D → Option (List ℕ)) (may_leave : D → List ℕ → Type 0) (moment : D → ℕ) (left_since : D → ℕ → List ℕ → Type 0) (failures : D → ℕ) where
   -- there is a place for each session
-  places_count : (c : CoreView D) → IsRun seen may_leave failures c → length c.places ≡ session_count c.program
+  places_count : (c : CoreView D) → IsRun seen may_leave moment left_since failures c → length c.places ≡ session_count c.program
   places_count c run =
       ap length run.places_are
       ∙ (ap length (places_from (rules_of c.settings c.program) (first_state c) c.entries)
       ∙ (length_after (events_of (rules_of c.settings c.program) (first_state c) c.entries) (first_places c.program) ∙ length-replicate (session_count c.program) 0))
 
   -- ---- one turn
-  turned_places : (session : ℕ) (old new : CoreView D) → IsRun seen may_leave failures old → Gave seen may_leave failures (turn_of session) old new → new.places ≡ one_more old.places session
+  turned_places : (session : ℕ) (old new : CoreView D) → IsRun seen may_leave moment left_since failures old → Gave seen may_leave moment left_since failures (turn_of session) old new → new.places ≡ one_more old.places session
   turned_places session old new run gave =
       gave.run.places_are ∙ (ap (λ (s : State). s.places) gave.state ∙ ap (λ (ps : Places). one_more ps session) (sym run.places_are))
 
-  pub turned_once : (session : ℕ) (old new : CoreView D) → IsRun seen may_leave failures old → session < session_count old.program → may_turn old.program old.places session ≡ true
-      → Gave seen may_leave failures (turn_of session) old new → HasTurnedOnce old new session
+  pub turned_once : (session : ℕ) (old new : CoreView D) → IsRun seen may_leave moment left_since failures old → session < session_count old.program → may_turn old.program old.places session ≡ true
+      → Gave seen may_leave moment left_since failures (turn_of session) old new → HasTurnedOnce old new session
   turned_once session old new run known may gave =
       let are = turned_places session old new run gave in
       let there : session < length old.places = omega (arith, known, places_count old run) in
@@ -42,8 +42,8 @@ module _ {D : Type 0} (seen : D → Option (List ℕ)) (may_leave : D → List �
       true_or_false : (b : Bool) → b ≡ true → b ≡ false → ⊥
       true_or_false b e f = cc
 
-  pub turned_if : (session : ℕ) (old new : CoreView D) {E : Type 0} (result : Result (Unit {0}) E) → IsRun seen may_leave failures old → session < session_count old.program
-      → may_turn old.program old.places session ≡ true → OnOk result (Gave seen may_leave failures (turn_of session) old new) → OnOk result (HasTurnedOnce old new session)
+  pub turned_if : (session : ℕ) (old new : CoreView D) {E : Type 0} (result : Result (Unit {0}) E) → IsRun seen may_leave moment left_since failures old → session < session_count old.program
+      → may_turn old.program old.places session ≡ true → OnOk result (Gave seen may_leave moment left_since failures (turn_of session) old new) → OnOk result (HasTurnedOnce old new session)
   turned_if session old new (Ok done) run known may gave = turned_once session old new run known may gave
   turned_if session old new (Err e) run known may gave = tt
 

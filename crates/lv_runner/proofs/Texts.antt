@@ -46,14 +46,14 @@ module _ {D : Type 0} (old new : CoreView D) (same : IsSame old new) where
   pub goes_on_same : GoesOn old new
   goes_on_same = record { program = same.program; settings = same.settings; opened = same.opened }
 
-module _ {D : Type 0} (seen : D → Option (List ℕ)) (may_leave : D → List ℕ → Type 0) (failures : D → ℕ) where
-  pub goes_on_gave : (event : Event) (old new : CoreView D) → Gave seen may_leave failures event old new → GoesOn old new
+module _ {D : Type 0} (seen : D → Option (List ℕ)) (may_leave : D → List ℕ → Type 0) (moment : D → ℕ) (left_since : D → ℕ → List ℕ → Type 0) (failures : D → ℕ) where
+  pub goes_on_gave : (event : Event) (old new : CoreView D) → Gave seen may_leave moment left_since failures event old new → GoesOn old new
   goes_on_gave event old new gave = record { program = gave.program; settings = gave.settings; opened = gave.opened }
 
-  module _ (more : MoreNamesLaw) (event : Event) (old new : CoreView D) (run : IsRun seen may_leave failures old) (gave : Gave seen may_leave failures event old new) where
+  module _ (more : MoreNamesLaw) (event : Event) (old new : CoreView D) (run : IsRun seen may_leave moment left_since failures old) (gave : Gave seen may_leave moment left_since failures event old new) where
     -- the entries before have the same text under the names after an event
     before_same : text_of (names_now new) old.entries ≡ text_now old
-    before_same = sym (more (names_now old) (names_now new) old.entries (run_has_names seen may_leave failures old run) sessions tables views)
+    before_same = sym (more (names_now old) (names_now new) old.entries (run_has_names seen may_leave moment left_since failures old run) sessions tables views)
       where
         grown : IsFront (state_of old).world.visible.tables (state_of new).world.visible.tables × IsFront (state_of old).world.visible.views (state_of new).world.visible.views
         grown = subst (λ (s : State). IsFront (state_of old).world.visible.tables s.world.visible.tables × IsFront (state_of old).world.visible.views s.world.visible.views) (sym gave.state)
@@ -73,12 +73,12 @@ module _ {D : Type 0} (seen : D → Option (List ℕ)) (may_leave : D → List �
     text_goes_on joined one e is =
         ap (text_of (names_now new)) is ∙ (joined (names_now new) old.entries (e ∷ []) ∙ λ i. before_same i ++ one (names_now new) e i)
 
-  abbrev given : (event : Event) (old new : CoreView D) → Gave seen may_leave failures event old new → Entry
+  abbrev given : (event : Event) (old new : CoreView D) → Gave seen may_leave moment left_since failures event old new → Entry
   given event old new gave = (give (rules_of old.settings old.program) gave.fails event (state_of old)).entry
 
   -- what is written once an event is answered
-  pub wrote_next : MoreNamesLaw → JoinedLaw → OneLaw → (event : Event) (old new : CoreView D) (written0 written written1 : Option (List ℕ)) → IsRun seen may_leave failures old
-      → Appends written0 written (text_now old) → HasAnswered seen may_leave failures event old new written written1 → Appends written0 written1 (text_now new)
+  pub wrote_next : MoreNamesLaw → JoinedLaw → OneLaw → (event : Event) (old new : CoreView D) (written0 written written1 : Option (List ℕ)) → IsRun seen may_leave moment left_since failures old
+      → Appends written0 written (text_now old) → HasAnswered seen may_leave moment left_since failures event old new written written1 → Appends written0 written1 (text_now new)
   wrote_next more joined one event old new written0 written written1 run before answered =
       let e = given event old new answered.gave in
       subst (Appends written0 written1) (sym (text_goes_on more event old new run answered.gave joined one e answered.gave.entry))
@@ -98,15 +98,15 @@ module _ {D : Type 0} (seen : D → Option (List ℕ)) (may_leave : D → List �
     wrote = subst (Appends written0 written1) (sym (text_same old new same) ∙ sym (append-nil (text_now new))) (Appends-kept written0 written written1 (text_now old) before kept);
   }
 
-  stopped_more : MoreNamesLaw → OneLaw → (events : List Event) (i : ℕ) (d : Event) (old new : CoreView D) (written0 written written1 : Option (List ℕ)) → IsRun seen may_leave failures old → i < length events
-      → HasFollowed old (take i events) → Appends written0 written (text_now old) → HasBrokenOff seen may_leave failures (get_or events i d) old new written written1 → HasStopped new events written0 written1
+  stopped_more : MoreNamesLaw → OneLaw → (events : List Event) (i : ℕ) (d : Event) (old new : CoreView D) (written0 written written1 : Option (List ℕ)) → IsRun seen may_leave moment left_since failures old → i < length events
+      → HasFollowed old (take i events) → Appends written0 written (text_now old) → HasBrokenOff seen may_leave moment left_since failures (get_or events i d) old new written written1 → HasStopped new events written0 written1
   stopped_more more one events i d old new written0 written written1 run lt followed before broken =
       let event = get_or events i d in
       let e = given event old new broken.gave in
       let front = broken.wrote e broken.gave.entry in
       record {
         count = i + 1;
-        followed = followed_next seen may_leave failures events i d old new lt broken.gave followed;
+        followed = followed_next seen may_leave moment left_since failures events i d old new lt broken.gave followed;
         entries = old.entries;
         next = e ∷ [];
         one = omega arith;
@@ -117,35 +117,35 @@ module _ {D : Type 0} (seen : D → Option (List ℕ)) (may_leave : D → List �
             (Appends-trans written0 written written1 (text_now old) (take front.count (entry_text (names_now new) e)) before front.front);
       }
 
-  pub stopped_at : MoreNamesLaw → OneLaw → (events : List Event) (i : ℕ) (d : Event) (old new : CoreView D) (written0 written written1 : Option (List ℕ)) → IsRun seen may_leave failures old → i < length events
-      → HasFollowed old (take i events) → Appends written0 written (text_now old) → HasStoppedAt seen may_leave failures (get_or events i d) old new written written1 → HasStopped new events written0 written1
+  pub stopped_at : MoreNamesLaw → OneLaw → (events : List Event) (i : ℕ) (d : Event) (old new : CoreView D) (written0 written written1 : Option (List ℕ)) → IsRun seen may_leave moment left_since failures old → i < length events
+      → HasFollowed old (take i events) → Appends written0 written (text_now old) → HasStoppedAt seen may_leave moment left_since failures (get_or events i d) old new written written1 → HasStopped new events written0 written1
   stopped_at more one events i d old new written0 written written1 run lt followed before (inl same) = stopped_same old new events i written0 written written1 followed before same.0 same.1
   stopped_at more one events i d old new written0 written written1 run lt followed before (inr broken) =
       stopped_more more one events i d old new written0 written written1 run lt followed before broken
 
-  pub goes_on_at : (event : Event) (old new : CoreView D) (written written1 : Option (List ℕ)) → HasStoppedAt seen may_leave failures event old new written written1 → GoesOn old new
+  pub goes_on_at : (event : Event) (old new : CoreView D) (written written1 : Option (List ℕ)) → HasStoppedAt seen may_leave moment left_since failures event old new written written1 → GoesOn old new
   goes_on_at event old new written written1 (inl same) = goes_on_same old new same.0
   goes_on_at event old new written written1 (inr broken) = goes_on_gave event old new broken.gave
 
 -- ---- one event, answered and written
-module _ {D : Type 0} (seen : D → Option (List ℕ)) (may_leave : D → List ℕ → Type 0) (failures : D → ℕ) where
-  pub answered : {A E : Type 0} (r : Result A E) (event : Event) (old new : CoreView D) (written0 written1 : Option (List ℕ)) → Gave seen may_leave failures event old new
+module _ {D : Type 0} (seen : D → Option (List ℕ)) (may_leave : D → List ℕ → Type 0) (moment : D → ℕ) (left_since : D → ℕ → List ℕ → Type 0) (failures : D → ℕ) where
+  pub answered : {A E : Type 0} (r : Result A E) (event : Event) (old new : CoreView D) (written0 written1 : Option (List ℕ)) → Gave seen may_leave moment left_since failures event old new
       → ((es : List Entry) (e : Entry) → new.entries ≡ es ++ e ∷ [] → OnOk r (Appends written0 written1 (entry_text (names_now new) e)))
-      → OnOk r (HasAnswered seen may_leave failures event old new written0 written1)
+      → OnOk r (HasAnswered seen may_leave moment left_since failures event old new written0 written1)
   answered (Ok a) event old new written0 written1 gave wrote = record { gave = gave; wrote = λ e is. wrote old.entries e is }
   answered (Err x) event old new written0 written1 gave wrote = tt
 
-  pub broken_off : {A E : Type 0} (r : Result A E) (event : Event) (old new : CoreView D) (written0 written1 : Option (List ℕ)) → Gave seen may_leave failures event old new
+  pub broken_off : {A E : Type 0} (r : Result A E) (event : Event) (old new : CoreView D) (written0 written1 : Option (List ℕ)) → Gave seen may_leave moment left_since failures event old new
       → ((es : List Entry) (e : Entry) → new.entries ≡ es ++ e ∷ [] → AppendsFront written0 written1 (entry_text (names_now new) e))
-      → OnErr r (HasStoppedAt seen may_leave failures event old new written0 written1)
+      → OnErr r (HasStoppedAt seen may_leave moment left_since failures event old new written0 written1)
   broken_off (Ok a) event old new written0 written1 gave wrote = tt
   broken_off (Err x) event old new written0 written1 gave wrote = inr (record { gave = gave; wrote = λ e is. wrote old.entries e is })
 
   -- ---- a run of no event
-  pub stopped_first : (c : CoreView D) (events : List Event) (written : Option (List ℕ)) → IsRun seen may_leave failures c → c.entries ≡ [] → HasStopped c events written written
+  pub stopped_first : (c : CoreView D) (events : List Event) (written : Option (List ℕ)) → IsRun seen may_leave moment left_since failures c → c.entries ≡ [] → HasStopped c events written written
   stopped_first c events written run none = record {
     count = 0;
-    followed = followed_none seen may_leave failures c events run none;
+    followed = followed_none seen may_leave moment left_since failures c events run none;
     entries = [];
     next = [];
     one = omega arith;

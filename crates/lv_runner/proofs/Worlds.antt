@@ -1,7 +1,8 @@
 -- The world that a run begins in, and the records that its disk tells.
 use Rattle.std.proofs.Common.{◌≡◌, ℕ, ◌+◌, ◌-◌, ◌^◌, ◌≤◌, List, ◌++◌, map, sym, ap, ◌∙◌, subst, arith}
 use Rattle.std.specs.Prelude.{min, true, Option, Some, None, IfSome, option_map}
-use Rattle.lv_core.specs.Run.{CoreView, IsOpenedBy, IsOpening, IsRun, failures_shown, first_state, rules_of, world_of, written_of}
+use Rattle.lv_core.specs.Run.{CoreView, IsOpenedBy, IsOpening, IsRun, asked_of, failures_shown, first_state, rules_of, world_of, written_of}
+use Rattle.lv_crash.specs.Attempts.{attempts_of}
 use Rattle.lv_engine.specs.Fresh.{IsFresh, world_kept}
 use Rattle.lv_engine.specs.Kept.{EngineView, Stands, length_of}
 use Rattle.lv_engine.specs.Records.{HasRecords}
@@ -22,9 +23,10 @@ use Rattle.lv_words.specs.declared.words.Words.{Words as SaidWords}
 use Rattle.lv_runner.specs.declared.differing.Counts.{Counts}
 use Rattle.lv_runner.specs.Begun.{HasBegun}
 use Rattle.lv_runner.specs.Late.{IsSameStore, counts_of}
-use Rattle.lv_runner.specs.Opened.{IsAsLong, OpensBy, TellsRecords}
+use Rattle.lv_runner.specs.Opened.{IsAsLong, LeavesRun, OpensBy, TellsRecords}
 use Rattle.lv_runner.specs.Output.{begin_state, run_rules, settings_in}
-use Rattle.lv_runner.specs.Written.{HasEntries, records_from}
+use Rattle.lv_runner.specs.Written.{HasEntries, attempts_from, records_from}
+use Rattle.lv_runner.proofs.Crashes.{leaves_run}
 
 -- ---- an engine that is fresh stands for one world
 abbrev pub OneWorldLaw : Type 0
@@ -38,7 +40,7 @@ if_some_to : {A : Type 0} (o : Option A) (P Q : A → Type 0) → ((x : A) → P
 if_some_to None P Q f h = tt
 if_some_to (Some x) P Q f h = f x h
 
-module _ {D : Type 0} (seen : D → Option (List ℕ)) (may_leave : D → List ℕ → Type 0) (failures : D → ℕ) where
+module _ {D : Type 0} (seen : D → Option (List ℕ)) (may_leave : D → List ℕ → Type 0) (moment : D → ℕ) (left_since : D → ℕ → List ℕ → Type 0) (failures : D → ℕ) where
   -- an engine that was reopened is opened by its records
   pub opened_from : OneWorldLaw → {told : Option (List ℕ)} (recs : List Rec) (e : EngineView D) → IsOpening e → IsReopened seen may_leave told recs e → IsOpenedBy seen may_leave recs e
   opened_from law recs e fresh reopened = record { apply = reopened.apply; made = one_world e (replay.state_of recs) law fresh reopened.stands; had = reopened.records }
@@ -55,7 +57,7 @@ module _ {D : Type 0} (seen : D → Option (List ℕ)) (may_leave : D → List �
     pub counted : count ≤ failures c.opened.journal.disk
     pub apply : all_apply recs ≡ true
 
-  module _ (w : SaidWords) (p : Program) (recs : List Rec) (count : ℕ) (c : CoreView D) (run : IsRun seen may_leave failures c) (from : IsFrom w p recs count c) where
+  module _ (w : SaidWords) (p : Program) (recs : List Rec) (count : ℕ) (c : CoreView D) (run : IsRun seen may_leave moment left_since failures c) (from : IsFrom w p recs count c) where
     pub rules_are : rules_of c.settings c.program ≡ run_rules w p
     rules_are i = rules_of (from.settings i) (from.program i)
 
@@ -66,12 +68,15 @@ module _ {D : Type 0} (seen : D → Option (List ℕ)) (may_leave : D → List �
     tells : TellsRecords (recs ++ written_of c) (seen c.engine.journal.disk) (may_leave c.engine.journal.disk)
     tells =
         let there = run.records recs from.had in
-        let stands = there.1.stands in
+        let stands = there.has.stands in
         record {
-          doubt = there.0;
-          has = told_in (map spelling (recs ++ written_of c)) (option_map spelling there.0) (seen c.engine.journal.disk) stands.payloads stands.doubtful stands.told;
-          images = λ bytes left. told_in (map spelling (recs ++ written_of c)) (option_map spelling there.0) (Some bytes) stands.payloads stands.doubtful (stands.images bytes left);
+          doubt = there.doubt;
+          has = told_in (map spelling (recs ++ written_of c)) (option_map spelling there.doubt) (seen c.engine.journal.disk) stands.payloads stands.doubtful stands.told;
+          images = λ bytes left. told_in (map spelling (recs ++ written_of c)) (option_map spelling there.doubt) (Some bytes) stands.payloads stands.doubtful (stands.images bytes left);
         }
+
+    asked_are : asked_of c ≡ attempts_from w p (replay.state_of recs) c.entries
+    asked_are i = attempts_of (rules_are i) (first_is i) c.entries
 
     written_are : written_of c ≡ records_from w p (replay.state_of recs) c.entries
     written_are i = records_of (rules_are i) (first_is i) c.entries
@@ -79,14 +84,15 @@ module _ {D : Type 0} (seen : D → Option (List ℕ)) (may_leave : D → List �
     rises : min (count + failures_shown c.entries) (2 ^ 64 - 1) ≤ failures c.engine.journal.disk
     rises = omega (arith, from.counted, run.caused)
 
-    pub has_entries : HasEntries seen may_leave failures w p (replay.state_of recs) recs c.entries count c.engine.journal.disk
+    pub has_entries : HasEntries seen may_leave moment left_since failures w p (replay.state_of recs) recs c.entries count c.engine.journal.disk
     has_entries = record {
       records = subst (λ rs. TellsRecords (recs ++ rs) (seen c.engine.journal.disk) (may_leave c.engine.journal.disk)) written_are tells;
+      left = subst (λ attempts. LeavesRun moment left_since recs attempts c.engine.journal.disk) asked_are (leaves_run seen may_leave moment left_since failures c run recs from.apply from.world from.had);
       caused = rises;
     }
 
   -- ---- the engine that was opened, and a core that goes on from it
-  module _ (w : SaidWords) (told : Option (List ℕ)) (bytes : List ℕ) (p : Program) (count : ℕ) (e : EngineView D) (begun_ : HasBegun seen may_leave failures told bytes p count e)
+  module _ (w : SaidWords) (told : Option (List ℕ)) (bytes : List ℕ) (p : Program) (count : ℕ) (e : EngineView D) (begun_ : HasBegun seen may_leave moment left_since failures told bytes p count e)
       (law : OneWorldLaw) (fresh : IsOpening e) where
     pub from_opened : (c : CoreView D) → c.program ≡ p → c.settings ≡ settings_in w → c.opened ≡ e → IsFrom w p begun_.recs count c
     from_opened c program settings opened = record {
@@ -99,8 +105,8 @@ module _ {D : Type 0} (seen : D → Option (List ℕ)) (may_leave : D → List �
     }
 
     -- the one that came back from the threads
-    module _ (first c : CoreView D) (settings : first.settings ≡ settings_in w) (opened : first.opened ≡ e) (run : IsRun seen may_leave failures c)
-        (same : IsSameStore seen may_leave failures p (counts_of seen may_leave failures first) c) where
+    module _ (first c : CoreView D) (settings : first.settings ≡ settings_in w) (opened : first.opened ≡ e) (run : IsRun seen may_leave moment left_since failures c)
+        (same : IsSameStore seen may_leave moment left_since failures p (counts_of seen may_leave moment left_since failures first) c) where
       settings_back : c.settings ≡ settings_in w
       settings_back =
           let both : c.settings ≡ first.settings = λ i. let n : Counts = same.counts_are i in record { combine = n.combine; limit = n.log_limit; policy = n.policy } in

@@ -99,34 +99,39 @@ FailedOpening faults faults0 faults1 count (Some disk) = Rose count (faults disk
 
 -- ---- the run
 
-module _ {D : Type 0} (seen : D → Option (List ℕ)) (may_leave : D → List ℕ → Type 0) (faults : D → ℕ) (w : SaidWords) (told left0 left1 written0 written1 : Option (List ℕ)) (count : ℕ) where
+module _ {D : Type 0} (seen : D → Option (List ℕ)) (may_leave : D → List ℕ → Type 0) (moment : D → ℕ) (left_since : D → ℕ → List ℕ → Type 0) (faults : D → ℕ) (w : SaidWords) (told left0 left1 written0 written1 : Option (List ℕ)) (count : ℕ) where
   -- there was a script, and the whole output was written, or a part of it; the disk comes back
   pub record DidAll (back : Option D) : Type 0 where
     pub bytes : List ℕ
     pub input : HasInput w.make left0 left1 bytes
     pub disk : D
     pub comes_back : back ≡ Some disk
-    pub wrote : HasWritten seen may_leave faults w told bytes written0 written1 count disk
+    pub wrote : HasWritten seen may_leave moment left_since faults w told bytes written0 written1 count disk
 
   pub record DidPart (back : Option D) : Type 0 where
     pub bytes : List ℕ
     pub input : HasInput w.make left0 left1 bytes
     pub disk : D
     pub comes_back : back ≡ Some disk
-    pub wrote : HasWrittenPart seen may_leave faults w told bytes written0 written1 count disk
+    pub wrote : HasWrittenPart seen may_leave moment left_since faults w told bytes written0 written1 count disk
 
--- there was a script, and what came back from the threads differs
-pub record DidDiffer (w : SaidWords) (left0 left1 : Option (List ℕ)) (d : Difference) : Type 0 where
-  pub bytes : List ℕ
-  pub input : HasInput w.make left0 left1 bytes
-  pub differed : HasDiffered w bytes d
+  -- what came back from the threads differs
+  pub record DidDiffer (d : Difference) (back : Option D) : Type 0 where
+    pub bytes : List ℕ
+    pub input : HasInput w.make left0 left1 bytes
+    pub disk : D
+    pub comes_back : back ≡ Some disk
+    pub differed : HasDiffered seen may_leave moment left_since faults w told bytes count d disk
 
-module _ {D : Type 0} (seen : D → Option (List ℕ)) (may_leave : D → List ℕ → Type 0) (faults : D → ℕ) (w : SaidWords) (told path : Option (List ℕ)) (old new : Outside) (back : Option D) where
+module _ {D : Type 0} (seen : D → Option (List ℕ)) (may_leave : D → List ℕ → Type 0) (moment : D → ℕ) (left_since : D → ℕ → List ℕ → Type 0) (faults : D → ℕ) (w : SaidWords) (told path : Option (List ℕ)) (old new : Outside) (back : Option D) where
   abbrev pub All : Type 0
-  All = DidAll seen may_leave faults w told old.left new.left old.written new.written new.openings.count back
+  All = DidAll seen may_leave moment left_since faults w told old.left new.left old.written new.written new.openings.count back
 
   abbrev pub Part : Type 0
-  Part = DidPart seen may_leave faults w told old.left new.left old.written new.written new.openings.count back
+  Part = DidPart seen may_leave moment left_since faults w told old.left new.left old.written new.written new.openings.count back
+
+  abbrev pub Other : Difference → Type 0
+  Other d = DidDiffer seen may_leave moment left_since faults w told old.left new.left old.written new.written new.openings.count d back
 
   abbrev pub Nothing : Type 0
   Nothing = Keeps old.written new.written
@@ -147,5 +152,5 @@ module _ {D : Type 0} (seen : D → Option (List ℕ)) (may_leave : D → List �
   Ends SinkFault = Part × Rose old.sink_faults new.sink_faults × IsHandedOut
   Ends (BadJournal offset) = IfSome told (λ bytes. BadAt bytes offset) × Nothing × IsHandedOut
   Ends OpenFault = FailedOpening faults old.disks_faults new.disks_faults new.openings.count back × Nothing × (IsHandedOut ⊎ TurnedAway path old.openings new.openings back)
-  Ends (Differ session place given kept) = DidDiffer w old.left new.left (shown session place given kept) × Nothing × IsHandedOut
+  Ends (Differ session place given kept) = Other (shown session place given kept) × Nothing × IsHandedOut
   Ends NoMemory = (Nothing × IsNotAsked) ⊎ ((Nothing ⊎ Part) × IsHandedOut)

@@ -62,15 +62,15 @@ text_now c = text_of (names_now c) c.entries
 
 -- ---- what one event adds
 
-module _ {D : Type 0} (seen : D → Option (List ℕ)) (may_leave : D → List ℕ → Type 0) (failures : D → ℕ) where
+module _ {D : Type 0} (seen : D → Option (List ℕ)) (may_leave : D → List ℕ → Type 0) (moment : D → ℕ) (left_since : D → ℕ → List ℕ → Type 0) (failures : D → ℕ) where
   -- the event has come, and the text of its entry was written
   pub record HasAnswered (event : Event) (old new : CoreView D) (written0 written1 : Option (List ℕ)) : Type 0 where
-    pub gave : Gave seen may_leave failures event old new
+    pub gave : Gave seen may_leave moment left_since failures event old new
     pub wrote : (e : Entry) → new.entries ≡ old.entries ++ e ∷ [] → Appends written0 written1 (entry_text (names_now new) e)
 
   -- or a front of it was
   pub record HasBrokenOff (event : Event) (old new : CoreView D) (written0 written1 : Option (List ℕ)) : Type 0 where
-    pub gave : Gave seen may_leave failures event old new
+    pub gave : Gave seen may_leave moment left_since failures event old new
     pub wrote : (e : Entry) → new.entries ≡ old.entries ++ e ∷ [] → AppendsFront written0 written1 (entry_text (names_now new) e)
 
   -- where it stopped, the event has come or it has not
@@ -91,7 +91,7 @@ pub record HasStopped {D : Type 0} (c : CoreView D) (events : List Event) (writt
 
 -- ---- how a run over a core ends, which goes on to a new one
 
-module _ {D : Type 0} (seen : D → Option (List ℕ)) (may_leave : D → List ℕ → Type 0) (failures : D → ℕ) where
+module _ {D : Type 0} (seen : D → Option (List ℕ)) (may_leave : D → List ℕ → Type 0) (moment : D → ℕ) (left_since : D → ℕ → List ℕ → Type 0) (failures : D → ℕ) where
   abbrev pub EndsAt : CoreView D → List Event → Option (List ℕ) → Option (List ℕ) → Bool → ℕ → ℕ → Status → Type 0
   EndsAt c events written0 written1 is_flushed faults0 faults1 Done = HasFollowed c events × Appends written0 written1 (text_now c) × IsTrue is_flushed
   EndsAt c events written0 written1 is_flushed faults0 faults1 SinkFault = HasStopped c events written0 written1 × Rose faults0 faults1
@@ -100,7 +100,7 @@ module _ {D : Type 0} (seen : D → Option (List ℕ)) (may_leave : D → List �
 
   pub record HasRun (old : CoreView D) (events : List Event) (written0 written1 : Option (List ℕ)) (is_flushed : Bool) (faults0 faults1 : ℕ) (status : Status) (back : Option D) : Type 0 where
     pub new : CoreView D
-    pub run : IsRun seen may_leave failures new
+    pub run : IsRun seen may_leave moment left_since failures new
     pub same : GoesOn old new
     pub disk : back ≡ Some new.engine.journal.disk
     pub ends : EndsAt new events written0 written1 is_flushed faults0 faults1 status

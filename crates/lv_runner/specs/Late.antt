@@ -24,7 +24,7 @@ IsAnswered c = all_answered c.program c.places ≡ true
 
 -- ---- events that come without being written
 
-module _ {D : Type 0} (seen : D → Option (List ℕ)) (may_leave : D → List ℕ → Type 0) (failures : D → ℕ) where
+module _ {D : Type 0} (seen : D → Option (List ℕ)) (may_leave : D → List ℕ → Type 0) (moment : D → ℕ) (left_since : D → ℕ → List ℕ → Type 0) (failures : D → ℕ) where
   -- how a run over a core ends that answers these events and then writes their summary
   abbrev pub EndsSummed : Option ℕ → CoreView D → List Event → Option (List ℕ) → Option (List ℕ) → Bool → ℕ → ℕ → Status → Type 0
   EndsSummed made c events written0 written1 is_flushed faults0 faults1 Done = HasFollowed c events × Appends written0 written1 (output_now made c) × IsTrue is_flushed
@@ -34,14 +34,14 @@ module _ {D : Type 0} (seen : D → Option (List ℕ)) (may_leave : D → List �
 
   pub record HasSummed (made : Option ℕ) (old : CoreView D) (events : List Event) (written0 written1 : Option (List ℕ)) (is_flushed : Bool) (faults0 faults1 : ℕ) (status : Status) (back : Option D) : Type 0 where
     pub new : CoreView D
-    pub run : IsRun seen may_leave failures new
+    pub run : IsRun seen may_leave moment left_since failures new
     pub same : GoesOn old new
     pub disk : back ≡ Some new.engine.journal.disk
     pub ends : EndsSummed made new events written0 written1 is_flushed faults0 faults1 status
 
   -- how a run ends that writes each entry as it comes, or their summary where so many statements were made
   abbrev pub HasRunBy : Option ℕ → CoreView D → List Event → Option (List ℕ) → Option (List ℕ) → Bool → ℕ → ℕ → Status → Option D → Type 0
-  HasRunBy None old events written0 written1 is_flushed faults0 faults1 status back = HasRun seen may_leave failures old events written0 written1 is_flushed faults0 faults1 status back
+  HasRunBy None old events written0 written1 is_flushed faults0 faults1 status back = HasRun seen may_leave moment left_since failures old events written0 written1 is_flushed faults0 faults1 status back
   HasRunBy (Some n) old events written0 written1 is_flushed faults0 faults1 status back = HasSummed (Some n) old events written0 written1 is_flushed faults0 faults1 status back
 
   -- ---- threads
@@ -75,6 +75,6 @@ module _ {D : Type 0} (seen : D → Option (List ℕ)) (may_leave : D → List �
 
   pub record HasThreaded (p : Program) (counts : Counts) (written0 written1 : Option (List ℕ)) (is_flushed : Bool) (faults0 faults1 : ℕ) (status : Status) (back : Option D) : Type 0 where
     pub new : CoreView D
-    pub run : IsRun seen may_leave failures new
+    pub run : IsRun seen may_leave moment left_since failures new
     pub disk : back ≡ Some new.engine.journal.disk
     pub ends : EndsThreaded p counts new written0 written1 is_flushed faults0 faults1 status

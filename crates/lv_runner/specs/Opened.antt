@@ -1,5 +1,6 @@
 -- The world over which a program is run, by what a disk tells.
-use Rattle.std.specs.Prelude.{◌≡◌, ℕ, Bool, true, false, List, map, Option, IfSome, option_map}
+use Rattle.std.specs.Prelude.{◌≡◌, ◌≤◌, ℕ, Bool, true, false, List, ◌++◌, map, Option, IfSome, option_map}
+use Rattle.lv_crash.specs.Attempts.{Attempt, MayStay}
 use Rattle.lv_journal.specs.Standing.{RecordsIn}
 use Rattle.lv_record.specs.Spelling.{spelling}
 use Rattle.lv_recover.specs.Opening.{OpensAs}
@@ -34,3 +35,17 @@ pub record TellsRecords (recs : List Rec) (told : Option (List ℕ)) (may_leave 
   pub doubt : Option Rec
   pub has : IfSome told (RecordsIn (map spelling recs) (option_map spelling doubt))
   pub images : (bytes : List ℕ) → may_leave bytes → RecordsIn (map spelling recs) (option_map spelling doubt) bytes
+
+-- bytes that open as these records and, behind them, some that a crash may leave of these attempts
+pub record OpensWith (recs : List Rec) (attempts : List Attempt) (bytes : List ℕ) : Type 0 where
+  pub more : List Rec
+  pub stay : MayStay attempts more
+  pub opens : OpensAs bytes (recs ++ more)
+
+-- What a crash at any moment since a run began may have left on its disk: a journal that opens as the records that the run
+-- began with and, behind them, those of the first of its attempts, but for those that were not kept, the last one perhaps
+-- excepted.
+pub record LeavesRun {D : Type 0} (moment : D → ℕ) (left_since : D → ℕ → List ℕ → Type 0) (recs : List Rec) (attempts : List Attempt) (disk : D) : Type 0 where
+  pub began : ℕ
+  pub later : began ≤ moment disk
+  pub each : (bytes : List ℕ) → left_since disk began bytes → OpensWith recs attempts bytes

@@ -2,6 +2,7 @@
 use Rattle.std.specs.Prelude.{◌≡◌, ◌⊎◌, ◌≤◌, ◌+◌, ◌-◌, ◌^◌, ◌||◌, min, ℕ, Bool, true, false, is_some, List, ◌++◌, length, take, Option, Ok}
 use Rattle.std.specs.Io.KnownBytes.{Appends, Keeps}
 use Rattle.lv_core.specs.Run.{failures_shown}
+use Rattle.lv_crash.specs.Attempts.{Attempt, attempts_of}
 use Rattle.lv_lines.specs.declared.names.Names.{Names}
 use Rattle.lv_lines.specs.Script.{script_of}
 use Rattle.lv_lines.specs.Transcript.{text_of}
@@ -16,12 +17,16 @@ use Rattle.lv_plain.specs.WrittenRecords.{records_of}
 use Rattle.lv_schema.specs.declared.rec.Rec.{Rec}
 use Rattle.lv_schema.specs.World.{World}
 use Rattle.lv_words.specs.declared.words.Words.{Words}
-use Rattle.lv_runner.specs.Opened.{IsOpened, TellsRecords}
+use Rattle.lv_runner.specs.Opened.{IsOpened, LeavesRun, TellsRecords}
 use Rattle.lv_runner.specs.Output.{IsOutput, begin_state, end_state, names_after, output_of, run_rules}
 
 -- the records that entries of a program write, from an opened world on
 abbrev pub records_from : Words → Program → World → List Entry → List Rec
 records_from w p opened entries = records_of (run_rules w p) (begin_state w p opened) entries
+
+-- and those that they ask the disk to keep
+abbrev pub attempts_from : Words → Program → World → List Entry → List Attempt
+attempts_from w p opened entries = attempts_of (run_rules w p) (begin_state w p opened) entries
 
 -- whether the output is written once all statements are answered; else each entry's text is written right after the entry
 abbrev pub is_at_end : Words → Bool
@@ -51,12 +56,14 @@ abbrev pub HasPart : Bool → Words → Program → World → List Entry → Opt
 HasPart false w p opened entries written0 written1 = IsPart (names_after w p opened entries) entries written0 written1
 HasPart true w p opened entries written0 written1 = Keeps written0 written1 ⊎ IsFrontOfAll w p opened entries written0 written1
 
-module _ {D : Type 0} (seen : D → Option (List ℕ)) (may_leave : D → List ℕ → Type 0) (faults : D → ℕ) where
+module _ {D : Type 0} (seen : D → Option (List ℕ)) (may_leave : D → List ℕ → Type 0) (moment : D → ℕ) (left_since : D → ℕ → List ℕ → Type 0) (faults : D → ℕ) where
   -- What a disk has after entries: the records that were opened, then those of the entries, and perhaps one in doubt; so has
-  -- each image that a crash may leave. No
-  -- more entries show that it failed than its count rose since it was handed out, unless that stands at its last value.
+  -- each image that a crash may leave. A crash at any moment since the run began may have left the records that were opened
+  -- and some of those that the entries asked for. No more entries show that it failed than its count rose since it was handed
+  -- out, unless that stands at its last value.
   pub record HasEntries (w : Words) (p : Program) (opened : World) (recs : List Rec) (entries : List Entry) (count : ℕ) (disk : D) : Type 0 where
     pub records : TellsRecords (recs ++ records_from w p opened entries) (seen disk) (may_leave disk)
+    pub left : LeavesRun moment left_since recs (attempts_from w p opened entries) disk
     pub caused : min (count + failures_shown entries) (2 ^ 64 - 1) ≤ faults disk
 
   -- The whole output was written: it is the one for these words and bytes over the world that was opened. The disk tells

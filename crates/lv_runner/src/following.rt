@@ -29,7 +29,7 @@ pub(crate) fn answer_event<D: Disk, L: Ledger>(
 ) -> Result<(), NoMemory>
     requires may { MayHappen core.old.run.program (state_of core.old.run) event.now }
     requires scheduled { IsScheduled event.now }
-    ensures gave { OnOk result (Gave D.seen D.may_leave D.failures event.now core.old.run core.new.run) }
+    ensures gave { OnOk result (Gave D.seen D.may_leave D.moment D.left_since D.failures event.now core.old.run core.new.run) }
     ensures same { OnErr result (IsSame core.old.run core.new.run) }
 {
     core.known();
@@ -73,9 +73,9 @@ fn follow_event<K: Sink, D: Disk, L: Ledger>(
     requires may { MayHappen core.old.run.program (state_of core.old.run) event.now }
     requires scheduled { IsScheduled event.now }
     requires names { names.old ≡ names_now core.old.run }
-    ensures all { OnOk result (HasAnswered D.seen D.may_leave D.failures event.now core.old.run core.new.run (K.written sink.old) (K.written sink.new)) }
+    ensures all { OnOk result (HasAnswered D.seen D.may_leave D.moment D.left_since D.failures event.now core.old.run core.new.run (K.written sink.old) (K.written sink.new)) }
     ensures names { OnOk result (names.new ≡ names_now core.new.run) }
-    ensures part { OnErr result (HasStoppedAt D.seen D.may_leave D.failures event.now core.old.run core.new.run (K.written sink.old) (K.written sink.new)) }
+    ensures part { OnErr result (HasStoppedAt D.seen D.may_leave D.moment D.left_since D.failures event.now core.old.run core.new.run (K.written sink.old) (K.written sink.new)) }
     ensures later { K.faults sink.old ≤ K.faults sink.new }
     ensures cause { result ≡ Err stop.Sink → Rose (K.faults sink.old) (K.faults sink.new) }
 {

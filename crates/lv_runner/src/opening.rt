@@ -55,7 +55,7 @@ fn run_ordered<K: Sink, D: Disk, L: Ledger>(
 ) -> Ran<D>
     requires fresh { core.run.entries ≡ [] }
     requires may { MayFollow core.run.program events.now }
-    ensures ends { HasRunBy D.seen D.may_leave D.failures words.now.make core.run events.now (K.written sink.old) (K.written sink.new) (K.is_flushed sink.new) (K.faults sink.old) (K.faults sink.new) result.status result.disk }
+    ensures ends { HasRunBy D.seen D.may_leave D.moment D.left_since D.failures words.now.make core.run events.now (K.written sink.old) (K.written sink.new) (K.is_flushed sink.new) (K.faults sink.old) (K.faults sink.new) result.status result.disk }
     ensures later { K.faults sink.old ≤ K.faults sink.new }
 {
     match words.make {
@@ -80,8 +80,8 @@ fn run_alone<K: Sink, D: Disk, L: Ledger>(
     requires fresh { IsOpening engine }
     requires records { (recs : List Rec) × IsOpenedBy D.seen D.may_leave recs engine }
     requires alone { words.now.threads ≡ false }
-    ensures ends { (told : Option (List ℕ)) (bytes : List ℕ) (count : ℕ) → HasBegun D.seen D.may_leave D.failures told bytes plan.program count engine
-        → EndsOver D.seen D.may_leave D.failures words.now told bytes count (K.written sink.old) (K.written sink.new) (K.is_flushed sink.new) (K.faults sink.old) (K.faults sink.new) result.status result.disk }
+    ensures ends { (told : Option (List ℕ)) (bytes : List ℕ) (count : ℕ) → HasBegun D.seen D.may_leave D.moment D.left_since D.failures told bytes plan.program count engine
+        → EndsOver D.seen D.may_leave D.moment D.left_since D.failures words.now told bytes count (K.written sink.old) (K.written sink.new) (K.is_flushed sink.new) (K.faults sink.old) (K.faults sink.new) result.status result.disk }
     ensures later { K.faults sink.old ≤ K.faults sink.new }
 {
     each_event_may_come();
@@ -119,8 +119,8 @@ fn run_beside<R: Threads + Wait + Sync, K: Sink, D: Disk + Send, G: Gate + Sync,
     requires beside { words.now.threads ≡ true }
     requires apart { words.now.make ≡ None }
     requires workers { words.now.workers ≤ 8 }
-    ensures ends { (told : Option (List ℕ)) (bytes : List ℕ) (count : ℕ) → HasBegun D.seen D.may_leave D.failures told bytes plan.program count engine
-        → EndsOver D.seen D.may_leave D.failures words.now told bytes count (K.written sink.old) (K.written sink.new) (K.is_flushed sink.new) (K.faults sink.old) (K.faults sink.new) result.status result.disk }
+    ensures ends { (told : Option (List ℕ)) (bytes : List ℕ) (count : ℕ) → HasBegun D.seen D.may_leave D.moment D.left_since D.failures told bytes plan.program count engine
+        → EndsOver D.seen D.may_leave D.moment D.left_since D.failures words.now told bytes count (K.written sink.old) (K.written sink.new) (K.is_flushed sink.new) (K.faults sink.old) (K.faults sink.new) result.status result.disk }
     ensures later { K.faults sink.old ≤ K.faults sink.new }
 {
     fresh_engines_stand_for_one_world();
@@ -158,8 +158,8 @@ fn run_over<R: Threads + Wait + Sync, K: Sink, D: Disk + Send, G: Gate + Sync, L
     requires fresh { IsOpening engine }
     requires records { (recs : List Rec) × IsOpenedBy D.seen D.may_leave recs engine }
     requires range { IsInRange words.now }
-    ensures ends { (told : Option (List ℕ)) (bytes : List ℕ) (count : ℕ) → HasBegun D.seen D.may_leave D.failures told bytes plan.program count engine
-        → EndsOver D.seen D.may_leave D.failures words.now told bytes count (K.written sink.old) (K.written sink.new) (K.is_flushed sink.new) (K.faults sink.old) (K.faults sink.new) result.status result.disk }
+    ensures ends { (told : Option (List ℕ)) (bytes : List ℕ) (count : ℕ) → HasBegun D.seen D.may_leave D.moment D.left_since D.failures told bytes plan.program count engine
+        → EndsOver D.seen D.may_leave D.moment D.left_since D.failures words.now told bytes count (K.written sink.old) (K.written sink.new) (K.is_flushed sink.new) (K.faults sink.old) (K.faults sink.new) result.status result.disk }
     ensures later { K.faults sink.old ≤ K.faults sink.new }
 {
     if words.threads {
@@ -187,8 +187,8 @@ fn run_on<R: Threads + Wait + Sync, K: Sink, D: Disk + Send, G: Gate + Sync, L: 
     requires policy { picker.kind ≡ words.now.policy }
     requires plan { IsPlan plan }
     requires range { IsInRange words.now }
-    ensures ends { (told : Option (List ℕ)) (bytes : List ℕ) → TellsAtLeast D.seen D.may_leave D.failures told disk → script_of bytes ≡ Ok plan.program
-        → EndsOpened D.seen D.may_leave D.failures words.now told bytes (D.failures disk) (K.written sink.old) (K.written sink.new) (K.is_flushed sink.new) (K.faults sink.old) (K.faults sink.new) result.status result.disk }
+    ensures ends { (told : Option (List ℕ)) (bytes : List ℕ) → TellsAtLeast D.seen D.may_leave D.moment D.left_since D.failures told disk → script_of bytes ≡ Ok plan.program
+        → EndsOpened D.seen D.may_leave D.moment D.left_since D.failures words.now told bytes (D.failures disk) (K.written sink.old) (K.written sink.new) (K.is_flushed sink.new) (K.faults sink.old) (K.faults sink.new) result.status result.disk }
     ensures later { K.faults sink.old ≤ K.faults sink.new }
 {
     fresh_engines_stand_for_one_world();
@@ -234,7 +234,7 @@ pub(crate) fn open_and_run<R: Threads + Wait + Sync, K: Sink, O: Disks, G: Gate 
     requires plan { IsPlan plan }
     requires range { IsInRange words.now }
     ensures ends { (left0 left1 : Option (List ℕ)) (faults0 faults1 : ℕ) (bytes : List ℕ) → HasInput words.now.make left0 left1 bytes → script_of bytes ≡ Ok plan.program
-        → Ends O.Disk.seen O.Disk.may_leave O.Disk.failures words.now (O.holds disks.old words.now.log) words.now.log
+        → Ends O.Disk.seen O.Disk.may_leave O.Disk.moment O.Disk.left_since O.Disk.failures words.now (O.holds disks.old words.now.log) words.now.log
         (record { left = left0; source_faults = faults0; written = K.written sink.old; is_flushed = K.is_flushed sink.old; sink_faults = K.faults sink.old; disks_faults = O.failures disks.old; openings = O.openings disks.old })
         (record { left = left1; source_faults = faults1; written = K.written sink.new; is_flushed = K.is_flushed sink.new; sink_faults = K.faults sink.new; disks_faults = O.failures disks.new; openings = O.openings disks.new })
         result.disk result.status }

@@ -20,7 +20,7 @@ use std::sync::ledger::Ledger;
 pub(crate) fn give_back<D: Disk>(core: Core<D>, status: Status) -> Ran<D>
     ensures status { result.status ≡ status }
     ensures disk { result.disk ≡ Some core.run.engine.journal.disk }
-    ensures run { IsRun D.seen D.may_leave D.failures core.run }
+    ensures run { IsRun D.seen D.may_leave D.moment D.left_since D.failures core.run }
 {
     core.known();
     Ran {
@@ -39,7 +39,7 @@ pub(crate) fn run_in_order<K: Sink, D: Disk, L: Ledger>(
 ) -> Ran<D>
     requires fresh { core.run.entries ≡ [] }
     requires may { MayFollow core.run.program events.now }
-    ensures ends { HasRun D.seen D.may_leave D.failures core.run events.now (K.written sink.old) (K.written sink.new) (K.is_flushed sink.new) (K.faults sink.old) (K.faults sink.new) result.status result.disk }
+    ensures ends { HasRun D.seen D.may_leave D.moment D.left_since D.failures core.run events.now (K.written sink.old) (K.written sink.new) (K.is_flushed sink.new) (K.faults sink.old) (K.faults sink.new) result.status result.disk }
     ensures later { K.faults sink.old ≤ K.faults sink.new }
 {
     match write_run(alloc, &mut core, events, sink, steps) {
@@ -60,7 +60,7 @@ pub(crate) fn run_summed<K: Sink, D: Disk, L: Ledger>(
 ) -> Ran<D>
     requires fresh { core.run.entries ≡ [] }
     requires may { MayFollow core.run.program events.now }
-    ensures ends { HasSummed D.seen D.may_leave D.failures (Some made) core.run events.now (K.written sink.old) (K.written sink.new) (K.is_flushed sink.new) (K.faults sink.old) (K.faults sink.new) result.status result.disk }
+    ensures ends { HasSummed D.seen D.may_leave D.moment D.left_since D.failures (Some made) core.run events.now (K.written sink.old) (K.written sink.new) (K.is_flushed sink.new) (K.faults sink.old) (K.faults sink.new) result.status result.disk }
     ensures later { K.faults sink.old ≤ K.faults sink.new }
 {
     if answer_all(alloc, &mut core, events, steps).is_err() {

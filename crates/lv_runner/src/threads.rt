@@ -24,7 +24,7 @@ use std::thread::Threads;
 
 /// What a core is run with, and what was counted when its run began.
 fn counts_of<D: Disk>(core: &Core<D>) -> Counts
-    ensures { result ≡ numbers_of D.seen D.may_leave D.failures core.now.run }
+    ensures { result ≡ numbers_of D.seen D.may_leave D.moment D.left_since D.failures core.now.run }
 {
     core.known();
     let settings = core.settings();
@@ -45,7 +45,7 @@ fn finish<K: Sink, D: Disk, L: Ledger>(
     sink: &mut K,
     steps: &mut Steps<L>,
 ) -> Ran<D>
-    ensures ends { HasThreaded D.seen D.may_leave D.failures core.run.program (numbers_of D.seen D.may_leave D.failures core.run) (K.written sink.old) (K.written sink.new) (K.is_flushed sink.new) (K.faults sink.old) (K.faults sink.new) result.status result.disk }
+    ensures ends { HasThreaded D.seen D.may_leave D.moment D.left_since D.failures core.run.program (numbers_of D.seen D.may_leave D.moment D.left_since D.failures core.run) (K.written sink.old) (K.written sink.new) (K.is_flushed sink.new) (K.faults sink.old) (K.faults sink.new) result.status result.disk }
     ensures later { K.faults sink.old ≤ K.faults sink.new }
 {
     if answer_rest(alloc, &mut core, steps).is_err() {
@@ -62,7 +62,7 @@ fn finish<K: Sink, D: Disk, L: Ledger>(
 fn give_other<D: Disk>(core: Core<D>, difference: Difference) -> Ran<D>
     ensures status { result.status ≡ differ difference.session difference.place difference.given difference.kept }
     ensures disk { result.disk ≡ Some core.run.engine.journal.disk }
-    ensures run { IsRun D.seen D.may_leave D.failures core.run }
+    ensures run { IsRun D.seen D.may_leave D.moment D.left_since D.failures core.run }
 {
     let Difference {
         session,
@@ -91,7 +91,7 @@ fn compare_and_finish<K: Sink, D: Disk, L: Ledger>(
     steps: &mut Steps<L>,
 ) -> Ran<D>
     requires within { IsWithinLimits program.now }
-    ensures ends { HasThreaded D.seen D.may_leave D.failures program.now counts.now (K.written sink.old) (K.written sink.new) (K.is_flushed sink.new) (K.faults sink.old) (K.faults sink.new) result.status result.disk }
+    ensures ends { HasThreaded D.seen D.may_leave D.moment D.left_since D.failures program.now counts.now (K.written sink.old) (K.written sink.new) (K.is_flushed sink.new) (K.faults sink.old) (K.faults sink.new) result.status result.disk }
     ensures later { K.faults sink.old ≤ K.faults sink.new }
 {
     let Driven {
@@ -132,7 +132,7 @@ pub(crate) fn run_in_threads<
     requires within { IsWithinLimits program.now }
     requires program { core.run.program ≡ program.now }
     requires workers { words.now.workers ≤ 8 }
-    ensures ends { HasThreaded D.seen D.may_leave D.failures program.now (numbers_of D.seen D.may_leave D.failures core.run) (K.written sink.old) (K.written sink.new) (K.is_flushed sink.new) (K.faults sink.old) (K.faults sink.new) result.status result.disk }
+    ensures ends { HasThreaded D.seen D.may_leave D.moment D.left_since D.failures program.now (numbers_of D.seen D.may_leave D.moment D.left_since D.failures core.run) (K.written sink.old) (K.written sink.new) (K.is_flushed sink.new) (K.faults sink.old) (K.faults sink.new) result.status result.disk }
     ensures later { K.faults sink.old ≤ K.faults sink.new }
 {
     if answer_setup(alloc, &mut core, steps).is_err() {

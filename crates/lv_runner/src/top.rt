@@ -46,7 +46,7 @@ fn answer<R: Threads + Wait + Sync, S: Source, K: Sink, O: Disks, G: Gate + Sync
     requires asked { (O.openings disks.old).asked < 2 ^ 64 - 1 }
     requires policy { picker.kind ≡ words.now.policy }
     requires range { IsInRange words.now }
-    ensures ends { Ends O.Disk.seen O.Disk.may_leave O.Disk.failures words.now (O.holds disks.old words.now.log) words.now.log
+    ensures ends { Ends O.Disk.seen O.Disk.may_leave O.Disk.moment O.Disk.left_since O.Disk.failures words.now (O.holds disks.old words.now.log) words.now.log
         (record { left = S.left source.old; source_faults = S.faults source.old; written = K.written sink.old; is_flushed = K.is_flushed sink.old; sink_faults = K.faults sink.old; disks_faults = O.failures disks.old; openings = O.openings disks.old })
         (record { left = S.left source.new; source_faults = S.faults source.new; written = K.written sink.new; is_flushed = K.is_flushed sink.new; sink_faults = K.faults sink.new; disks_faults = O.failures disks.new; openings = O.openings disks.new })
         result.disk result.status }
@@ -92,7 +92,7 @@ pub fn run<R: Threads + Wait + Sync, S: Source, K: Sink, O: Disks, G: Gate + Syn
     requires pickers { map (λ p. p.kind) pickers ≡ 0 ∷ 1 ∷ 2 ∷ [] }
     requires asked { (O.openings disks.old).asked < 2 ^ 64 - 1 }
     // Done: the whole output was written and flushed.
-    ensures done { (w : SaidWords) → said words.now ≡ Some w → result.status ≡ Status.Done → DidAll O.Disk.seen O.Disk.may_leave O.Disk.failures w (O.holds disks.old w.log) (S.left source.old) (S.left source.new) (K.written sink.old) (K.written sink.new) (O.openings disks.new).count result.disk }
+    ensures done { (w : SaidWords) → said words.now ≡ Some w → result.status ≡ Status.Done → DidAll O.Disk.seen O.Disk.may_leave O.Disk.moment O.Disk.left_since O.Disk.failures w (O.holds disks.old w.log) (S.left source.old) (S.left source.new) (K.written sink.old) (K.written sink.new) (O.openings disks.new).count result.disk }
     ensures flushed { result.status ≡ Status.Done → IsTrue (K.is_flushed sink.new) }
     ensures words { result.status ≡ Status.Words → said words.now ≡ None }
     ensures refused { said words.now ≡ None → (result.status ≡ Status.Words) ⊎ (result.status ≡ Status.NoMemory) }
@@ -101,14 +101,14 @@ pub fn run<R: Threads + Wait + Sync, S: Source, K: Sink, O: Disks, G: Gate + Syn
     ensures source { (w : SaidWords) → said words.now ≡ Some w → result.status ≡ Status.SourceFault → (w.make ≡ None) × Rose (S.faults source.old) (S.faults source.new) }
     // A failing sink took a part of the output.
     ensures sink { result.status ≡ Status.SinkFault → Rose (K.faults sink.old) (K.faults sink.new) }
-    ensures part { (w : SaidWords) → said words.now ≡ Some w → result.status ≡ Status.SinkFault → DidPart O.Disk.seen O.Disk.may_leave O.Disk.failures w (O.holds disks.old w.log) (S.left source.old) (S.left source.new) (K.written sink.old) (K.written sink.new) (O.openings disks.new).count result.disk }
+    ensures part { (w : SaidWords) → said words.now ≡ Some w → result.status ≡ Status.SinkFault → DidPart O.Disk.seen O.Disk.may_leave O.Disk.moment O.Disk.left_since O.Disk.failures w (O.holds disks.old w.log) (S.left source.old) (S.left source.new) (K.written sink.old) (K.written sink.new) (O.openings disks.new).count result.disk }
     ensures bad { (w : SaidWords) (offset : ℕ) → said words.now ≡ Some w → result.status ≡ Status.BadJournal offset → IfSome (O.holds disks.old w.log) (λ bytes. BadAt bytes offset) }
     ensures open { result.status ≡ Status.OpenFault → FailedOpening O.Disk.failures (O.failures disks.old) (O.failures disks.new) (O.openings disks.new).count result.disk }
     // With threads alone: what came back is not what was handed in.
-    ensures differs { (w : SaidWords) (session place : ℕ) (given kept : List ℕ) → said words.now ≡ Some w → result.status ≡ Status.Differ session place given kept → DidDiffer w (S.left source.old) (S.left source.new) (shown session place given kept) }
+    ensures differs { (w : SaidWords) (session place : ℕ) (given kept : List ℕ) → said words.now ≡ Some w → result.status ≡ Status.Differ session place given kept → DidDiffer O.Disk.seen O.Disk.may_leave O.Disk.moment O.Disk.left_since O.Disk.failures w (O.holds disks.old w.log) (S.left source.old) (S.left source.new) (K.written sink.old) (K.written sink.new) (O.openings disks.new).count (shown session place given kept) result.disk }
     // Want of memory has no cause; before the first event it writes nothing.
     ensures short { (w : SaidWords) → said words.now ≡ Some w → result.status ≡ Status.NoMemory → Keeps (K.written sink.old) (K.written sink.new)
-        ⊎ DidPart O.Disk.seen O.Disk.may_leave O.Disk.failures w (O.holds disks.old w.log) (S.left source.old) (S.left source.new) (K.written sink.old) (K.written sink.new) (O.openings disks.new).count result.disk }
+        ⊎ DidPart O.Disk.seen O.Disk.may_leave O.Disk.moment O.Disk.left_since O.Disk.failures w (O.holds disks.old w.log) (S.left source.old) (S.left source.new) (K.written sink.old) (K.written sink.new) (O.openings disks.new).count result.disk }
     ensures nothing { (result.status ≡ Status.Done → ⊥) → (result.status ≡ Status.SinkFault → ⊥) → (result.status ≡ Status.NoMemory → ⊥) → Keeps (K.written sink.old) (K.written sink.new) }
     // Which openings were asked, and when the disk comes back.
     ensures unasked { (result.status ≡ Status.Words) ⊎ ((line kind : ℕ) × (result.status ≡ Status.Script line kind)) ⊎ (result.status ≡ Status.SourceFault) → NotAsked (O.openings disks.old) (O.openings disks.new) result.disk }

@@ -14,24 +14,24 @@ create_view-requires-clause-nobody g c = ready_nobody c.args.engine.now c.args.s
 
 pub returns-in-Change-clause-case : goal.returns-in-Change-clause-case
 returns-in-Change-clause-case g c = λ w settings combines limit stands.
-    subst (λ (b : Bound). Answers g.D.Disk.seen g.D.Disk.may_leave g.D.Disk.failures w c.args.engine.now c.change.new.engine c.change.result (steps_of settings c.args.session (Ok b) w)
+    subst (λ (b : Bound). Answers g.D.Disk.seen g.D.Disk.may_leave g.D.Disk.moment g.D.Disk.left_since g.D.Disk.failures w c.args.engine.now c.change.new.engine c.change.result (steps_of settings c.args.session (Ok b) w)
     (λ fails. bound_turn (outcome_of settings fails w.upkeep) (pending_tasks w) c.args.session b w.visible))
     (sym c.in-Change.is) (c.change.ensures.case w settings (pending_tasks w) limit stands)
 
 pub returns-in-Table-clause-case : goal.returns-in-Table-clause-case
 returns-in-Table-clause-case g c = λ w settings combines limit stands.
-    subst (λ (b : Bound). Answers g.D.Disk.seen g.D.Disk.may_leave g.D.Disk.failures w c.args.engine.now c.create_table.new.engine c.create_table.result (steps_of settings c.args.session (Ok b) w)
+    subst (λ (b : Bound). Answers g.D.Disk.seen g.D.Disk.may_leave g.D.Disk.moment g.D.Disk.left_since g.D.Disk.failures w c.args.engine.now c.create_table.new.engine c.create_table.result (steps_of settings c.args.session (Ok b) w)
     (λ fails. bound_turn (outcome_of settings fails w.upkeep) (pending_tasks w) c.args.session b w.visible))
     (sym c.in-Table.is) (c.create_table.ensures.case w settings limit stands)
 
 pub returns-in-View-clause-case : goal.returns-in-View-clause-case
 returns-in-View-clause-case g c = λ w settings combines limit stands.
-    subst (λ (b : Bound). Answers g.D.Disk.seen g.D.Disk.may_leave g.D.Disk.failures w c.args.engine.now c.create_view.new.engine c.create_view.result (steps_of settings c.args.session (Ok b) w)
+    subst (λ (b : Bound). Answers g.D.Disk.seen g.D.Disk.may_leave g.D.Disk.moment g.D.Disk.left_since g.D.Disk.failures w c.args.engine.now c.create_view.new.engine c.create_view.result (steps_of settings c.args.session (Ok b) w)
     (λ fails. bound_turn (outcome_of settings fails w.upkeep) (pending_tasks w) c.args.session b w.visible))
     (sym c.in-View.is) (c.create_view.ensures.case w settings limit stands)
 
 pub returns-in-Commit-clause-case : goal.returns-in-Commit-clause-case
 returns-in-Commit-clause-case g c = λ w settings combines limit stands.
-    subst (λ (b : Bound). Answers g.D.Disk.seen g.D.Disk.may_leave g.D.Disk.failures w c.args.engine.now c.commit.new.engine c.commit.result (steps_of settings c.args.session (Ok b) w)
+    subst (λ (b : Bound). Answers g.D.Disk.seen g.D.Disk.may_leave g.D.Disk.moment g.D.Disk.left_since g.D.Disk.failures w c.args.engine.now c.commit.new.engine c.commit.result (steps_of settings c.args.session (Ok b) w)
     (λ fails. bound_turn (outcome_of settings fails w.upkeep) (pending_tasks w) c.args.session b w.visible))
     (sym c.in-Commit.is) (c.commit.ensures.case w settings limit stands)

@@ -27,7 +27,7 @@ returns-in-Ok-clause-case g c = λ w settings combines limit stands.
     let e = c.args.engine.now in
     let live = live_told e c.args.session c.live.result c.is_some-live.result c.live.ensures c.is_some-live.ensures in
     let line = line_told w e c.args.session c.args.line.now c.schema.result.now.tables c.schema.result.now.views c.is_some-live.result stands c.schema.ensures.tables c.schema.ensures.views live in
-    subst (λ (r : Result Bound Fault). Answers g.D.Disk.seen g.D.Disk.may_leave g.D.Disk.failures w e c.answer.new.engine c.answer.result (steps_of settings c.args.session r w) (λ fails. read_turn (outcome_of settings fails w.upkeep) (pending_tasks w) c.args.session r w.visible))
+    subst (λ (r : Result Bound Fault). Answers g.D.Disk.seen g.D.Disk.may_leave g.D.Disk.moment g.D.Disk.left_since g.D.Disk.failures w e c.answer.new.engine c.answer.result (steps_of settings c.args.session r w) (λ fails. read_turn (outcome_of settings fails w.upkeep) (pending_tasks w) c.args.session r w.visible))
     (sym (line ∙ c.in-Ok.ensures.found)) (c.answer.ensures.case w settings combines limit stands)
 
 pub returns-in-Ok-clause-fresh : goal.returns-in-Ok-clause-fresh
@@ -43,6 +43,6 @@ returns-in-Err-Stmt-clause-case g c = λ w settings combines limit stands.
     let live = live_told e c.args.session c.live.result c.is_some-live.result c.live.ensures c.is_some-live.ensures in
     let line = line_told w e c.args.session c.args.line.now c.schema.result.now.tables c.schema.result.now.views c.is_some-live.result stands c.schema.ensures.tables c.schema.ensures.views live in
     let said : c.replied.result.reply ≡ reply.Refused c.in-Err-Stmt.fault = first_of (cc, search rules) in
-    subst (λ (r : Result Bound Fault). GivesTurn g.D.Disk.seen g.D.Disk.may_leave g.D.Disk.failures w e e (steps_of settings c.args.session r w) (λ fails. read_turn (outcome_of settings fails w.upkeep) (pending_tasks w) c.args.session r w.visible) c.replied.result)
+    subst (λ (r : Result Bound Fault). GivesTurn g.D.Disk.seen g.D.Disk.may_leave g.D.Disk.moment g.D.Disk.left_since g.D.Disk.failures w e e (steps_of settings c.args.session r w) (λ fails. read_turn (outcome_of settings fails w.upkeep) (pending_tasks w) c.args.session r w.visible) c.replied.result)
     (sym (line ∙ c.in-Err-Stmt.ensures.refused c.in-Err-Stmt.fault cc))
-    (gives_shown g.D.Disk.seen g.D.Disk.may_leave g.D.Disk.failures w e (reply.Refused c.in-Err-Stmt.fault) c.replied.result c.replied.ensures.forced said stands)
+    (gives_shown g.D.Disk.seen g.D.Disk.may_leave g.D.Disk.moment g.D.Disk.left_since g.D.Disk.failures w e (reply.Refused c.in-Err-Stmt.fault) c.replied.result c.replied.ensures.forced said stands)

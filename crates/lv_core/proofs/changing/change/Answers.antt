@@ -7,11 +7,11 @@ use Rattle.lv_core.proofs.changing.change.Goals as goal
 pub returns-then-is_some-clause-case : goal.returns-then-is_some-clause-case
 returns-then-is_some-clause-case g c = λ w settings tasks limit stands.
     let live = live_told c.args.engine.now c.args.session c.live.result c.is_some.result c.live.ensures c.is_some.ensures in
-    answers_turn g.D.Disk.seen g.D.Disk.may_leave g.D.Disk.failures w c.args.engine.now c.change_inside.new.engine c.change_inside.result [] _ _
+    answers_turn g.D.Disk.seen g.D.Disk.may_leave g.D.Disk.moment g.D.Disk.left_since g.D.Disk.failures w c.args.engine.now c.change_inside.new.engine c.change_inside.result [] _ _
     (λ fails. open_turn (outcome_of settings fails w.upkeep) tasks c.args.session c.args.change.now w.visible (open_is w c.args.engine.now c.args.session stands ∙ sym live ∙ c.if-is_some.true)) (c.change_inside.ensures.case w stands)
 
 pub returns-else-is_some-clause-case : goal.returns-else-is_some-clause-case
 returns-else-is_some-clause-case g c = λ w settings tasks limit stands.
     let live = live_told c.args.engine.now c.args.session c.live.result c.is_some.result c.live.ensures c.is_some.ensures in
-    answers_turn g.D.Disk.seen g.D.Disk.may_leave g.D.Disk.failures w c.args.engine.now c.change_alone.new.engine c.change_alone.result [] _ _
+    answers_turn g.D.Disk.seen g.D.Disk.may_leave g.D.Disk.moment g.D.Disk.left_since g.D.Disk.failures w c.args.engine.now c.change_alone.new.engine c.change_alone.result [] _ _
     (λ fails. alone_turn (outcome_of settings fails w.upkeep) tasks c.args.session c.args.change.now w.visible (open_is w c.args.engine.now c.args.session stands ∙ sym live ∙ c.if-is_some.false)) (c.change_alone.ensures.case w settings limit stands)

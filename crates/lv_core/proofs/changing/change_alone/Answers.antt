@@ -33,11 +33,11 @@ returns-in-Ok-clause-case g c = λ w settings limit stands.
     let free = free_there w old session stands c.requires.free in
     let opening = world_after (began session w.visible) w in
     let done = c.in-Ok.ensures.case opening (c.begin.ensures.case w stands).1 in
-    let stood = subst (λ (v : World). Stands v mid) (made_is g.D.Disk.seen g.D.Disk.may_leave g.D.Disk.failures session change w (λ fails. outcome_of settings fails w.upkeep) free) done.1 in
+    let stood = subst (λ (v : World). Stands v mid) (made_is g.D.Disk.seen g.D.Disk.may_leave g.D.Disk.moment g.D.Disk.left_since g.D.Disk.failures session change w (λ fails. outcome_of settings fails w.upkeep) free) done.1 in
     let once = then_set old c.begin.new.self mid session _ _ c.begin.ensures.others c.in-Ok.ensures.others in
-    answers_committed g.D.Disk.seen g.D.Disk.may_leave g.D.Disk.failures session change w (λ fails. outcome_of settings fails w.upkeep) free c.in-Ok.count old mid new c.commit_alone.result done.0
+    answers_committed g.D.Disk.seen g.D.Disk.may_leave g.D.Disk.moment g.D.Disk.left_since g.D.Disk.failures session change w (λ fails. outcome_of settings fails w.upkeep) free c.in-Ok.count old mid new c.commit_alone.result done.0
     (same_journal c.begin.new.self mid _ c.in-Ok.ensures.others ∙ same_journal old c.begin.new.self _ c.begin.ensures.others) (with_ended old mid session _ c.requires.free once)
-    (c.commit_alone.ensures.case (made g.D.Disk.seen g.D.Disk.may_leave g.D.Disk.failures session change w (λ fails. outcome_of settings fails w.upkeep) free) settings (limit ∙ same_limit old mid _ once) stood)
+    (c.commit_alone.ensures.case (made g.D.Disk.seen g.D.Disk.may_leave g.D.Disk.moment g.D.Disk.left_since g.D.Disk.failures session change w (λ fails. outcome_of settings fails w.upkeep) free) settings (limit ∙ same_limit old mid _ once) stood)
 
 pub returns-in-Err-clause-case : goal.returns-in-Err-clause-case
 returns-in-Err-clause-case g c = λ w settings limit stands.
@@ -54,4 +54,4 @@ returns-in-Err-clause-case g c = λ w settings limit stands.
     let back = c.rollback.ensures.case opening (subst (λ e. Stands opening e) (sym c.in-Err.ensures.refused) opened) in
     let again = same_again old new session c.requires.free
     (then_set old begun new session _ None c.begin.ensures.others (ended mid new session _ c.rollback.ensures.others c.rollback.ensures.free ∙ ended_too mid begun session c.in-Err.ensures.refused)) in
-    answers_given_up g.D.Disk.seen g.D.Disk.may_leave g.D.Disk.failures session change w (λ fails. outcome_of settings fails w.upkeep) free old begun mid new c.refusal.result c.fault_of_change.result c.refusal.ensures refuses back again
+    answers_given_up g.D.Disk.seen g.D.Disk.may_leave g.D.Disk.moment g.D.Disk.left_since g.D.Disk.failures session change w (λ fails. outcome_of settings fails w.upkeep) free old begun mid new c.refusal.result c.fault_of_change.result c.refusal.ensures refuses back again

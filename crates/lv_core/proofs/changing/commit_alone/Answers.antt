@@ -10,13 +10,13 @@ use Rattle.lv_core.proofs.changing.commit_alone.Goals as goal
 
 pub returns-in-Ok-clause-case : goal.returns-in-Ok-clause-case
 returns-in-Ok-clause-case g c = λ w settings limit stands.
-    alone_ok g.D.Disk.seen g.D.Disk.may_leave g.D.Disk.failures c.args.count c.args.session w c.args.engine.now (λ fails. committed (outcome_of settings fails w.upkeep) c.args.session w.visible) false c.commit.new.self c.replied.result c.in-Ok.number
+    alone_ok g.D.Disk.seen g.D.Disk.may_leave g.D.Disk.moment g.D.Disk.left_since g.D.Disk.failures c.args.count c.args.session w c.args.engine.now (λ fails. committed (outcome_of settings fails w.upkeep) c.args.session w.visible) false c.commit.new.self c.replied.result c.in-Ok.number
     c.replied.ensures.forced c.replied.ensures.reply (c.in-Ok.ensures.case w settings limit stands) (record { logs = c.in-Ok.ensures.log w settings limit stands; later = c.in-Ok.ensures.later }) (λ fails. absurd cc)
 
 pub returns-in-Err-clause-case : goal.returns-in-Err-clause-case
 returns-in-Err-clause-case g c = λ w settings limit stands.
     let e = c.in-Err.fault in
-    alone_refused g.D.Disk.seen g.D.Disk.may_leave g.D.Disk.failures c.args.count c.args.session w c.args.engine.now (λ fails. committed (outcome_of settings fails w.upkeep) c.args.session w.visible) (shows_store (commit_fault e)) c.commit.new.self c.give_up.new.engine
+    alone_refused g.D.Disk.seen g.D.Disk.may_leave g.D.Disk.moment g.D.Disk.left_since g.D.Disk.failures c.args.count c.args.session w c.args.engine.now (λ fails. committed (outcome_of settings fails w.upkeep) c.args.session w.visible) (shows_store (commit_fault e)) c.commit.new.self c.give_up.new.engine
     c.in-Err.ensures.later (λ is. c.in-Err.ensures.cause (errs e _ (commit_store e is))) c.give_up.ensures.others c.give_up.ensures.case
     (λ f is. given_up (outcome_of settings (shows_store (commit_fault e)) w.upkeep) c.args.session w f is)
     c.refusal.result (commit_fault e) (subst (λ (f : Option Fault). IsRefusal f c.refusal.result) c.fault_of_commit.ensures c.refusal.ensures) (c.in-Err.ensures.case w settings limit stands)

@@ -20,7 +20,7 @@ returns-clause-case g c = λ w settings combines stands.
     let free = free_there w old session stands c.requires.free in
     let opening = world_after (began session w.visible) w in
     let inside = c.query_inside-answered.ensures.case opening settings (combines ∙ same_combine old begun _ c.begin.ensures.others) (c.begin.ensures.case w stands).1 in
-    answers_outside g.D.Disk.seen g.D.Disk.may_leave g.D.Disk.failures settings session query w free old begun mid new c.query_inside-answered.result (same_journal old begun _ c.begin.ensures.others) (same_journal mid new _ c.rollback.ensures.others) inside
+    answers_outside g.D.Disk.seen g.D.Disk.may_leave g.D.Disk.moment g.D.Disk.left_since g.D.Disk.failures settings session query w free old begun mid new c.query_inside-answered.result (same_journal old begun _ c.begin.ensures.others) (same_journal mid new _ c.rollback.ensures.others) inside
     (c.rollback.ensures.case (querying settings session query opening).next) c.query_inside-answered.ensures.refused
     (λ same. same_again old new session c.requires.free (then_set old begun new session _ None c.begin.ensures.others (ended mid new session _ c.rollback.ensures.others c.rollback.ensures.free ∙ ended_too mid begun session same)))
 

@@ -11,7 +11,7 @@ pub follow_event-requires-clause-may : goal.follow_event-requires-clause-may
 follow_event-requires-clause-may g c =
     let item = c.event-item.result in
     let run = c.loop-event.core.run in
-    let there = may_next g.D.Disk.seen g.D.Disk.may_leave g.D.Disk.failures c.args.core.now.run.program run c.args.events.now c.loop-event.event-index item c.requires.may
+    let there = may_next g.D.Disk.seen g.D.Disk.may_leave g.D.Disk.moment g.D.Disk.left_since g.D.Disk.failures c.args.core.now.run.program run c.args.events.now c.loop-event.event-index item c.requires.may
     c.loop-event.invariant.same.program c.loop-event.invariant.run c.loop-event.invariant.followed c.loop-event-test.true in
     subst (λ (e : Event). MayHappen run.program (state_of run) e) (sym c.event-item.is) there.0
 
@@ -19,7 +19,7 @@ pub follow_event-requires-clause-scheduled : goal.follow_event-requires-clause-s
 follow_event-requires-clause-scheduled g c =
     let item = c.event-item.result in
     let run = c.loop-event.core.run in
-    let there = may_next g.D.Disk.seen g.D.Disk.may_leave g.D.Disk.failures c.args.core.now.run.program run c.args.events.now c.loop-event.event-index item c.requires.may
+    let there = may_next g.D.Disk.seen g.D.Disk.may_leave g.D.Disk.moment g.D.Disk.left_since g.D.Disk.failures c.args.core.now.run.program run c.args.events.now c.loop-event.event-index item c.requires.may
     c.loop-event.invariant.same.program c.loop-event.invariant.run c.loop-event.invariant.followed c.loop-event-test.true in
     subst IsScheduled (sym c.event-item.is) there.1
 
@@ -28,10 +28,10 @@ returns-in_err-follow_event-clause-part g c =
     let seen = g.D.Disk.seen in
     let item = c.event-item.result in
     let run = c.loop-event.core.run in
-    let at = subst (λ (e : Event). HasStoppedAt seen g.D.Disk.may_leave g.D.Disk.failures e run c.follow_event.new.core.run (g.K.Sink.written c.loop-event.sink) (g.K.Sink.written c.follow_event.new.sink))
+    let at = subst (λ (e : Event). HasStoppedAt seen g.D.Disk.may_leave g.D.Disk.moment g.D.Disk.left_since g.D.Disk.failures e run c.follow_event.new.core.run (g.K.Sink.written c.loop-event.sink) (g.K.Sink.written c.follow_event.new.sink))
     c.event-item.is c.in_err-follow_event.ensures.part in
     on_err c.from_residual.result
-    (stopped_at seen g.D.Disk.may_leave g.D.Disk.failures c.more_names_give_the_same_text.ensures.entries c.more_names_give_the_same_text.ensures.one c.args.events.now c.loop-event.event-index item run
+    (stopped_at seen g.D.Disk.may_leave g.D.Disk.moment g.D.Disk.left_since g.D.Disk.failures c.more_names_give_the_same_text.ensures.entries c.more_names_give_the_same_text.ensures.one c.args.events.now c.loop-event.event-index item run
     c.follow_event.new.core.run (g.K.Sink.written c.args.sink.now) (g.K.Sink.written c.loop-event.sink) (g.K.Sink.written c.follow_event.new.sink) c.loop-event.invariant.run c.loop-event-test.true
     c.loop-event.invariant.followed c.loop-event.invariant.wrote at)
 
@@ -39,13 +39,15 @@ pub returns-in_err-follow_event-clause-same : goal.returns-in_err-follow_event-c
 returns-in_err-follow_event-clause-same g c =
     let run = c.loop-event.core.run in
     goes_on_twice c.args.core.now.run run c.follow_event.new.core.run c.loop-event.invariant.same
-    (goes_on_at g.D.Disk.seen g.D.Disk.may_leave g.D.Disk.failures c.event-item.result run c.follow_event.new.core.run (g.K.Sink.written c.loop-event.sink) (g.K.Sink.written c.follow_event.new.sink)
+    (goes_on_at g.D.Disk.seen g.D.Disk.may_leave g.D.Disk.moment g.D.Disk.left_since g.D.Disk.failures c.event-item.result run c.follow_event.new.core.run (g.K.Sink.written c.loop-event.sink) (g.K.Sink.written c.follow_event.new.sink)
     c.in_err-follow_event.ensures.part)
 
 pub loop-event-preserved : goal.loop-event-preserved
 loop-event-preserved g c =
     let seen = g.D.Disk.seen in
     let may_leave = g.D.Disk.may_leave in
+    let moment = g.D.Disk.moment in
+    let left_since = g.D.Disk.left_since in
     let failures = g.D.Disk.failures in
     let item = c.event-item.result in
     let old = c.loop-event.core.run in
@@ -54,13 +56,13 @@ loop-event-preserved g c =
     let written1 = g.K.Sink.written c.follow_event.new.sink in
     let inv = c.loop-event.invariant in
     let all = c.in_ok-follow_event.ensures.all in
-    let there = subst (λ (e : Event). HasAnswered seen may_leave failures e old new written written1) c.event-item.is all in
+    let there = subst (λ (e : Event). HasAnswered seen may_leave moment left_since failures e old new written written1) c.event-item.is all in
     let law = c.more_names_give_the_same_text.ensures in
     record {
       run = all.gave.run;
-      same = goes_on_twice c.args.core.now.run old new inv.same (goes_on_gave seen may_leave failures item old new all.gave);
-      followed = followed_next seen may_leave failures c.args.events.now c.loop-event.event-index item old new c.loop-event-test.true there.gave inv.followed;
+      same = goes_on_twice c.args.core.now.run old new inv.same (goes_on_gave seen may_leave moment left_since failures item old new all.gave);
+      followed = followed_next seen may_leave moment left_since failures c.args.events.now c.loop-event.event-index item old new c.loop-event-test.true there.gave inv.followed;
       names = c.in_ok-follow_event.ensures.names;
-      wrote = wrote_next seen may_leave failures law.entries law.joined law.one item old new (g.K.Sink.written c.args.sink.now) written written1 inv.run inv.wrote all;
+      wrote = wrote_next seen may_leave moment left_since failures law.entries law.joined law.one item old new (g.K.Sink.written c.args.sink.now) written written1 inv.run inv.wrote all;
       later = omega (arith, inv.later, c.in_ok-follow_event.ensures.later);
     }

@@ -28,7 +28,7 @@ returns-in-Ok-clause-ends g c left0 left1 faults0 faults1 bytes input script =
     let holds = g.O.Disks.holds c.args.disks.now in
     let path : Option (List ℕ) = option_map (λ (p : Bor (List ℕ)). p.now) c.path_of.result in
     subst
-    (λ (q : Option (List ℕ)). Ends g.O.Disk.Disk.seen g.O.Disk.Disk.may_leave failures c.args.words.now (holds q) q old new c.run_on.result.disk c.run_on.result.status)
+    (λ (q : Option (List ℕ)). Ends g.O.Disk.Disk.seen g.O.Disk.Disk.may_leave g.O.Disk.Disk.moment g.O.Disk.Disk.left_since failures c.args.words.now (holds q) q old new c.run_on.result.disk c.run_on.result.status)
     c.path_of.ensures
-    (ends_opened g.O.Disk.Disk.seen g.O.Disk.Disk.may_leave failures c.args.words.now (holds path) path old new bytes input (failures c.in-Ok.disk) c.in-Ok.ensures.opened c.run_on.result.status c.run_on.result.disk
+    (ends_opened g.O.Disk.Disk.seen g.O.Disk.Disk.may_leave g.O.Disk.Disk.moment g.O.Disk.Disk.left_since failures c.args.words.now (holds path) path old new bytes input (failures c.in-Ok.disk) c.in-Ok.ensures.opened c.run_on.result.status c.run_on.result.disk
     (c.run_on.ensures.ends (holds path) bytes c.in-Ok.ensures.bytes script))

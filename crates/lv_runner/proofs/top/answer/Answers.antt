@@ -8,6 +8,6 @@ returns-in-Ok-clause-ends g c =
 
 pub returns-in-Err-clause-ends : goal.returns-in-Err-clause-ends
 returns-in-Err-clause-ends g c =
-    ends_unread g.O.Disk.Disk.seen g.O.Disk.Disk.may_leave g.O.Disk.Disk.failures c.args.words.now _ _ (g.S.Source.left c.args.source.now) (g.S.Source.left c.plan_for.new.source) (g.K.Sink.written c.args.sink.now)
+    ends_unread g.O.Disk.Disk.seen g.O.Disk.Disk.may_leave g.O.Disk.Disk.moment g.O.Disk.Disk.left_since g.O.Disk.Disk.failures c.args.words.now _ _ (g.S.Source.left c.args.source.now) (g.S.Source.left c.plan_for.new.source) (g.K.Sink.written c.args.sink.now)
     (g.S.Source.faults c.args.source.now) (g.S.Source.faults c.plan_for.new.source) (g.K.Sink.faults c.args.sink.now) (g.O.Disks.failures c.args.disks.now) (g.K.Sink.is_flushed c.args.sink.now)
     (g.O.Disks.openings c.args.disks.now) c.in-Err.why c.status_of.result c.status_of.ensures c.in-Err.ensures.plan

@@ -10,19 +10,19 @@ use Rattle.lv_core.proofs.Undone.{roomy_undone, same_undone}
 use Rattle.lv_core.proofs.running.Run.mark.Goals as goal
 
 -- a name that is no view's
-gave_unknown : (g : _) (c : goal.After-push g) → let r = c.self.inside in Gave g.D.Disk.seen g.D.Disk.may_leave g.D.Disk.failures (mark_of c.args.view.now) c.args.self.now (view_of r.policy r.program r.engine r.opening.engine.value r.places c.push.new.self.list)
+gave_unknown : (g : _) (c : goal.After-push g) → let r = c.self.inside in Gave g.D.Disk.seen g.D.Disk.may_leave g.D.Disk.moment g.D.Disk.left_since g.D.Disk.failures (mark_of c.args.view.now) c.args.self.now (view_of r.policy r.program r.engine r.opening.engine.value r.places c.push.new.self.list)
 gave_unknown g c =
     let r = c.self.inside in
     let v = c.args.self.now in
-    unknown_gave g.D.Disk.seen g.D.Disk.may_leave g.D.Disk.failures r.policy r.program r.engine r.opening.engine.value r.places r.entries.list c.make_room.new.entries.list c.push.new.self.list v c.self.view_is (roomy_held g.D.Disk.seen g.D.Disk.may_leave g.D.Disk.failures r.policy r.program r.engine r.opening.engine.value r.places r.entries.list r.entries.spare v c.self.invariant.roomy c.self.view_is).run c.args.view.now
-    (c.requires.name, setup_held g.D.Disk.seen g.D.Disk.may_leave g.D.Disk.failures r.policy r.program r.engine r.opening.engine.value r.places r.entries.list r.entries.spare v c.self.invariant.roomy c.self.view_is c.requires.setup) c.in_ok-make_room.ensures.same c.schema.result.now.views c.schema.ensures.views (sym c.in_default.is ∙ c.view_of_name.ensures)
+    unknown_gave g.D.Disk.seen g.D.Disk.may_leave g.D.Disk.moment g.D.Disk.left_since g.D.Disk.failures r.policy r.program r.engine r.opening.engine.value r.places r.entries.list c.make_room.new.entries.list c.push.new.self.list v c.self.view_is (roomy_held g.D.Disk.seen g.D.Disk.may_leave g.D.Disk.moment g.D.Disk.left_since g.D.Disk.failures r.policy r.program r.engine r.opening.engine.value r.places r.entries.list r.entries.spare v c.self.invariant.roomy c.self.view_is).run c.args.view.now
+    (c.requires.name, setup_held g.D.Disk.seen g.D.Disk.may_leave g.D.Disk.moment g.D.Disk.left_since g.D.Disk.failures r.policy r.program r.engine r.opening.engine.value r.places r.entries.list r.entries.spare v c.self.invariant.roomy c.self.view_is c.requires.setup) c.in_ok-make_room.ensures.same c.schema.result.now.views c.schema.ensures.views (sym c.in_default.is ∙ c.view_of_name.ensures)
     (c.push.ensures.added ∙ λ i. c.make_room.new.entries.list ++ entry.MarkUnknown (c.in_ok-name.ensures i) ∷ [])
 
 pub invariant_of-self-in_default : goal.invariant_of-self-in_default
 invariant_of-self-in_default g c =
     let r = c.self.inside in
     record {
-      roomy = roomy g.D.Disk.seen g.D.Disk.may_leave g.D.Disk.failures (view_of r.policy r.program r.engine r.opening.engine.value r.places c.push.new.self.list) c.make_room.new.entries.spare c.push.new.self.spare (gave_unknown g c).run c.in_ok-make_room.ensures.room c.push.ensures.room;
+      roomy = roomy g.D.Disk.seen g.D.Disk.may_leave g.D.Disk.moment g.D.Disk.left_since g.D.Disk.failures (view_of r.policy r.program r.engine r.opening.engine.value r.places c.push.new.self.list) c.make_room.new.entries.spare c.push.new.self.spare (gave_unknown g c).run c.in_ok-make_room.ensures.room c.push.ensures.room;
       length_is = c.self.invariant.length_is;
       faults_are = c.self.invariant.faults_are;
     }
@@ -31,19 +31,19 @@ pub returns-in_default-clause-done : goal.returns-in_default-clause-done
 returns-in_default-clause-done g c = gave_unknown g c
 
 -- want of memory
-undone : (g : _) (c : goal.After-from_residual-in_err-entry g) → IsUndone g.D.Disk.seen g.D.Disk.may_leave g.D.Disk.failures c.self.inside.engine c.mark_view.new.engine
+undone : (g : _) (c : goal.After-from_residual-in_err-entry g) → IsUndone g.D.Disk.seen g.D.Disk.may_leave g.D.Disk.moment g.D.Disk.left_since g.D.Disk.failures c.self.inside.engine c.mark_view.new.engine
 undone g c =
     let r = c.self.inside in
     let v = c.args.self.now in
-    c.in_err-entry.ensures.case (rules_of v.settings v.program) (state_of v).world (limit_held g.D.Disk.seen g.D.Disk.may_leave g.D.Disk.failures r.policy r.program r.engine r.opening.engine.value r.places r.entries.list r.entries.spare v c.self.invariant.roomy c.self.view_is) (stands_held g.D.Disk.seen g.D.Disk.may_leave g.D.Disk.failures r.policy r.program r.engine r.opening.engine.value r.places r.entries.list r.entries.spare v c.self.invariant.roomy c.self.view_is)
+    c.in_err-entry.ensures.case (rules_of v.settings v.program) (state_of v).world (limit_held g.D.Disk.seen g.D.Disk.may_leave g.D.Disk.moment g.D.Disk.left_since g.D.Disk.failures r.policy r.program r.engine r.opening.engine.value r.places r.entries.list r.entries.spare v c.self.invariant.roomy c.self.view_is) (stands_held g.D.Disk.seen g.D.Disk.may_leave g.D.Disk.moment g.D.Disk.left_since g.D.Disk.failures r.policy r.program r.engine r.opening.engine.value r.places r.entries.list r.entries.spare v c.self.invariant.roomy c.self.view_is)
 
 pub invariant_of-self-in_err-entry : goal.invariant_of-self-in_err-entry
 invariant_of-self-in_err-entry g c =
     let r = c.self.inside in
     let v = c.args.self.now in
     record {
-      roomy = roomy_undone g.D.Disk.seen g.D.Disk.may_leave g.D.Disk.failures r.policy r.program r.engine c.mark_view.new.engine r.opening.engine.value r.places r.entries.list c.make_room.new.entries.list v c.self.view_is c.in_ok-make_room.ensures.same (undone g c)
-          r.entries.spare c.make_room.new.entries.spare (roomy_held g.D.Disk.seen g.D.Disk.may_leave g.D.Disk.failures r.policy r.program r.engine r.opening.engine.value r.places r.entries.list r.entries.spare v c.self.invariant.roomy c.self.view_is) c.in_ok-make_room.ensures.kept;
+      roomy = roomy_undone g.D.Disk.seen g.D.Disk.may_leave g.D.Disk.moment g.D.Disk.left_since g.D.Disk.failures r.policy r.program r.engine c.mark_view.new.engine r.opening.engine.value r.places r.entries.list c.make_room.new.entries.list v c.self.view_is c.in_ok-make_room.ensures.same (undone g c)
+          r.entries.spare c.make_room.new.entries.spare (roomy_held g.D.Disk.seen g.D.Disk.may_leave g.D.Disk.moment g.D.Disk.left_since g.D.Disk.failures r.policy r.program r.engine r.opening.engine.value r.places r.entries.list r.entries.spare v c.self.invariant.roomy c.self.view_is) c.in_ok-make_room.ensures.kept;
       length_is = c.self.invariant.length_is;
       faults_are = c.self.invariant.faults_are;
     }
@@ -53,22 +53,22 @@ returns-in_err-entry-clause-kept g c =
     let r = c.self.inside in
     let v = c.args.self.now in
     on_err c.from_residual-in_err-entry.result _
-    (same_undone g.D.Disk.seen g.D.Disk.may_leave g.D.Disk.failures r.policy r.program r.engine c.mark_view.new.engine r.opening.engine.value r.places r.entries.list c.make_room.new.entries.list v c.self.view_is c.in_ok-make_room.ensures.same (undone g c))
+    (same_undone g.D.Disk.seen g.D.Disk.may_leave g.D.Disk.moment g.D.Disk.left_since g.D.Disk.failures r.policy r.program r.engine c.mark_view.new.engine r.opening.engine.value r.places r.entries.list c.make_room.new.entries.list v c.self.view_is c.in_ok-make_room.ensures.same (undone g c))
 
 -- a view
-gave_mark : (g : _) (c : goal.After-push-2 g) → let r = c.self.inside in Gave g.D.Disk.seen g.D.Disk.may_leave g.D.Disk.failures (mark_of c.args.view.now) c.args.self.now (view_of r.policy r.program c.mark_view.new.engine r.opening.engine.value r.places c.push-2.new.self.list)
+gave_mark : (g : _) (c : goal.After-push-2 g) → let r = c.self.inside in Gave g.D.Disk.seen g.D.Disk.may_leave g.D.Disk.moment g.D.Disk.left_since g.D.Disk.failures (mark_of c.args.view.now) c.args.self.now (view_of r.policy r.program c.mark_view.new.engine r.opening.engine.value r.places c.push-2.new.self.list)
 gave_mark g c =
     let r = c.self.inside in
     let v = c.args.self.now in
-    marked_gave g.D.Disk.seen g.D.Disk.may_leave g.D.Disk.failures r.policy r.program r.engine r.opening.engine.value r.places r.entries.list c.make_room.new.entries.list c.push-2.new.self.list v c.self.view_is (roomy_held g.D.Disk.seen g.D.Disk.may_leave g.D.Disk.failures r.policy r.program r.engine r.opening.engine.value r.places r.entries.list r.entries.spare v c.self.invariant.roomy c.self.view_is).run c.args.view.now
-    (c.requires.name, setup_held g.D.Disk.seen g.D.Disk.may_leave g.D.Disk.failures r.policy r.program r.engine r.opening.engine.value r.places r.entries.list r.entries.spare v c.self.invariant.roomy c.self.view_is c.requires.setup) c.in_ok-make_room.ensures.same c.in-Some.number c.schema.result.now.views c.mark_view.new.engine c.in_ok-entry.entry c.schema.ensures.views (sym c.in-Some.is ∙ c.view_of_name.ensures)
-    c.push-2.ensures.added c.in_ok-entry.ensures.settings (c.in_ok-entry.ensures.case (rules_of v.settings v.program) (state_of v).world (limit_held g.D.Disk.seen g.D.Disk.may_leave g.D.Disk.failures r.policy r.program r.engine r.opening.engine.value r.places r.entries.list r.entries.spare v c.self.invariant.roomy c.self.view_is) (stands_held g.D.Disk.seen g.D.Disk.may_leave g.D.Disk.failures r.policy r.program r.engine r.opening.engine.value r.places r.entries.list r.entries.spare v c.self.invariant.roomy c.self.view_is))
+    marked_gave g.D.Disk.seen g.D.Disk.may_leave g.D.Disk.moment g.D.Disk.left_since g.D.Disk.failures r.policy r.program r.engine r.opening.engine.value r.places r.entries.list c.make_room.new.entries.list c.push-2.new.self.list v c.self.view_is (roomy_held g.D.Disk.seen g.D.Disk.may_leave g.D.Disk.moment g.D.Disk.left_since g.D.Disk.failures r.policy r.program r.engine r.opening.engine.value r.places r.entries.list r.entries.spare v c.self.invariant.roomy c.self.view_is).run c.args.view.now
+    (c.requires.name, setup_held g.D.Disk.seen g.D.Disk.may_leave g.D.Disk.moment g.D.Disk.left_since g.D.Disk.failures r.policy r.program r.engine r.opening.engine.value r.places r.entries.list r.entries.spare v c.self.invariant.roomy c.self.view_is c.requires.setup) c.in_ok-make_room.ensures.same c.in-Some.number c.schema.result.now.views c.mark_view.new.engine c.in_ok-entry.entry c.schema.ensures.views (sym c.in-Some.is ∙ c.view_of_name.ensures)
+    c.push-2.ensures.added c.in_ok-entry.ensures.settings (c.in_ok-entry.ensures.case (rules_of v.settings v.program) (state_of v).world (limit_held g.D.Disk.seen g.D.Disk.may_leave g.D.Disk.moment g.D.Disk.left_since g.D.Disk.failures r.policy r.program r.engine r.opening.engine.value r.places r.entries.list r.entries.spare v c.self.invariant.roomy c.self.view_is) (stands_held g.D.Disk.seen g.D.Disk.may_leave g.D.Disk.moment g.D.Disk.left_since g.D.Disk.failures r.policy r.program r.engine r.opening.engine.value r.places r.entries.list r.entries.spare v c.self.invariant.roomy c.self.view_is))
 
 pub invariant_of-self-2 : goal.invariant_of-self-2
 invariant_of-self-2 g c =
     let r = c.self.inside in
     record {
-      roomy = roomy g.D.Disk.seen g.D.Disk.may_leave g.D.Disk.failures (view_of r.policy r.program c.mark_view.new.engine r.opening.engine.value r.places c.push-2.new.self.list) c.make_room.new.entries.spare c.push-2.new.self.spare (gave_mark g c).run c.in_ok-make_room.ensures.room c.push-2.ensures.room;
+      roomy = roomy g.D.Disk.seen g.D.Disk.may_leave g.D.Disk.moment g.D.Disk.left_since g.D.Disk.failures (view_of r.policy r.program c.mark_view.new.engine r.opening.engine.value r.places c.push-2.new.self.list) c.make_room.new.entries.spare c.push-2.new.self.spare (gave_mark g c).run c.in_ok-make_room.ensures.room c.push-2.ensures.room;
       length_is = c.self.invariant.length_is;
       faults_are = c.self.invariant.faults_are;
     }

@@ -11,7 +11,7 @@ use Rattle.lv_core.proofs.running.Run.stale.Goals as goal
 pub place_of-place-requires : goal.place_of-place-requires
 place_of-place-requires g c =
     let r = c.self.inside in
-    subst (λ (ps : List ℕ). c.args.session < length ps) (sym c.as_slice.ensures) (place_held g.D.Disk.seen g.D.Disk.may_leave g.D.Disk.failures r.policy r.program r.engine r.opening.engine.value r.places r.entries.list c.args.self.now c.self.invariant.roomy.run c.self.view_is c.args.session c.requires.may)
+    subst (λ (ps : List ℕ). c.args.session < length ps) (sym c.as_slice.ensures) (place_held g.D.Disk.seen g.D.Disk.may_leave g.D.Disk.moment g.D.Disk.left_since g.D.Disk.failures r.policy r.program r.engine r.opening.engine.value r.places r.entries.list c.args.self.now c.self.invariant.roomy.run c.self.view_is c.args.session c.requires.may)
 
 pub returns : goal.returns
 returns g c =

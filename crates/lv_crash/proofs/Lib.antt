@@ -1,0 +1,4 @@
+pub mod Applying
+pub mod Follows
+pub mod Keeps
+pub mod Staying

@@ -1,0 +1,5 @@
+use Rattle.lv_crash.proofs.Staying.{kept_written}
+use Rattle.lv_crash.proofs.laws.attempts_show_what_is_kept.Goals as goal
+
+pub returns-clause : goal.returns-clause
+returns-clause g c = kept_written
