@@ -1,5 +1,5 @@
 -- Each event keeps what the record that it writes makes of what a stop leaves, and live transactions stay numbered.
-use Rattle.std.proofs.Common.{◌≡◌, ℕ, ◌<◌, Bool, true, false, cond, List, [], ◌∷◌, Option, Some, None, refl, sym, ap, subst}
+use Rattle.std.proofs.Common.{◌≡◌, ℕ, ◌<◌, Bool, true, false, cond, List, [], Option, Some, None, refl, subst}
 use Rattle.std.specs.Prelude.{◌==◌, if◌then◌else◌, map, length, slice_index, Result, Ok, Err}
 use Rattle.std.proofs.lemmas.List.{length-map}
 use Rattle.std.proofs.lemmas.List.Quantifiers.{position-Some}
@@ -7,18 +7,16 @@ use Rattle.std.specs.Str.{bytes_eq}
 use Rattle.lv_schema.specs.declared.bound.Bound.{Bound}
 use Rattle.lv_schema.specs.declared.bound.Bound.TheVariants as bound
 use Rattle.lv_schema.specs.declared.fault.Fault.{Fault}
-use Rattle.lv_schema.specs.declared.forced.Forced.{Forced}
 use Rattle.lv_schema.specs.declared.rec.Rec.{Rec}
 use Rattle.lv_schema.specs.declared.view.ViewDef.{ViewDef}
 use Rattle.lv_schema.specs.Bound.{IsBound}
-use Rattle.lv_schema.specs.Cases.{Outcome, good, failed, full, alone, changed, committed, queried}
+use Rattle.lv_schema.specs.Cases.{Outcome, good, failed, full, alone, changed}
 use Rattle.lv_schema.specs.Catalog.{view_named}
 use Rattle.lv_schema.specs.Steady.{IsSteady}
 use Rattle.lv_schema.specs.Tasks.{pending_tasks}
 use Rattle.lv_schema.specs.UpkeepCases.{Marking, mark_record, marked_by, marking, outcome_of, with_record, with_steps}
-use Rattle.lv_schema.specs.World.{Upkeep, Visible, World, point}
+use Rattle.lv_schema.specs.World.{Visible, World, point}
 use Rattle.lv_replay.specs.Numbers.{AreNumbered}
-use Rattle.lv_replay.specs.Replayed.{durable}
 use Rattle.lv_replay.specs.Runs.{Keeps, mark_written}
 use Rattle.lv_replay.proofs.Recorded.{table_keeps, view_keeps, commit_keeps, changed_keeps, alone_keeps}
 use Rattle.lv_replay.proofs.Maintained.{fetched_keeps, installed_keeps, marked_keeps}
@@ -77,25 +75,25 @@ module _ (outcome : Rec → Outcome) (tasks : List (ℕ × ℕ)) (session : ℕ)
 pub named_below : (s : Visible) (name : List ℕ) (v : ℕ) → view_named s.views name ≡ Some v → v < length s.views
 named_below s name v e =
     let found = position-Some (bytes_eq name) (map (λ (d : ViewDef). d.name) s.views) v [] e in
-    subst (λ (n : ℕ). v < n) (length-map (λ (d : ViewDef). d.name) s.views) found.0
+    subst (λ (n : ℕ). v < n) (length-map s.views (λ (d : ViewDef). d.name)) found.0
 
 module _ (rules : Rules) (fails : Bool) where
   abbrev out_if : World → Rec → Outcome
   out_if w = outcome_of rules.settings fails w.upkeep
 
   -- the record that the entry of a mark shows is the one that the mark wrote
+  abbrev IsAnswered : ℕ → World → Marking → Type 0
+  IsAnswered v w m = mark_written m ≡ answered_record rules fails m.answer v w.upkeep
+
   pub answered_is : (v : ℕ) (w : World) → mark_written (marking (out_if w) v w.upkeep) ≡ answered_record rules fails (marking (out_if w) v w.upkeep).answer v w.upkeep
   answered_is v w = by (slice_index w.upkeep.marks v == point w.upkeep v)
     where
-      abbrev IsSo : Marking → Type 0
-      IsSo m = mark_written m ≡ answered_record rules fails m.answer v w.upkeep
-
-      written : (out : Outcome) → IsSo (marked_by out v w.upkeep)
+      written : (out : Outcome) → IsAnswered v w (marked_by out v w.upkeep)
       written good = refl
       written failed = refl
       written (full need limit) = refl
 
-      by : (b : Bool) → IsSo (cond {A = Marking} b (record { answer = Ok None; next = w.upkeep; attempted = None }) (marked_by (out_if w (mark_record v w.upkeep)) v w.upkeep))
+      by : (b : Bool) → IsAnswered v w (cond {A = Marking} b (record { answer = Ok None; next = w.upkeep; attempted = None }) (marked_by (out_if w (mark_record v w.upkeep)) v w.upkeep))
       by true = refl
       by false = written (out_if w (mark_record v w.upkeep))
 
@@ -113,7 +111,7 @@ module _ (rules : Rules) (fails : Bool) where
 
   turn_given_keeps : (session : ℕ) (s : State) (line : Result Bound Fault) → IsSteady s.world → AreNumbered s.world.visible → ((b : Bound) → line ≡ Ok b → IsBound s.world.visible.tables s.world.visible.views b)
       → let t = read_turn (out_if s.world) (pending_tasks s.world) session line s.world.visible in
-        Keeps t.written s.world (record { visible = t.next; upkeep = with_record t.written (with_steps (steps_of rules.settings session line s.world) s.world.upkeep) })
+      Keeps t.written s.world (record { visible = t.next; upkeep = with_record t.written (with_steps (steps_of rules.settings session line s.world) s.world.upkeep) })
   turn_given_keeps session s (Err fault) steady numbered is = refl
   turn_given_keeps session s (Ok (bound.Query query)) steady numbered is = refl
   turn_given_keeps session s (Ok (bound.Table def)) steady numbered is = turn_keeps (out_if s.world) (pending_tasks s.world) session s.world steady numbered (Ok (bound.Table def)) is

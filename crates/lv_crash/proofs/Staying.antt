@@ -1,6 +1,6 @@
 -- Which records may stay: of no attempt none, of more attempts more, and what becomes of each.
-use Rattle.std.proofs.Common.{inl, inr, ◌≡◌, ℕ, Bool, true, false, List, [], ◌∷◌, ◌++◌, Option, Some, None, refl, sym, ap, ◌∙◌, subst}
-use Rattle.std.specs.Prelude.{◌⊎◌, cond, map, filter, is_some}
+use Rattle.std.proofs.Common.{inl, inr, ◌≡◌, Bool, true, false, List, [], ◌∷◌, ◌++◌, Option, Some, None, refl, sym, ap, ◌∙◌}
+use Rattle.std.specs.Prelude.{◌⊎◌, cond, map, filter}
 use Rattle.std.specs.List.{cons_option}
 use Rattle.std.proofs.lemmas.List.{append_assoc, append-nil}
 use Rattle.lv_schema.specs.declared.rec.Rec.{Rec}
@@ -13,13 +13,15 @@ use Rattle.lv_crash.specs.Attempts.{Attempt, MayStay, as_attempt, asked_by, atte
 use Rattle.lv_crash.proofs.Follows.{Follows, entry_follows}
 
 -- ---- what is kept
+kept_first : (k : Bool) (x : Attempt) (a b : List Attempt) → kept_of (a ++ b) ≡ kept_of a ++ kept_of b
+    → map (λ (y : Attempt). y.rec) (cond k (x ∷ filter (λ (y : Attempt). y.kept) (a ++ b)) (filter (λ (y : Attempt). y.kept) (a ++ b)))
+    ≡ map (λ (y : Attempt). y.rec) (cond k (x ∷ filter (λ (y : Attempt). y.kept) a) (filter (λ (y : Attempt). y.kept) a)) ++ kept_of b
+kept_first true x a b is = ap (λ (l : List Rec). x.rec ∷ l) is
+kept_first false x a b is = is
+
 kept_append : (a b : List Attempt) → kept_of (a ++ b) ≡ kept_of a ++ kept_of b
 kept_append [] b = refl
-kept_append (x ∷ a) b = by x.kept
-  where
-    by : (k : Bool) → map (λ (y : Attempt). y.rec) (cond k (x ∷ filter (λ (y : Attempt). y.kept) (a ++ b)) (filter (λ (y : Attempt). y.kept) (a ++ b))) ≡ map (λ (y : Attempt). y.rec) (cond k (x ∷ filter (λ (y : Attempt). y.kept) a) (filter (λ (y : Attempt). y.kept) a)) ++ kept_of b
-    by true = ap (λ (l : List Rec). x.rec ∷ l) (kept_append a b)
-    by false = kept_append a b
+kept_append (x ∷ a) b = kept_first x.kept x a b (kept_append a b)
 
 pub kept_attempt : (attempted written : Option Rec) → Follows attempted written → kept_of (as_attempt attempted written) ≡ cons_option written []
 kept_attempt None None follows = refl
@@ -74,7 +76,7 @@ pub last_stays : (a : List Attempt) (last : Attempt) → MayStay (a ++ last ∷ 
 last_stays a last = inr (record { before = a; last = last; behind = []; are = refl; left = refl })
 
 -- ---- what stays of a first attempt and of the others
-pub Unfolds : Attempt → List Attempt → List Rec → Type 0
+abbrev pub Unfolds : Attempt → List Attempt → List Rec → Type 0
 Unfolds a rest recs = (recs ≡ []) ⊎ (recs ≡ a.rec ∷ []) ⊎ ((more : List Rec) × MayStay rest more × (recs ≡ cond a.kept (a.rec ∷ more) more))
 
 tail_is : (a b : Attempt) (xs ys : List Attempt) → a ∷ xs ≡ b ∷ ys → (a ≡ b) × (xs ≡ ys)

@@ -14,6 +14,8 @@ ghost use Rattle.lv_plain.specs.Turns.{IsBinding};
 ghost use Rattle.lv_plain.specs.WrittenRecords.{records_of};
 ghost use Rattle.lv_crash.specs.Attempts.{MayStay, attempts_of, kept_of};
 
+use lv_plain::runs_keep_worlds_steady;
+
 /// Of the records that entries asked the disk to keep, those that were answered as done are the ones that the entries wrote.
 pub fn attempts_show_what_is_kept()
     ensures { (rules : Rules) (s : State) (es : List Entry) → kept_of (attempts_of rules s es) ≡ records_of rules s es }
@@ -27,4 +29,6 @@ pub fn what_a_crash_leaves_applies()
         → (all_apply (recs ++ records_of rules (begun rules (state_of recs)) es) ≡ true) × (durable (after rules (begun rules (state_of recs)) es).world ≡ state_of (recs ++ records_of rules (begun rules (state_of recs)) es)) }
     ensures crash { (rules : Rules) (recs : List Rec) (es : List Entry) → IsBinding rules.reading → IsWithinLimits rules.program → all_apply recs ≡ true → IsSteady (state_of recs) → IsStopped (state_of recs)
         → (more : List Rec) → MayStay (attempts_of rules (begun rules (state_of recs)) es) more → all_apply (recs ++ more) ≡ true }
-{}
+{
+    runs_keep_worlds_steady();
+}

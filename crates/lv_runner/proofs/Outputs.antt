@@ -34,7 +34,7 @@ use Rattle.lv_runner.specs.Late.{EndsSummed, EndsThreaded, HasRunBy, HasSummed, 
 use Rattle.lv_runner.specs.Opened.{IsOpened, OpensBy}
 use Rattle.lv_runner.specs.Output.{AreInOrder, begin_state, end_state, failures_in, names_after, names_of, output_by, output_of, run_rules, settings_in}
 use Rattle.lv_runner.specs.Written.{AreFirst, HasPart, HasWritten, HasWrittenPart, is_at_end}
-use Rattle.lv_runner.proofs.Crashes.{leaves_none}
+use Rattle.lv_runner.proofs.Crashes.{CrashLaw, leaves_none}
 use Rattle.lv_runner.proofs.Worlds.{IsFrom, OneWorldLaw, as_long, first_is, from_back, from_opened, has_entries, rules_are}
 
 abbrev pub PlacesLaw : Type 0
@@ -167,7 +167,7 @@ module _ {D : Type 0} (seen : D → Option (List ℕ)) (may_leave : D → List �
 
   -- ---- how a run ends over the engine that it began with
   module _ (w : SaidWords) (told : Option (List ℕ)) (bytes : List ℕ) (p : Program) (count : ℕ) (e : EngineView D) (begun_ : HasBegun seen may_leave moment left_since failures told bytes p count e)
-      (law : OneWorldLaw) (fresh : IsOpening e) (written0 written1 : Option (List ℕ)) (is_flushed : Bool) (faults0 faults1 : ℕ) where
+      (law : OneWorldLaw) (crash_law : CrashLaw) (fresh : IsOpening e) (written0 written1 : Option (List ℕ)) (is_flushed : Bool) (faults0 faults1 : ℕ) where
     abbrev Over : Status → Option D → Type 0
     Over status back = EndsOver seen may_leave moment left_since failures w told bytes count written0 written1 is_flushed faults0 faults1 status back
 
@@ -239,7 +239,7 @@ module _ {D : Type 0} (seen : D → Option (List ℕ)) (may_leave : D → List �
           (are : events ≡ schedule p) where
         later : (new : CoreView D) → GoesOn old new → IsFrom seen may_leave moment left_since failures w p begun_.recs count new
         later new same =
-            from_opened seen may_leave moment left_since failures w told bytes p count e begun_ law fresh new (same.program ∙ program) (same.settings ∙ settings) (same.opened ∙ opened_)
+            from_opened seen may_leave moment left_since failures w told bytes p count e begun_ law crash_law fresh new (same.program ∙ program) (same.settings ∙ settings) (same.opened ∙ opened_)
 
         ends_ordered : w.make ≡ None → HasRun seen may_leave moment left_since failures old events written0 written1 is_flushed faults0 faults1 status back → Over status back
         ends_ordered m ran =
@@ -263,10 +263,10 @@ module _ {D : Type 0} (seen : D → Option (List ℕ)) (may_leave : D → List �
       module _ (c : CoreView D) (run : IsRun seen may_leave moment left_since failures c) where
         module _ (same : IsSameStore seen may_leave moment left_since failures p (counts_of seen may_leave moment left_since failures old) c) where
           abbrev from : IsFrom seen may_leave moment left_since failures w p run.recs count c
-          from = from_back seen may_leave moment left_since failures w told bytes p count e begun_ law fresh old c settings opened_ run same
+          from = from_back seen may_leave moment left_since failures w told bytes p count e begun_ law crash_law fresh old c settings opened_ run same
 
           abbrev long : IfSome told (λ f. OpensBy w.threads f run.recs)
-          long = as_long seen may_leave moment left_since failures w told bytes p count e begun_ law fresh old c settings opened_ run same beside
+          long = as_long seen may_leave moment left_since failures w told bytes p count e begun_ law crash_law fresh old c settings opened_ run same beside
 
           back_front : IsAnswered c → AppendsFront written0 written1 (output_now None c) → HasWrittenPart seen may_leave moment left_since failures w told bytes written0 written1 count c.engine.journal.disk
           back_front none wrote =

@@ -26,7 +26,7 @@ use Rattle.lv_runner.specs.Late.{IsSameStore, counts_of}
 use Rattle.lv_runner.specs.Opened.{IsAsLong, LeavesRun, OpensBy, TellsRecords}
 use Rattle.lv_runner.specs.Output.{begin_state, run_rules, settings_in}
 use Rattle.lv_runner.specs.Written.{HasEntries, attempts_from, records_from}
-use Rattle.lv_runner.proofs.Crashes.{leaves_run}
+use Rattle.lv_runner.proofs.Crashes.{CrashLaw, leaves_run}
 
 -- ---- an engine that is fresh stands for one world
 abbrev pub OneWorldLaw : Type 0
@@ -56,6 +56,7 @@ module _ {D : Type 0} (seen : D → Option (List ℕ)) (may_leave : D → List �
     pub had : HasRecords seen may_leave recs None c.opened.journal
     pub counted : count ≤ failures c.opened.journal.disk
     pub apply : all_apply recs ≡ true
+    pub crash : CrashLaw
 
   module _ (w : SaidWords) (p : Program) (recs : List Rec) (count : ℕ) (c : CoreView D) (run : IsRun seen may_leave moment left_since failures c) (from : IsFrom w p recs count c) where
     pub rules_are : rules_of c.settings c.program ≡ run_rules w p
@@ -87,13 +88,13 @@ module _ {D : Type 0} (seen : D → Option (List ℕ)) (may_leave : D → List �
     pub has_entries : HasEntries seen may_leave moment left_since failures w p (replay.state_of recs) recs c.entries count c.engine.journal.disk
     has_entries = record {
       records = subst (λ rs. TellsRecords (recs ++ rs) (seen c.engine.journal.disk) (may_leave c.engine.journal.disk)) written_are tells;
-      left = subst (λ attempts. LeavesRun moment left_since recs attempts c.engine.journal.disk) asked_are (leaves_run seen may_leave moment left_since failures c run recs from.apply from.world from.had);
+      left = subst (λ attempts. LeavesRun moment left_since recs attempts c.engine.journal.disk) asked_are (leaves_run seen may_leave moment left_since failures from.crash c run recs from.apply from.world from.had);
       caused = rises;
     }
 
   -- ---- the engine that was opened, and a core that goes on from it
   module _ (w : SaidWords) (told : Option (List ℕ)) (bytes : List ℕ) (p : Program) (count : ℕ) (e : EngineView D) (begun_ : HasBegun seen may_leave moment left_since failures told bytes p count e)
-      (law : OneWorldLaw) (fresh : IsOpening e) where
+      (law : OneWorldLaw) (crash_law : CrashLaw) (fresh : IsOpening e) where
     pub from_opened : (c : CoreView D) → c.program ≡ p → c.settings ≡ settings_in w → c.opened ≡ e → IsFrom w p begun_.recs count c
     from_opened c program settings opened = record {
       program = program;
@@ -102,6 +103,7 @@ module _ {D : Type 0} (seen : D → Option (List ℕ)) (may_leave : D → List �
       had = subst (λ (o : EngineView D). HasRecords seen may_leave begun_.recs None o.journal) (sym opened) begun_.reopened.records;
       counted = subst (λ (o : EngineView D). count ≤ failures o.journal.disk) (sym opened) begun_.counted;
       apply = begun_.reopened.apply;
+      crash = crash_law;
     }
 
     -- the one that came back from the threads
@@ -123,6 +125,7 @@ module _ {D : Type 0} (seen : D → Option (List ℕ)) (may_leave : D → List �
         had = run.opened_by.had;
         counted = subst (λ n. count ≤ n) (sym faults_back) begun_.counted;
         apply = run.opened_by.apply;
+        crash = crash_law;
       }
 
       length_back : (replay.state_of run.recs).upkeep.journal ≡ (replay.state_of begun_.recs).upkeep.journal

@@ -17,6 +17,7 @@ use crate::running::{run_in_order, run_summed};
 use crate::status::Status;
 use crate::threads::run_in_threads;
 use lv_core::Core;
+use lv_crash::what_a_crash_leaves_applies;
 use lv_engine::{Engine, fresh_engines_stand_for_one_world};
 use lv_journal::JFault;
 use lv_order::{all_is_answered, each_event_may_come, places_after_events};
@@ -88,6 +89,7 @@ fn run_alone<K: Sink, D: Disk, L: Ledger>(
     places_after_events();
     all_is_answered();
     fresh_engines_stand_for_one_world();
+    what_a_crash_leaves_applies();
     let Plan { program, events } = plan;
     match Core::new(alloc, engine, program, picker) {
         Ok(core) => run_ordered(alloc, core, words, events.as_slice(), sink, steps),
@@ -124,6 +126,7 @@ fn run_beside<R: Threads + Wait + Sync, K: Sink, D: Disk + Send, G: Gate + Sync,
     ensures later { K.faults sink.old ≤ K.faults sink.new }
 {
     fresh_engines_stand_for_one_world();
+    what_a_crash_leaves_applies();
     let Plan { program, .. } = plan;
     let Ok(copied) = program.copy(alloc) else {
         return Ran {
