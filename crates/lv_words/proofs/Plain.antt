@@ -5,15 +5,16 @@ use Rattle.std.specs.Str.{bytes_eq}
 use Rattle.std.specs.Prelude.{option_and_then}
 use Rattle.std.proofs.lemmas.Bool.{and_parts, cases_Bool}
 use Rattle.clap.specs.Lexer.{name_and_value}
-use Rattle.clap.specs.Walk.{Held, Row, Rule, Waiting, Walk, has_row, idle, option as waits_for, reacted, reading_by, settled, used, walked}
-use Rattle.clap.specs.Faults.{long_fault, settle_fault, turn_fault, use_fault, walk_fault}
+use Rattle.clap.specs.Walk.{Held, Row, Rule, Waiting, Walk, has_row, idle, option as waits_for, reacted, reading_by, settled, used, walked, with_values, without}
+use Rattle.clap.specs.Faults.{long_fault, react_fault, settle_fault, turn_fault, use_fault, walk_fault}
 use Rattle.clap.specs.Kinds.{Kinds, or_else}
+use Rattle.clap.specs.declared.builder.value_parser.Reading.{Reading}
 use Rattle.clap.specs.declared.parser.matches.ValueSource.TheVariants.{CommandLine}
 use Rattle.lv_words.specs.Line.{is_fit}
 use Rattle.lv_words.specs.Values.{Text}
-use Rattle.lv_words.specs.Words.{Given, also, begun, front, gives, is_option, other, whole}
+use Rattle.lv_words.specs.Words.{Given, also, taken, incomplete, gives, is_option, other, complete}
 use Rattle.lv_words.proofs.Rows.{Tells, more, same_text, used_tells}
-use Rattle.lv_words.proofs.Rules.{flag, flag_use, option, option_use, repeated, rule_of}
+use Rattle.lv_words.proofs.Rules.{flag, flag_use, flag_used, option, option_use, option_used, repeated, rule_of}
 use Rattle.lv_words.proofs.Turns.{IsLine, IsLong, IsPlain, at, long_turn, long_walk, shape, turn_long, turn_stray, turn_value, walk_long, walk_value}
 use Rattle.lv_words.proofs.Forms.{form_by, long_form_is, looks}
 
@@ -45,7 +46,6 @@ module _ (c : List Rule) (is : IsLine c) where
     pub walk : walk_fault (shape c) [] w words ≡ []
     pub settles : settle_fault c false (ended w words).held ≡ []
     pub tells : Tells (settled c (ended w words).held).rows given
-    pub stopped : (ended w words).stopped ≡ None
 
   abbrev pub Agrees : Walk → List Text → Option Given → Type 0
   Agrees w words None = IsFault (faults w words)
@@ -66,7 +66,7 @@ module _ (c : List Rule) (is : IsLine c) where
 
       at_o : (p : Option Given) → Agrees (walked c [] w word) words p → Agrees w (word ∷ words) p
       at_o None h = subst (λ ks. IsFault (or_else ks (settle_fault c false (ended (walked c [] w word) words).held))) (sym same) h
-      at_o (Some given) h = record { walk = same ∙ h.walk; settles = h.settles; tells = h.tells; stopped = h.stopped }
+      at_o (Some given) h = record { walk = same ∙ h.walk; settles = h.settles; tells = h.tells }
 
   -- what is held settles without a fault, into these rows
   abbrev pub Settles : Held → List Row → Type 0
@@ -133,38 +133,35 @@ module _ (c : List Rule) (is : IsLine c) where
     abbrev Turns : Option Rule → Option Text → Type 0
     Turns r v = (turn_fault (shape c) [] (at h idle) word ≡ long_turn c h idle word r v) × (walked c [] (at h idle) word ≡ long_walk c h idle word r v)
 
-    valued_agrees : (value : Text) → Turns (rule_of name) (Some value) → Agrees (at h idle) (word ∷ words) (begun (form_by name (Some value)) given (gives words))
+    -- a use of the name's rule, which gives it the value
+    use_agrees : (a : Rule) (values : List Text) (value : Text) (how : Reading) → use_fault false a values rows ≡ repeated (has_row name rows)
+        → used a values rows ≡ with_values name how CommandLine (value ∷ []) (without name rows)
+        → turn_fault (shape c) [] (at h idle) word ≡ or_else (react_fault c false a values h) [] → walked c [] (at h idle) word ≡ at (reacted c a values h) idle
+        → Agrees (at h idle) (word ∷ words) (option_and_then (gives words None) (also name value given))
+    use_agrees a values value how fault rows_are turn to =
+        after_use (at h idle) word words (reacted c a values h) rows given name value told
+        (turn ∙ (λ i. or_else (or_else (settles.0 i) (use_fault false a values (settles.1 i))) []) ∙ ap (λ ks. or_else ks []) fault ∙ or_none (has_row name rows))
+        to
+        (λ free. idles (reacted c a values h) (used a values rows) (more name value given) (refl, ap (λ rs. used a values rs) settles.1)
+        (subst (λ rs. Tells rs (more name value given)) (sym rows_are) (used_tells name how CommandLine value rows given told free)))
+
+    valued_agrees : (value : Text) → Turns (rule_of name) (Some value) → Agrees (at h idle) (word ∷ words) (taken (form_by name (Some value)) given (gives words))
     valued_agrees value turns = by_case (bytes_eq (codes "threads") name) (is_option name) refl refl turns
       where
         by_case : (m n : Bool) → bytes_eq (codes "threads") name ≡ m → is_option name ≡ n → Turns (cond m (Some (flag name)) (cond n (Some (option name)) None)) (Some value)
-            → Agrees (at h idle) (word ∷ words) (begun (cond n (whole name value) other) given (gives words))
+            → Agrees (at h idle) (word ∷ words) (taken (cond n (complete name value) other) given (gives words))
         by_case true true a b t = absurd (no_option name a b)
         by_case true false a b t = faults_here (at h idle) word words _ t.0 tt
         by_case false false a b t = faults_here (at h idle) word words _ t.0 tt
         by_case false true a b t =
-            let next = reacted c (option name) (value ∷ []) h in
-            after_use (at h idle) word words next rows given name value told
-            (t.0 ∙ (ap (λ ks. or_else (or_else ks (use_fault false (option name) (value ∷ []) (settled c h).rows)) []) settles.0
-            ∙ (ap (λ rs. or_else (use_fault false (option name) (value ∷ []) rs) []) settles.1
-            ∙ (ap (λ ks. or_else ks []) (option_use name rows value) ∙ or_none (has_row name rows)))))
-            t.1
-            (λ free. idles next (used (option name) (value ∷ []) rows) (more name value given) (refl, ap (λ rs. used (option name) (value ∷ []) rs) settles.1)
-            (used_tells name (reading_by (option name)) CommandLine value rows given told free))
+            use_agrees (option name) (value ∷ []) value (reading_by (option name)) (option_use name rows value) (option_used name rows value) t.0 t.1
 
-    bare_agrees : Turns (rule_of name) None → Agrees (at h idle) (word ∷ words) (begun (form_by name None) given (gives words))
+    bare_agrees : Turns (rule_of name) None → Agrees (at h idle) (word ∷ words) (taken (form_by name None) given (gives words))
     bare_agrees turns = by_case (bytes_eq (codes "threads") name) (is_option name) refl refl turns
       where
         by_case : (m n : Bool) → bytes_eq (codes "threads") name ≡ m → is_option name ≡ n → Turns (cond m (Some (flag name)) (cond n (Some (option name)) None)) None
-            → Agrees (at h idle) (word ∷ words) (begun (cond m (whole name (codes "true")) (cond n (front name) other)) given (gives words))
-        by_case true n a b t =
-            let next = reacted c (flag name) [] h in
-            after_use (at h idle) word words next rows given name (codes "true") told
-            (t.0 ∙ (ap (λ ks. or_else (or_else ks (use_fault false (flag name) [] (settled c h).rows)) []) settles.0
-            ∙ (ap (λ rs. or_else (use_fault false (flag name) [] rs) []) settles.1
-            ∙ (ap (λ ks. or_else ks []) (flag_use name rows) ∙ or_none (has_row name rows)))))
-            t.1
-            (λ free. idles next (used (flag name) [] rows) (more name (codes "true") given) (refl, ap (λ rs. used (flag name) [] rs) settles.1)
-            (used_tells name (reading_by (flag name)) CommandLine (codes "true") rows given told free))
+            → Agrees (at h idle) (word ∷ words) (taken (cond m (complete name (codes "true")) (cond n (incomplete name) other)) given (gives words))
+        by_case true n a b t = use_agrees (flag name) [] (codes "true") (reading_by (flag name)) (flag_use name rows) (flag_used name rows) t.0 t.1
         by_case false false a b t = faults_here (at h idle) word words _ t.0 tt
         by_case false true a b t =
             goes_on (at h idle) _ word words _ (t.0 ∙ ap (λ ks. or_else ks []) settles.0) t.1
@@ -208,7 +205,7 @@ module _ (c : List Rule) (is : IsLine c) where
   pub agrees : (words : List Text) → list_all is_fit words ≡ true → Idles words × Waits words
   unfolding walk_fault
   agrees [] fit = (
-    λ h rows given settles told. record { walk = refl; settles = settles.0; tells = subst (λ rs. Tells rs given) (sym settles.1) told; stopped = refl },
+    λ h rows given settles told. record { walk = refl; settles = settles.0; tells = subst (λ rs. Tells rs given) (sym settles.1) told },
     λ rows name skip given n told. waits_fault rows name skip n,
   )
   agrees (word ∷ words) fit =
@@ -217,7 +214,7 @@ module _ (c : List Rule) (is : IsLine c) where
       elim (looks word parts.0) [
         | inl l ↦ (
           λ h rows given settles told.
-              subst (λ f. Agrees (at h idle) (word ∷ words) (begun f given (gives words))) (sym (l.2 ∙ long_form_is l.0))
+              subst (λ f. Agrees (at h idle) (word ∷ words) (taken f given (gives words))) (sym (l.2 ∙ long_form_is l.0))
               (long_agrees h rows given settles told l.0 l.1 later),
           λ rows name skip given n told.
               subst (λ b. Agrees (at (reading rows name [] skip) (waits_for name)) (word ∷ words) (cond b None (option_and_then (gives words None) (also name word given)))) (sym l.3)
@@ -225,7 +222,7 @@ module _ (c : List Rule) (is : IsLine c) where
         )
         | inr p ↦ (
           λ h rows given settles told.
-              subst (λ f. Agrees (at h idle) (word ∷ words) (begun f given (gives words))) (sym p.1)
+              subst (λ f. Agrees (at h idle) (word ∷ words) (taken f given (gives words))) (sym p.1)
               (faults_here (at h idle) word words _ (turn_stray c is h word p.0) tt),
           λ rows name skip given n told.
               subst (λ b. Agrees (at (reading rows name [] skip) (waits_for name)) (word ∷ words) (cond b None (option_and_then (gives words None) (also name word given)))) (sym p.2)
@@ -234,12 +231,12 @@ module _ (c : List Rule) (is : IsLine c) where
       ]
     where
       long_agrees : (h : Held) (rows : List Row) (given : Given) → Settles h rows → Tells rows given → (text : Text) → IsLong word text → Idles words × Waits words
-          → Agrees (at h idle) (word ∷ words) (begun (form_by (name_and_value text).0 (name_and_value text).1) given (gives words))
+          → Agrees (at h idle) (word ∷ words) (taken (form_by (name_and_value text).0 (name_and_value text).1) given (gives words))
       long_agrees h rows given settles told text l later =
           by_value (name_and_value text).1 (turn_long c is h idle word text l, walk_long c is h idle word text l)
         where
           by_value : (v : Option Text)
               → (turn_fault (shape c) [] (at h idle) word ≡ long_turn c h idle word (rule_of (name_and_value text).0) v) × (walked c [] (at h idle) word ≡ long_walk c h idle word (rule_of (name_and_value text).0) v)
-              → Agrees (at h idle) (word ∷ words) (begun (form_by (name_and_value text).0 v) given (gives words))
+              → Agrees (at h idle) (word ∷ words) (taken (form_by (name_and_value text).0 v) given (gives words))
           by_value None t = bare_agrees word words later.0 later.1 h rows given settles told (name_and_value text).0 t
           by_value (Some value) t = valued_agrees word words later.0 later.1 h rows given settles told (name_and_value text).0 value t

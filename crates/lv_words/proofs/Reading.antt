@@ -6,12 +6,12 @@ use Rattle.std.specs.Prelude.{option_and_then}
 use Rattle.std.proofs.lemmas.Bool.{and_cases, cases_Bool}
 use Rattle.clap.specs.Walk.{Row, Walk, finished, first_of, has_row, idle, nothing_held, reading_by, settled, with_default, with_values}
 use Rattle.clap.specs.Simple.{built, entered, matches_of}
-use Rattle.clap.specs.Faults.{check_fault, default_fault, defaults_fault, entered_fault, fault_of, settle_fault, walk_fault}
+use Rattle.clap.specs.Faults.{check_fault, default_fault, defaults_fault, entered_fault, fault_of, walk_fault}
 use Rattle.clap.specs.Kinds.{Kinds, or_else}
 use Rattle.clap.specs.declared.parser.matches.ValueSource.TheVariants.{DefaultValue}
 use Rattle.lv_words.specs.Line.{found_or, is_fit, lazyview, read}
 use Rattle.lv_words.specs.Values.{Text, is_on, settings}
-use Rattle.lv_words.specs.Words.{Form, Given, also, begins_with_minus, begun, front, form_of, gives, is_option, options, other, said, whole}
+use Rattle.lv_words.specs.Words.{Form, Given, also, begins_with_minus, taken, incomplete, form_of, gives, is_option, options, other, said, complete}
 use Rattle.lv_words.specs.declared.words.Words.{Words}
 use Rattle.lv_words.proofs.Rows.{Tells, added_value, more}
 use Rattle.lv_words.proofs.Rules.{by_id, by_long, by_position, flag, option, rules}
@@ -28,16 +28,16 @@ also_none name value given next none = by_case (is_some (given name))
     by_case true = refl
     by_case false = none (more name value given)
 
-begun_none : (f : Form) (given : Given) (next : Option Text → Given → Option Given) → ((waits : Option Text) (g : Given) → next waits g ≡ None) → begun f given next ≡ None
-begun_none (whole name value) given next none = also_none name value given (next None) (none None)
-begun_none (front name) given next none = none (Some name) given
-begun_none other given next none = refl
+taken_none : (f : Form) (given : Given) (next : Option Text → Given → Option Given) → ((waits : Option Text) (g : Given) → next waits g ≡ None) → taken f given next ≡ None
+taken_none (complete name value) given next none = also_none name value given (next None) (none None)
+taken_none (incomplete name) given next none = none (Some name) given
+taken_none other given next none = refl
 
 gives_none : (words : List Text) → list_all is_fit words ≡ false → (waits : Option Text) (given : Given) → gives words waits given ≡ None
 gives_none [] bad waits given = absurd (true≢false bad)
 gives_none (word ∷ words) bad None given = elim (and_cases (is_fit word) (list_all is_fit words) bad) [
-  | inl e ↦ ap (λ f. begun f given (gives words)) (unfit word e).0
-  | inr e ↦ begun_none (form_of word) given (gives words) (gives_none words e)
+  | inl e ↦ ap (λ f. taken f given (gives words)) (unfit word e).0
+  | inr e ↦ taken_none (form_of word) given (gives words) (gives_none words e)
 ]
 gives_none (word ∷ words) bad (Some name) given = elim (and_cases (is_fit word) (list_all is_fit words) bad) [
   | inl e ↦ ap (λ b. cond b None (option_and_then (gives words None) (also name word given))) (unfit word e).1
@@ -109,6 +109,9 @@ fault_whole [] [] (k ∷ ks) rest h = tt
 fault_whole [] (k ∷ ks) b rest h = tt
 fault_whole (k ∷ ks) below b rest h = tt
 
+no_fault : {a b c d e : Kinds} → a ≡ [] → b ≡ [] → c ≡ [] → d ≡ [] → e ≡ [] → or_else a (or_else b (or_else c (or_else d e))) ≡ []
+no_fault p q r s t = λ i. or_else (p i) (or_else (q i) (or_else (r i) (or_else (s i) (t i))))
+
 -- ---- the settings
 
 same_settings : (a b : Given) → is_on (a (codes "threads")) ≡ is_on (b (codes "threads")) → ((name : Text) → is_option name ≡ true → a name ≡ b name) → settings a ≡ settings b
@@ -169,11 +172,7 @@ module _ (words : List Text) where
   accepted given e =
       let rows : List Row = (settled rules end.held).rows in
       let clean : fault_of lazyview words ≡ [] =
-      ap (λ ks. or_else ks (or_else (entered_fault (built lazyview) end.stopped) (or_else (settle_fault rules false end.held) (or_else (defaults_fault rows rules) (check_fault (built lazyview).top (finished rules end.held) (is_some (entered (built lazyview) end.stopped))))))) e.walk
-      ∙ (ap (λ ks. or_else ks (or_else (settle_fault rules false end.held) (or_else (defaults_fault rows rules) (check_fault (built lazyview).top (finished rules end.held) (is_some (entered (built lazyview) end.stopped)))))) (no_stop end.stopped)
-      ∙ (ap (λ ks. or_else ks (or_else (defaults_fault rows rules) (check_fault (built lazyview).top (finished rules end.held) (is_some (entered (built lazyview) end.stopped))))) e.settles
-      ∙ (ap (λ ks. or_else ks (check_fault (built lazyview).top (finished rules end.held) (is_some (entered (built lazyview) end.stopped)))) (all_default rows)
-      ∙ checked (finished rules end.held) (is_some (entered (built lazyview) end.stopped))))) in
+      no_fault e.walk (no_stop end.stopped) e.settles (all_default rows) (checked (finished rules end.held) (is_some (entered (built lazyview) end.stopped))) in
       let found : matches_of lazyview words ≡ with_default rows (flag (codes "threads")) = options_stay (with_default rows (flag (codes "threads"))) options in
       ap (λ ks. option_and_then settings (found_or ks (λ name. first_of name (matches_of lazyview words)))) clean
       ∙ same_settings (λ name. first_of name (matches_of lazyview words)) given

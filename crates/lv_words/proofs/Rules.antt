@@ -3,12 +3,12 @@ use Rattle.std.proofs.Common.{◌≡◌, ap, refl, Bool, true, false, cond, ◌&
 use Rattle.std.specs.List.{list_any}
 use Rattle.std.specs.Str.{bytes_eq}
 use Rattle.clap.specs.Walk.{Row, Rule, arg_by_id, arg_by_index, arg_by_long, has_row, reading_by, used, with_values, without}
-use Rattle.clap.specs.Simple.{built, filled}
+use Rattle.clap.specs.Simple.{filled}
 use Rattle.clap.specs.Faults.{use_fault}
 use Rattle.clap.specs.Kinds.{Kinds, or_else}
 use Rattle.clap.specs.declared.error.kind.ErrorKind.TheVariants as kind
 use Rattle.clap.specs.declared.parser.matches.ValueSource.TheVariants.{CommandLine}
-use Rattle.lv_words.specs.Line.{flag_rule, lazyview, option_rule}
+use Rattle.lv_words.specs.Line.{flag_rule, option_rule}
 use Rattle.lv_words.specs.Values.{Text}
 use Rattle.lv_words.specs.Words.{is_option, options}
 use Rattle.lv_words.proofs.Rows.{same_text}
@@ -20,11 +20,9 @@ flag name = filled (flag_rule name)
 abbrev pub option : Text → Rule
 option name = filled (option_rule name)
 
+-- those of the built command line
 abbrev pub rules : List Rule
 rules = flag (codes "threads") ∷ map option options
-
-pub rules_are : (built lazyview).top.rules ≡ rules
-rules_are = refl
 
 -- the rule of a name
 abbrev pub rule_of : Text → Option Rule
@@ -80,9 +78,6 @@ once false = refl
 module _ (name : Text) (rows : List Row) where
   pub option_use : (value : Text) → use_fault false (option name) (value ∷ []) rows ≡ repeated (has_row name rows)
   option_use value = once (has_row name rows)
-
-  pub option_alone : use_fault false (option name) [] rows ≡ kind.InvalidValue ∷ []
-  option_alone = refl
 
   pub flag_use : use_fault false (flag name) [] rows ≡ repeated (has_row name rows)
   flag_use = once (has_row name rows)

@@ -2,7 +2,7 @@
 use Rattle.std.proofs.Common.{◌≡◌, refl, false, List, [], ◌∷◌, Option, Some, None, ℕ}
 use Rattle.std.specs.Str.{bytes_eq}
 use Rattle.clap.specs.Lexer.{long_of, name_and_value, short_of}
-use Rattle.clap.specs.Walk.{Held, Row, Rule, Waiting, Walk, after_flag, after_step, arg_by_id, arg_by_index, arg_by_long, idle, long_met, option as waits_for, positional, reacted, settled, subcommand_met, walked}
+use Rattle.clap.specs.Walk.{Held, Row, Rule, Waiting, Walk, after_flag, after_step, arg_by_id, arg_by_index, arg_by_long, idle, long_met, option as waits_for, positional, subcommand_met, walked}
 use Rattle.clap.specs.Simple.{Shape, built}
 use Rattle.clap.specs.Faults.{long_fault, step_fault, turn_fault}
 use Rattle.clap.specs.Kinds.{Kinds, or_else}
@@ -10,7 +10,7 @@ use Rattle.clap.specs.declared.error.kind.ErrorKind.TheVariants as kind
 use Rattle.lv_words.specs.Line.{lazyview}
 use Rattle.lv_words.specs.Values.{Text}
 use Rattle.lv_words.proofs.Rows.{text_is}
-use Rattle.lv_words.proofs.Rules.{flag, option, rule_of}
+use Rattle.lv_words.proofs.Rules.{option, rule_of}
 
 -- the command line with these rules
 abbrev pub shape : List Rule → Shape
@@ -67,19 +67,9 @@ module _ (c : List Rule) (is : IsLine c) (h : Held) (word : Text) (p : IsPlain w
   pub turn_value : (name : Text) → turn_fault (shape c) [] (at h (waits_for name)) word ≡ []
   turn_value name = rw (p.dashes, p.long, p.short) refl
 
--- the held words after a value
+-- a word that an option waits for is its value
 module _ (c : List Rule) (is : IsLine c) (word name : Text) (p : IsPlain word) (rows : List Row) (skip : ℕ) where
   pub walk_value : rule_of name ≡ Some (option name) → walked c [] (at (record { rows = rows; pending = Some (name, []); skip = skip }) (waits_for name)) word
       ≡ at (record { rows = rows; pending = Some (name, word ∷ []); skip = skip }) idle
   unfolding walked
   walk_value known = rw (p.dashes, p.long, p.short, is.id name, known, text_is name) refl
-
-module _ (c : List Rule) (h : Held) (waiting : Waiting) (word name : Text) where
-  pub option_valued : (value : Text) → long_walk c h waiting word (Some (option name)) (Some value) ≡ at (reacted c (option name) (value ∷ []) h) idle
-  option_valued value = refl
-
-  pub option_begun : long_walk c h waiting word (Some (option name)) None ≡ at (record (settled c h) { pending = Some (name, []) }) (waits_for name)
-  option_begun = refl
-
-  pub flag_met : long_walk c h waiting word (Some (flag name)) None ≡ at (reacted c (flag name) [] h) idle
-  flag_met = refl

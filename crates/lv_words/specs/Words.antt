@@ -1,4 +1,4 @@
--- What a list of words says. A word is a list of bytes; 45 is a minus, and 61 is a '='.
+-- What a list of words says. A word is its bytes: 45 is a minus, and 61 a '='.
 use Rattle.std.specs.Prelude.{Bool, false, ◌==◌, ◌&&◌, if◌then◌else◌, List, [], ◌∷◌, Option, Some, None, is_some, option_and_then, codes}
 use Rattle.std.specs.List.{after_first, before_first, list_any}
 use Rattle.std.specs.Str.{bytes_eq}
@@ -12,19 +12,19 @@ options = codes "workers" ∷ codes "turns" ∷ codes "combine" ∷ codes "polic
 abbrev pub is_option : Text → Bool
 is_option name = list_any (λ option. bytes_eq option name) options
 
--- what a word is: a flag, or an option with its value; an option whose value is the next word; or neither
+-- a word: an option with its value, an option whose value is the next word, or neither
 pub data Form : Type 0 where
-  whole : Text → Text → Form
-  front : Text → Form
+  complete : Text → Text → Form
+  incomplete : Text → Form
   other : Form
 
--- `--threads`, which counts as given the value `true`, or `--NAME`
+-- `--threads`, which has the value `true`, or `--NAME`
 abbrev pub named : Text → Form
-named name = if bytes_eq (codes "threads") name then whole name (codes "true") else (if is_option name then front name else other)
+named name = if bytes_eq (codes "threads") name then complete name (codes "true") else (if is_option name then incomplete name else other)
 
 -- `--NAME=VALUE`
 abbrev pub valued : Text → Text → Form
-valued name value = if is_option name then whole name value else other
+valued name value = if is_option name then complete name value else other
 
 -- what follows two minuses; a value begins behind the first '='
 abbrev pub long_form : Text → Form
@@ -40,25 +40,25 @@ abbrev pub begins_with_minus : Text → Bool
 begins_with_minus [] = false
 begins_with_minus (a ∷ rest) = a == 45
 
--- the value that is given to each option
+-- the value that an option has, by its name
 abbrev pub Given : Type 0
 Given = Text → Option Text
 
--- the same with one option more; none where it has a value
+-- the same with one option more; none where it is there before
 abbrev pub also : Text → Text → Given → Option Given
 also name value given = if is_some (given name) then None else Some (λ n. if bytes_eq name n then Some value else given n)
 
-abbrev pub begun : Form → Given → (Option Text → Given → Option Given) → Option Given
-begun (whole name value) given next = option_and_then (next None) (also name value given)
-begun (front name) given next = next (Some name) given
-begun other given next = None
+-- what a word gives, with those after it
+abbrev pub taken : Form → Given → (Option Text → Given → Option Given) → Option Given
+taken (complete name value) given next = option_and_then (next None) (also name value given)
+taken (incomplete name) given next = next (Some name) given
+taken other given next = None
 
--- what the words give beside what was given before them, where an option may wait for its value; none where a word is
--- out of place
+-- what words give beside what is given before them, where an option may wait for its value; none where one is out of place
 abbrev pub gives : List Text → Option Text → Given → Option Given
 gives [] None given = Some given
 gives [] (Some name) given = None
-gives (word ∷ words) None given = begun (form_of word) given (gives words)
+gives (word ∷ words) None given = taken (form_of word) given (gives words)
 gives (word ∷ words) (Some name) given =
     if begins_with_minus word then None else option_and_then (gives words None) (also name word given)
 
