@@ -12,9 +12,8 @@ use Rattle.clap.specs.declared.error.kind.ErrorKind.TheVariants as kind
 use Rattle.clap.specs.declared.error.kind.ErrorKind.{ErrorKind}
 use Rattle.clap.specs.declared.parser.matches.Found.{Found}
 use Rattle.clap.proofs.WalkLemmas.{first_value-rows}
-use Rattle.lv_words.specs.Line.{lazyview}
+use Rattle.lv_words.specs.Line.{found_or, lazyview, read}
 use Rattle.lv_words.specs.Values.{Text, settings}
-use Rattle.lv_words.specs.Words.{found_or, read}
 
 given_is : (f : Found) → first_value f ≡ (λ (id : Text). first_of id (rows_of f))
 given_is f = λ i id. first_value-rows f id i

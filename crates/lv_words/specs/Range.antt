@@ -1,5 +1,5 @@
 -- The ranges in which accepted words lie.
-use Rattle.std.specs.Prelude.{ℕ, ◌≡◌, ◌≤◌, ◌<◌, true, length, None, IfSome}
+use Rattle.std.specs.Prelude.{◌≡◌, ◌≤◌, ◌<◌, true, length, None, IfSome}
 use Rattle.lv_words.specs.declared.words.Words.{Words}
 
 pub record IsInRange (w : Words) : Type 0 where

@@ -2,9 +2,10 @@
 ghost use Rattle.std.specs.Prelude.{◌≡◌, IfOk, IfSome, Some, None, map, option_map};
 ghost use Rattle.std.specs.List.{list_all};
 ghost use Rattle.clap.specs.Matches.{first_value, found_of};
+ghost use Rattle.lv_words.specs.Line as line;
 ghost use Rattle.lv_words.specs.Range.{IsInRange};
 ghost use Rattle.lv_words.specs.Values as value;
-ghost use Rattle.lv_words.specs.Words as spec;
+ghost use Rattle.lv_words.specs.Words.{said};
 
 use crate::command::matches;
 use crate::values::{is_on, make_or, number_or, policy_or};
@@ -48,7 +49,7 @@ pub enum WordsFault {
 
 /// Whether the word begins with no minus, or with two and has more.
 fn is_fit(word: &str) -> bool
-    ensures { result ≡ spec.is_fit word.now }
+    ensures { result ≡ line.is_fit word.now }
 {
     match word.as_bytes() {
         [] => true,
@@ -58,7 +59,7 @@ fn is_fit(word: &str) -> bool
 }
 
 fn are_fit(words: &[Text]) -> bool
-    ensures { result ≡ list_all spec.is_fit words.now }
+    ensures { result ≡ list_all line.is_fit words.now }
 {
     words.iter().all(|word| is_fit(word.as_str()))
 }
@@ -130,9 +131,9 @@ fn settings(alloc: Global, given: &ArgMatches<'_>) -> Result<Words, WordsFault>
 /// What clap finds in the words, as settings.
 #[tactic(auto, using(crate::proofs::Finding::reads_as))]
 fn read(alloc: Global, words: &[&str]) -> Result<Words, WordsFault>
-    ensures accepted { IfOk result (λ w. spec.read (map (λ s. s.now) words.now) ≡ Some w) }
+    ensures accepted { IfOk result (λ w. line.read (map (λ s. s.now) words.now) ≡ Some w) }
     ensures range { IfOk result IsInRange }
-    ensures refused { result ≡ Err WordsFault.Refused → spec.read (map (λ s. s.now) words.now) ≡ None }
+    ensures refused { result ≡ Err WordsFault.Refused → line.read (map (λ s. s.now) words.now) ≡ None }
 {
     match matches(alloc, words) {
         Ok(given) => settings(alloc, &given),
@@ -146,9 +147,9 @@ fn read(alloc: Global, words: &[&str]) -> Result<Words, WordsFault>
 /// Reads the words of a command line, without the program's name. `Refused` comes exactly where they are not
 /// accepted. Cost: linear in their bytes.
 pub fn read_words(alloc: Global, words: &[Text]) -> Result<Words, WordsFault>
-    ensures accepted { IfOk result (λ w. spec.said words.now ≡ Some w) }
+    ensures accepted { IfOk result (λ w. said words.now ≡ Some w) }
     ensures range { IfOk result IsInRange }
-    ensures refused { result ≡ Err WordsFault.Refused → spec.said words.now ≡ None }
+    ensures refused { result ≡ Err WordsFault.Refused → said words.now ≡ None }
 {
     if !are_fit(words) {
         return Err(WordsFault::Refused);
