@@ -5,6 +5,8 @@
 #[cfg(test)]
 mod causes;
 #[cfg(test)]
+mod cores;
+#[cfg(test)]
 mod damage;
 #[cfg(test)]
 mod failing;
