@@ -12,6 +12,7 @@ use lv_picker::{Choice, Picker, place_of_oldest};
 use lv_plain::{Entry, Reply};
 use lv_recover::reopen;
 use lv_schema::Pending;
+use lv_shared::Taken;
 use lv_store::Settings;
 use lv_values::{Bytes, Items, NoMemory, Steps};
 use std::alloc::Global;
@@ -86,6 +87,16 @@ fn release(core: &mut Core<MemDisk>) -> Result<(), NoMemory> {
     Ok(())
 }
 
+/// Worker 1, which is actor 17, takes a step as its work, and gives it up.
+fn forget<L: Ledger>(core: &mut Core<MemDisk>, steps: &mut Steps<L>) -> Result<(), NoMemory> {
+    match core.take_work(17, steps)? {
+        Taken::Work(_) => {}
+        Taken::Idle | Taken::Ended => return Err(NoMemory),
+    }
+    core.forget_work(17);
+    Ok(())
+}
+
 /// Worker 1 takes out what its step is computed from, computes it, and offers the result.
 fn install<L: Ledger>(
     core: &mut Core<MemDisk>,
@@ -102,7 +113,7 @@ fn install<L: Ledger>(
     core.install(alloc, 1, outcome, steps)
 }
 
-/// A core whose worker has fetched a step, given it up, fetched it again, and installed it; then its view is read.
+/// A core whose worker has twice fetched a step and given it up, fetched it again, and installed it; then its view is read.
 fn worked<L: Ledger>(alloc: Global, picker: Picker, blank: Blank) -> Result<Core<MemDisk>, NoMemory>
     requires name { blank.name ≡ L.name }
     requires parts { blank.parts ≡ L.parts }
@@ -118,6 +129,7 @@ fn worked<L: Ledger>(alloc: Global, picker: Picker, blank: Blank) -> Result<Core
     if core.take_slot(1).is_some() {
         return Err(NoMemory);
     }
+    forget(&mut core, &mut steps)?;
     fetch(&mut core, alloc, &mut steps)?;
     install(&mut core, alloc, &mut steps)?;
     fetch(&mut core, alloc, &mut steps)?;
@@ -130,6 +142,24 @@ fn is_fetched(entry: Option<&Entry>) -> bool {
     matches!(
         entry,
         Some(Entry::Fetched {
+            worker: 1,
+            view: 0,
+            lo: 0,
+            hi: 1
+        })
+    )
+}
+
+/// Whether an entry shows that worker 1 has given its step up.
+fn is_released(entry: Option<&Entry>) -> bool {
+    matches!(entry, Some(Entry::Released { worker: 1 }))
+}
+
+/// Whether an entry shows that worker 1 has installed the step of the view to commit 1.
+fn is_installed(entry: Option<&Entry>) -> bool {
+    matches!(
+        entry,
+        Some(Entry::Installed {
             worker: 1,
             view: 0,
             lo: 0,
@@ -164,22 +194,15 @@ fn a_step_that_is_given_up_is_fetched_again(rt: HostRuntime) -> Result<(), Fail>
     )?;
     let core = worked::<Brand>(alloc, Picker::new(0, oldest), Blank::new(1))?;
     let entries = core.entries();
-    assert_eq!(rt; entries.len(), 9);
-    assert!(rt; is_fetched(entries.get(3)));
-    assert!(rt; matches!(entries.get(4), Some(Entry::Released { worker: 1 })));
-    assert!(rt; is_fetched(entries.get(5)));
-    assert!(rt;
-        matches!(
-            entries.get(6),
-            Some(Entry::Installed {
-                worker: 1,
-                view: 0,
-                lo: 0,
-                hi: 1
-            })
-        )
-    );
-    assert!(rt; matches!(entries.get(7), Some(Entry::Idle { worker: 1 })));
-    assert!(rt; is_unforced_row(entries.get(8)));
+    assert_eq!(rt; entries.len(), 11);
+    for at in [3, 5, 7] {
+        assert!(rt; is_fetched(entries.get(at)), "entry {at}");
+    }
+    for at in [4, 6] {
+        assert!(rt; is_released(entries.get(at)), "entry {at}");
+    }
+    assert!(rt; is_installed(entries.get(8)));
+    assert!(rt; matches!(entries.get(9), Some(Entry::Idle { worker: 1 })));
+    assert!(rt; is_unforced_row(entries.get(10)));
     Ok(())
 }
