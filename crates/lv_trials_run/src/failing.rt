@@ -1,6 +1,7 @@
-//! One call of the outside fails.
+//! One call of the outside fails, in scripts with transactions and marks.
 
 use crate::runs::{Given, Left, run_on, run_over};
+use crate::worked::{JOURNAL, count_of};
 use lv_outside::{FreeGate, MemDisks};
 use lv_runner::Status;
 use lv_values::{Items, NoMemory};
@@ -19,10 +20,6 @@ commit
 commit
 select * from item
 ";
-
-/// The journal of it: a table and a commit.
-const WORKED: &[u8] =
-    b"LVJRNL01\x01\x14\x00\x00\x00\x01\x04item\x02\x02id\x01\x05price\x01\x01\x00\x01&\x00\x00\x00\x03\x01\x00\x00\x00\x00\x00\x00\x00\x01\x00\x00\x00\x00\x01\x00\x00\x00\x01\x02\x01\x01\x00\x00\x00\x00\x00\x00\x00\x01\x0a\x00\x00\x00\x00\x00\x00\x00\x00";
 
 /// Commits, a forced step and a mark.
 const SHOP: &[u8] = b"@setup
@@ -49,17 +46,6 @@ select * from sale
 const AGAIN: &[u8] = b"@session a
 select id from item
 ";
-
-/// How often a text has a word.
-fn count_of(text: &[u8], word: &[u8]) -> u64 {
-    let mut count: u64 = 0;
-    for at in 0..text.len() {
-        if text[at..].starts_with(word) {
-            count = count.saturating_add(1);
-        }
-    }
-    count
-}
 
 /// What a run without words over one disk left, where memory was found.
 fn left_by<R: Threads + Wait + Sync>(
@@ -94,7 +80,7 @@ a 5 rows 1
     };
     assert!(rt; left.status == Status::Done);
     assert!(rt; left.text.as_slice() == want);
-    assert!(rt; left.disk.is_some_and(|bytes| bytes.as_slice() == WORKED));
+    assert!(rt; left.disk.is_some_and(|bytes| bytes.as_slice() == JOURNAL));
     Ok(())
 }
 

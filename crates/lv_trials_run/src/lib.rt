@@ -1,9 +1,20 @@
-//! What only a call can show of a run: what is answered, written and left where a call of the outside fails.
+//! What only a call can show of a run: what is answered, written and left where a call of the outside fails, where a journal
+//! is damaged, and where the disk stops.
 #![tactic(auto)]
 
+#[cfg(test)]
+mod causes;
+#[cfg(test)]
+mod cores;
+#[cfg(test)]
+mod damage;
 #[cfg(test)]
 mod failing;
 #[cfg(test)]
 mod runs;
 #[cfg(test)]
+mod stops;
+#[cfg(test)]
 mod threads;
+#[cfg(test)]
+mod worked;

@@ -3,7 +3,7 @@ ghost use Rattle.std.specs.Prelude.{◌≡◌, ◌<◌, ◌-◌, ◌^◌};
 ghost use Rattle.lv_picker.specs.Choices.{IsChoice};
 ghost use Rattle.lv_schema.specs.Policies.{chosen};
 
-use lv_outside::{Disks, FreeGate, Gate, MemDisk, MemSink, MemSource, OneDisk};
+use lv_outside::{Disk, Disks, FreeGate, Gate, MemDisk, MemSink, MemSource, OneDisk};
 use lv_picker::{Choice, Picker, place_of_first, place_of_most, place_of_oldest};
 use lv_runner::{Ran, Status, run};
 use lv_schema::Pending;
@@ -21,7 +21,15 @@ pub(crate) struct Given<'a> {
     pub sink_fails: &'a [u64],
 }
 
-/// How a run ended, what it wrote, and what its disk holds, if one came back.
+/// How a run ended, what it wrote, and its disk, if one came back.
+#[derive(Drop)]
+pub(crate) struct Ended<D> {
+    pub status: Status,
+    pub text: Bytes,
+    pub disk: Option<D>,
+}
+
+/// How a run ended, what it wrote, and what its disk in memory holds, if one came back.
 #[derive(Drop)]
 pub(crate) struct Left {
     pub status: Status,
@@ -53,13 +61,12 @@ pub(crate) fn disk_of(
 }
 
 /// Runs a script over disks.
-pub(crate) fn run_over<R: Threads + Wait + Sync, O: Disks<Disk = MemDisk>, G: Gate + Sync>(
-    rt: &R,
-    alloc: Global,
-    given: &Given<'_>,
-    disks: &mut O,
-    gate: &G,
-) -> Result<Left, NoMemory>
+pub(crate) fn run_with<
+    R: Threads + Wait + Sync,
+    D: Disk + Send + Drop,
+    O: Disks<Disk = D>,
+    G: Gate + Sync,
+>(rt: &R, alloc: Global, given: &Given<'_>, disks: &mut O, gate: &G) -> Result<Ended<D>, NoMemory>
     requires { (O.openings disks.old).asked < 2 ^ 64 - 1 }
 {
     let mut words = Items::new(alloc);
@@ -107,6 +114,20 @@ pub(crate) fn run_over<R: Threads + Wait + Sync, O: Disks<Disk = MemDisk>, G: Ga
         gate,
     );
     let text = Bytes::from_slice(alloc, sink.written())?;
+    Ok(Ended { status, text, disk })
+}
+
+/// The same over disks in memory.
+pub(crate) fn run_over<R: Threads + Wait + Sync, O: Disks<Disk = MemDisk>, G: Gate + Sync>(
+    rt: &R,
+    alloc: Global,
+    given: &Given<'_>,
+    disks: &mut O,
+    gate: &G,
+) -> Result<Left, NoMemory>
+    requires { (O.openings disks.old).asked < 2 ^ 64 - 1 }
+{
+    let Ended { status, text, disk } = run_with(rt, alloc, given, disks, gate)?;
     let disk = match disk {
         Some(disk) => Some(Bytes::from_slice(alloc, disk.bytes())?),
         None => None,
@@ -114,7 +135,7 @@ pub(crate) fn run_over<R: Threads + Wait + Sync, O: Disks<Disk = MemDisk>, G: Ga
     Ok(Left { status, text, disk })
 }
 
-/// The same over one disk that holds these bytes, with a gate that holds nothing back.
+/// The same over one disk in memory that holds these bytes, with a gate that holds nothing back.
 pub(crate) fn run_on<R: Threads + Wait + Sync>(
     rt: &R,
     alloc: Global,
@@ -124,4 +145,20 @@ pub(crate) fn run_on<R: Threads + Wait + Sync>(
 ) -> Result<Left, NoMemory> {
     let mut disks = OneDisk::new(alloc, disk_of(alloc, bytes, fails)?);
     run_over(rt, alloc, given, &mut disks, &FreeGate)
+}
+
+/// The same without words, where no call fails.
+pub(crate) fn run_again<R: Threads + Wait + Sync>(
+    rt: &R,
+    alloc: Global,
+    script: &[u8],
+    bytes: &[u8],
+) -> Result<Left, NoMemory> {
+    let given = Given {
+        words: &[],
+        script,
+        source_fails: &[],
+        sink_fails: &[],
+    };
+    run_on(rt, alloc, &given, bytes, &[])
 }

@@ -1,0 +1,297 @@
+//! Each single call of the outside fails in turn: how the run ends, what it writes, and what the disk then has.
+
+use crate::runs::{Given, Left, run_again, run_on, run_over};
+use crate::worked::{ITEMS, NO_ROW, NO_TABLE, SHOP, SHOP_TEXT, accepted, records_of};
+use lv_outside::{FreeGate, MemDisks};
+use lv_runner::Status;
+use lv_values::{Items, NoMemory};
+use std::alloc::Global;
+use std::sync::Wait;
+use std::test::Fail;
+use std::thread::Threads;
+
+/// A table and a commit.
+const TWO: &[u8] = b"@setup
+create table item (id int, price int, primary key (id))
+@session a
+insert into item values (1, 10)
+";
+
+/// A call of the disk: its kind (1 length, 2 read, 3 write, 4 sync), and its number among those of the kind.
+type Call = (u8, u64);
+
+/// What is answered to the shop's script where the disk does not keep the record of this number, the first being 1.
+fn text_without(record: u64) -> &'static [u8] {
+    match record {
+        1 => {
+            b"setup 1 fault 17 store fault
+setup 2 ok
+setup 3 fault 2 unknown name item
+setup 4 fault 2 unknown name item
+a 1 fault 2 unknown name item
+a 2 ok 1 commit 1
+a 3 fault 2 unknown name per_item
+"
+        }
+        2 => {
+            b"setup 1 ok
+setup 2 fault 17 store fault
+setup 3 fault 2 unknown name sale
+setup 4 fault 2 unknown name sale
+a 1 ok 1 commit 1
+a 2 fault 2 unknown name sale
+a 3 fault 2 unknown name per_item
+"
+        }
+        3 => {
+            b"setup 1 ok
+setup 2 ok
+setup 3 fault 17 store fault
+setup 4 ok
+a 1 ok 1 commit 1
+a 2 ok 1 commit 2
+a 3 fault 2 unknown name per_item
+"
+        }
+        4 => {
+            b"setup 1 ok
+setup 2 ok
+setup 3 ok
+setup 4 fault 17 store fault
+a 1 ok 1 commit 1
+a 2 ok 1 commit 2
+force per_item 0 2
+a 3 rows 1
+| 1 | 5 | 1
+"
+        }
+        5 => {
+            b"setup 1 ok
+setup 2 ok
+setup 3 ok
+setup 4 ok
+a 1 fault 17 store fault
+a 2 ok 1 commit 1
+force per_item 0 1
+a 3 rows 0
+"
+        }
+        6 => {
+            b"setup 1 ok
+setup 2 ok
+setup 3 ok
+setup 4 ok
+a 1 ok 1 commit 1
+a 2 fault 17 store fault
+force per_item 0 1
+a 3 rows 0
+"
+        }
+        _ => SHOP_TEXT,
+    }
+}
+
+/// What a call of the disk is for.
+#[derive(Clone, Copy, PartialEq, Eq)]
+enum Use {
+    /// The journal is opened: a look at the length, a write and a sync of its first bytes, and a read of its first gate.
+    Opening,
+    /// The record of this number: each takes two writes and two syncs.
+    Record(u64),
+    /// There is no such call.
+    Nothing,
+}
+
+/// What a call is for, in a run over an empty disk that keeps six records.
+fn use_of(call: Call) -> Use {
+    let (kind, number) = call;
+    if number == 1 {
+        return Use::Opening;
+    }
+    if kind < 3 || number > 13 {
+        return Use::Nothing;
+    }
+    Use::Record(number / 2)
+}
+
+/// What a run of the shop's script over an empty disk leaves, where these calls of the disk and of the sink fail.
+fn left_by<R: Threads + Wait + Sync>(
+    rt: &R,
+    alloc: Global,
+    fails: &[Call],
+    sink_fails: &[u64],
+) -> Result<Left, NoMemory> {
+    let given = Given {
+        words: &[],
+        script: SHOP,
+        source_fails: &[],
+        sink_fails,
+    };
+    run_on(rt, alloc, &given, b"", fails)
+}
+
+/// Whether a journal opens again and has so many records.
+fn opens_with<R: Threads + Wait + Sync>(
+    rt: &R,
+    alloc: Global,
+    bytes: &[u8],
+    records: u64,
+) -> Result<bool, NoMemory> {
+    let Left { status, .. } = run_again(rt, alloc, ITEMS, bytes)?;
+    Ok(status == Status::Done && records_of(alloc, bytes) == Some(records))
+}
+
+/// Whether a run of which a call of the disk fails is refused with nothing written, where the call is one of the opening; and else
+/// is answered as one whose record was not kept. At the end the disk has the accepted records; where the last sync fails, it has also
+/// the record that was to be kept by it.
+fn is_answered<R: Threads + Wait + Sync>(
+    rt: &R,
+    alloc: Global,
+    call: Call,
+) -> Result<bool, NoMemory> {
+    let Left { status, text, disk } = left_by(rt, alloc, &[call], &[])?;
+    let Some(disk) = disk else {
+        return Ok(false);
+    };
+    let used = use_of(call);
+    if used == Use::Opening {
+        return Ok(status == Status::OpenFault && text.as_slice().is_empty());
+    }
+    let want = match used {
+        Use::Record(record) => text_without(record),
+        _ => SHOP_TEXT,
+    };
+    let doubt = if call == (4, 13) { 1 } else { 0 };
+    let records = accepted(want).saturating_add(doubt);
+    Ok(
+        status == Status::Done
+            && text.as_slice() == want
+            && opens_with(rt, alloc, disk.as_slice(), records)?,
+    )
+}
+
+#[test]
+fn each_call_of_the_disk_is_answered_for(rt: HostRuntime) -> Result<(), Fail> {
+    for kind in 1..5u8 {
+        for number in 1..15u64 {
+            assert!(rt;
+                is_answered(&rt, rt.alloc(), (kind, number))?,
+                "kind {kind} call {number}"
+            );
+        }
+    }
+    Ok(())
+}
+
+/// The first lines of a text.
+fn first_lines(text: &[u8], count: u64) -> &[u8] {
+    let mut left = count;
+    for at in 0..text.len() {
+        if left == 0 {
+            return text.get(..at).unwrap_or(text);
+        }
+        if text[at] == b'\n' {
+            left -= 1;
+        }
+    }
+    text
+}
+
+/// Whether a run of which a call of the sink fails has written the entries before it, and its disk has the records of these and of the
+/// entry that was to be written.
+fn is_written_so_far<R: Threads + Wait + Sync>(
+    rt: &R,
+    alloc: Global,
+    number: u64,
+) -> Result<bool, NoMemory> {
+    let Left { status, text, disk } = left_by(rt, alloc, &[], &[number])?;
+    let Some(disk) = disk else {
+        return Ok(false);
+    };
+    let want = if number < 8 {
+        first_lines(SHOP_TEXT, number.saturating_sub(1))
+    } else {
+        SHOP_TEXT
+    };
+    Ok(
+        status == Status::SinkFault
+            && text.as_slice() == want
+            && opens_with(rt, alloc, disk.as_slice(), number.min(6))?,
+    )
+}
+
+#[test]
+fn each_call_of_the_sink_is_answered_for(rt: HostRuntime) -> Result<(), Fail> {
+    // Seven entries, each one piece, and a flush.
+    for number in 1..9u64 {
+        assert!(rt;
+            is_written_so_far(&rt, rt.alloc(), number)?,
+            "call {number}"
+        );
+    }
+    let Left { status, text, .. } = left_by(&rt, rt.alloc(), &[], &[9])?;
+    assert!(rt; status == Status::Done);
+    assert!(rt; text.as_slice() == SHOP_TEXT);
+    Ok(())
+}
+
+/// What a run of the shop's script over an empty disk leaves, where a call of the source fails, and an opening.
+fn left_where<R: Threads + Wait + Sync>(
+    rt: &R,
+    alloc: Global,
+    source_fails: u64,
+    opening_fails: u64,
+) -> Result<Left, NoMemory> {
+    let mut fails = Items::new(alloc);
+    fails.push(opening_fails)?;
+    let mut disks = MemDisks::new(alloc, fails);
+    let given = Given {
+        words: &[],
+        script: SHOP,
+        source_fails: &[source_fails],
+        sink_fails: &[],
+    };
+    run_over(rt, alloc, &given, &mut disks, &FreeGate)
+}
+
+#[test]
+fn each_call_of_the_source_and_the_disks_is_answered_for(rt: HostRuntime) -> Result<(), Fail> {
+    // The source is read twice: its bytes, and its end. One disk is asked for.
+    for (source, opening, want) in [
+        (1, 0, Status::SourceFault),
+        (2, 0, Status::SourceFault),
+        (0, 1, Status::OpenFault),
+    ] {
+        let Left { status, text, disk } = left_where(&rt, rt.alloc(), source, opening)?;
+        assert!(rt; status == want, "read {source} opening {opening}");
+        assert!(rt; text.as_slice().is_empty() && disk.is_none());
+    }
+    let Left { status, text, .. } = left_where(&rt, rt.alloc(), 3, 2)?;
+    assert!(rt; status == Status::Done);
+    assert!(rt; text.as_slice() == SHOP_TEXT);
+    Ok(())
+}
+
+#[test]
+fn a_table_of_which_a_sync_fails_is_in_doubt(rt: HostRuntime) -> Result<(), Fail> {
+    let want: &[u8] = b"setup 1 fault 17 store fault
+a 1 fault 2 unknown name item
+";
+    let given = Given {
+        words: &[],
+        script: TWO,
+        source_fails: &[],
+        sink_fails: &[],
+    };
+    for (sync, rows) in [(2, NO_TABLE), (3, NO_ROW)] {
+        let Left { status, text, disk } = run_on(&rt, rt.alloc(), &given, b"", &[(4, sync)])?;
+        assert!(rt; status == Status::Done);
+        assert!(rt; text.as_slice() == want, "sync {sync}");
+        let Some(bytes) = disk else {
+            return Err(Fail::from(NoMemory));
+        };
+        let again = run_again(&rt, rt.alloc(), ITEMS, bytes.as_slice())?;
+        assert!(rt; again.text.as_slice() == rows, "sync {sync}");
+    }
+    Ok(())
+}

@@ -1,0 +1,124 @@
+//! A disk that stops after some calls, and what a crash then may leave of it.
+
+use crate::runs::{Ended, Given, Left, run_again, run_with};
+use crate::worked::{ITEMS, NO_ROW, NO_TABLE, ONE_ROW, accepted, records_of};
+use lv_outside::{CrashDisk, Disk, FreeGate, OneDisk};
+use lv_runner::Status;
+use lv_values::NoMemory;
+use std::alloc::Global;
+use std::sync::Wait;
+use std::test::Fail;
+use std::thread::Threads;
+
+/// A table, and a transaction that is committed twice.
+const TWICE: &[u8] = b"@setup
+create table item (id int, price int, primary key (id))
+@session a
+begin
+insert into item values (1, 10)
+commit
+commit
+select * from item
+";
+
+/// What is answered to it where no call fails.
+const WHOLE: &[u8] = b"setup 1 ok
+a 1 begin 0
+a 2 ok 1
+a 3 commit 1
+a 4 fault 10 no transaction
+a 5 rows 1
+| 1 | 10
+";
+
+/// How many calls open an empty disk: its length, a write, a sync and a read.
+const OPENING: u64 = 4;
+
+/// How many calls the whole run takes: two records behind that, each with two writes and two syncs.
+const ALL: u64 = 12;
+
+/// A run over a disk of which so many calls pass.
+fn stopped_after<R: Threads + Wait + Sync>(
+    rt: &R,
+    alloc: Global,
+    good: u64,
+) -> Result<Ended<CrashDisk>, NoMemory> {
+    let given = Given {
+        words: &[],
+        script: TWICE,
+        source_fails: &[],
+        sink_fails: &[],
+    };
+    let mut disks = OneDisk::new(alloc, CrashDisk::new(alloc, good)?);
+    run_with(rt, alloc, &given, &mut disks, &FreeGate)
+}
+
+/// What the table has where so many records are kept.
+fn rows_with(records: u64) -> &'static [u8] {
+    match records {
+        0 => NO_TABLE,
+        1 => NO_ROW,
+        _ => ONE_ROW,
+    }
+}
+
+/// Whether an image of the disk opens, with so many records or one more.
+fn is_kept<R: Threads + Wait + Sync>(
+    rt: &R,
+    alloc: Global,
+    disk: &CrashDisk,
+    pick: u8,
+    written: u64,
+) -> Result<bool, NoMemory>
+    requires { pick < 4 }
+{
+    let image = disk.image(pick)?;
+    let Some(records) = records_of(alloc, image.as_slice()) else {
+        return Ok(false);
+    };
+    let Left { status, text, .. } = run_again(rt, alloc, ITEMS, image.as_slice())?;
+    Ok(
+        status == Status::Done
+            && text.as_slice() == rows_with(records)
+            && (records == written || records == written.saturating_add(1)),
+    )
+}
+
+/// Whether each image of the disk opens so.
+fn are_kept<R: Threads + Wait + Sync>(
+    rt: &R,
+    alloc: Global,
+    disk: &CrashDisk,
+    written: u64,
+) -> Result<bool, NoMemory> {
+    for pick in 0..4u8 {
+        if !is_kept(rt, alloc, disk, pick, written)? {
+            return Ok(false);
+        }
+    }
+    Ok(true)
+}
+
+#[test]
+fn what_is_written_as_accepted_outlives_each_stop(rt: HostRuntime) -> Result<(), Fail> {
+    for good in 0..ALL + 1 {
+        let Ended { status, text, disk } = stopped_after(&rt, rt.alloc(), good)?;
+        let Some(disk) = disk else {
+            return Err(Fail::from(NoMemory));
+        };
+        let written = accepted(text.as_slice());
+        if good < OPENING {
+            assert!(rt; status == Status::OpenFault, "stopped after {good} calls");
+            assert!(rt; text.as_slice().is_empty());
+        } else {
+            assert!(rt; status == Status::Done, "stopped after {good} calls");
+            assert!(rt;
+                are_kept(&rt, rt.alloc(), &disk, written)?,
+                "stopped after {good} calls"
+            );
+        }
+        assert_eq!(rt; disk.faults() == 0, good == ALL);
+        assert_eq!(rt; text.as_slice() == WHOLE, good == ALL);
+    }
+    Ok(())
+}
