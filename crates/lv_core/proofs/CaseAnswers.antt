@@ -31,6 +31,7 @@ use Rattle.lv_engine.specs.declared.fault.CommitFault.{CommitFault}
 use Rattle.lv_engine.specs.declared.fault.CommitFault.TheVariants as commit
 use Rattle.lv_engine.specs.declared.fault.CreateFault.{CreateFault}
 use Rattle.lv_engine.specs.declared.fault.CreateFault.TheVariants as create
+use Rattle.lv_engine.proofs.Logged.{unchanged_logs}
 use Rattle.lv_engine.specs.Answering.{GivesQuery, LogsUnless, Refuses, commit_fault, create_fault, shows_store}
 use Rattle.lv_engine.specs.Kept.{EngineView, Stands, length_of}
 use Rattle.lv_engine.specs.Records.{HasRecords}

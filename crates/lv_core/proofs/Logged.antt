@@ -1,6 +1,6 @@
 -- What has become of the journal of a run, after one entry more or none.
 use Rattle.std.proofs.Common.{inl, inr, ⊎_elim, ◌≡◌, ◌≤◌, ℕ, false, List, [], ◌∷◌, ◌++◌, Option, Some, None, refl, sym, ap, ◌∙◌, subst, arith}
-use Rattle.std.specs.Prelude.{◌⊎◌, IfSome, is_some}
+use Rattle.std.specs.Prelude.{◌⊎◌, Bool, IfSome, IsSomeAnd, is_some}
 use Rattle.std.specs.List.{cons_option}
 use Rattle.std.proofs.lemmas.List.{append-nil, append_assoc}
 use Rattle.lv_journal.specs.declared.writer.Writer.{Writer}
@@ -21,7 +21,7 @@ use Rattle.lv_core.specs.Run.{CoreView, IsLeftOf, IsLogged, asked_of, first_stat
 use Rattle.lv_core.proofs.RecordsGo.{Goes, GoesOn, IsAfter}
 
 -- the attempt of the entry that an event gives
-pub given_attempt : (rules : Rules) (fails : _) (event : Event) (s : State) → attempts_of rules s ((give rules fails event s).entry ∷ []) ≡ as_attempt (written_by rules false event s) (written_by rules fails event s)
+pub given_attempt : (rules : Rules) (fails : Bool) (event : Event) (s : State) → attempts_of rules s ((give rules fails event s).entry ∷ []) ≡ as_attempt (written_by rules false event s) (written_by rules fails event s)
 given_attempt rules fails event s =
     append-nil (as_attempt (asked_by rules (event_of s (give rules fails event s).entry) s) (entry_record rules s (give rules fails event s).entry))
     ∙ λ i. as_attempt (asked_by rules (its_event rules fails event s i) s) (given_record rules fails event s i)
@@ -49,7 +49,7 @@ module _ {D : Type 0} (seen : D → Option (List ℕ)) (may_leave : D → List �
   }
   by_call c recs asked written h bytes (inr (inl doubted)) = by h.doubt h.doubted doubted
     where
-      by : (doubt : Option Rec) → IfSome doubt (λ rec. MayStay (asked_of c) (written_of c ++ rec ∷ [])) → _ → IsLeftOf recs (asked_of c ++ as_attempt asked written) bytes
+      by : (doubt : Option Rec) → IfSome doubt (λ rec. MayStay (asked_of c) (written_of c ++ rec ∷ [])) → IsSomeAnd doubt (λ rec. IsJournalWith ((recs ++ written_of c) ++ rec ∷ []) bytes) → IsLeftOf recs (asked_of c ++ as_attempt asked written) bytes
       by None stays journal = absurd journal
       by (Some rec) stays journal = record {
         more = written_of c ++ rec ∷ [];
@@ -58,7 +58,7 @@ module _ {D : Type 0} (seen : D → Option (List ℕ)) (may_leave : D → List �
       }
   by_call c recs asked written h bytes (inr (inr put)) = by asked refl put
     where
-      by : (o : Option Rec) → asked ≡ o → _ → IsLeftOf recs (asked_of c ++ as_attempt asked written) bytes
+      by : (o : Option Rec) → asked ≡ o → IsSomeAnd o (λ rec. IsJournalWith ((recs ++ written_of c) ++ rec ∷ []) bytes) → IsLeftOf recs (asked_of c ++ as_attempt asked written) bytes
       by None is journal = absurd journal
       by (Some rec) is journal = record {
         more = written_of c ++ rec ∷ [];

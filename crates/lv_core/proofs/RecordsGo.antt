@@ -1,11 +1,12 @@
 -- What becomes of the records of a journal by an event: the one that it writes comes to them. And what a crash meanwhile
 -- may leave.
-use Rattle.std.proofs.Common.{inl, inr, ◌≡◌, ℕ, Bool, true, false, cond, List, [], ◌∷◌, ◌++◌, length, Option, Some, None, refl, sym, subst}
+use Rattle.std.proofs.Common.{inl, inr, ◌≡◌, ℕ, Bool, true, false, cond, List, [], ◌∷◌, ◌++◌, length, Option, Some, None, refl, sym, subst, ◌∙◌}
 use Rattle.std.specs.Prelude.{◌⊎◌, ◌+◌, ◌==◌, nat_lt, if◌then◌else◌, slice_index, Result, Ok, Err}
 use Rattle.std.specs.List.{cons_option}
 use Rattle.std.proofs.lemmas.List.{append-nil}
 use Rattle.lv_schema.specs.declared.bound.Bound.{Bound}
 use Rattle.lv_schema.specs.declared.bound.Bound.TheVariants as bound
+use Rattle.lv_schema.specs.declared.change.Change.{Change}
 use Rattle.lv_schema.specs.declared.fault.Fault.{Fault}
 use Rattle.lv_schema.specs.declared.open.Open.{Open}
 use Rattle.lv_schema.specs.declared.rec.Rec.{Rec}
@@ -80,17 +81,18 @@ module _ (settings : Settings) (u : Upkeep) (fails : Bool) where
   abbrev out_if : Bool → Rec → Outcome
   out_if b = outcome_of settings b u
 
+  -- what becomes of a record that fits
+  abbrev fitting : Bool → Outcome
+  fitting b = if b then failed else good
+
   asks : {A : Type 0} (rec : Rec) (a : A) (next s : Visible) → (if_written (out_if fails rec) rec a next s).attempted ≡ (if_written (out_if false rec) rec a next s).written
   asks {A} rec a next s = by (nat_lt settings.limit (need u rec))
     where
-      of : Bool → Outcome
-      of b = if b then failed else good
-
-      kept : (b : Bool) → (if_written {A = A} (of b) rec a next s).attempted ≡ Some rec
+      kept : (b : Bool) → (if_written {A = A} (fitting b) rec a next s).attempted ≡ Some rec
       kept true = refl
       kept false = refl
 
-      by : (b : Bool) → (if_written {A = A} (if b then full (need u rec) settings.limit else of fails) rec a next s).attempted ≡ (if_written {A = A} (if b then full (need u rec) settings.limit else good) rec a next s).written
+      by : (b : Bool) → (if_written {A = A} (if b then full (need u rec) settings.limit else fitting fails) rec a next s).attempted ≡ (if_written {A = A} (if b then full (need u rec) settings.limit else good) rec a next s).written
       by true = refl
       by false = kept fails
 
@@ -110,7 +112,7 @@ module _ (settings : Settings) (u : Upkeep) (fails : Bool) where
       by false = unless (first_fault (conflict_of s o) (merged_full s o))
 
   -- a commit that is not answered as done writes nothing
-  quiet : Result (Option ℕ) Fault → Option Rec → Option Rec
+  abbrev quiet : Result (Option ℕ) Fault → Option Rec → Option Rec
   quiet (Ok number) written = written
   quiet (Err f) written = None
 
@@ -119,14 +121,14 @@ module _ (settings : Settings) (u : Upkeep) (fails : Bool) where
   written_quiet failed rec a next s = refl
   written_quiet (full need limit) rec a next s = refl
 
+  abbrev IsQuiet : Case (Option ℕ) → Type 0
+  IsQuiet c = quiet c.answer c.written ≡ c.written
+
   commit_quiet : (session : ℕ) (s : Visible) → let c = committed (out_if false) session s in quiet c.answer c.written ≡ c.written
   commit_quiet session s = by (length o.actions == 0)
     where
       o : Open
       o = transaction session s
-
-      abbrev IsQuiet : Case (Option ℕ) → Type 0
-      IsQuiet c = quiet c.answer c.written ≡ c.written
 
       unless : (f : Option Fault) → IsQuiet (committed_unless f (out_if false) session o s)
       unless (Some f) = refl
@@ -147,6 +149,9 @@ module _ (settings : Settings) (u : Upkeep) (fails : Bool) where
       let d = committed (out_if false) session begun in
       (counted count c.answer c s).0 ∙ commit_asks session begun ∙ sym (commit_quiet session begun) ∙ sym (counted count d.answer d s).1
 
+  abbrev changed_turn : ℕ → Change → Visible → (Rec → Outcome) → Bool → Turn
+  changed_turn session change s out b = if b then turn_by reply.Changed (changed session change s) else turn_by (λ done. reply.Alone done.0 done.1) (alone out session change s)
+
   bound_asks : (tasks : List (ℕ × ℕ)) (session : ℕ) (statement : Bound) (s : Visible) → (bound_turn (out_if fails) tasks session statement s).attempted ≡ (bound_turn (out_if false) tasks session statement s).written
   bound_asks tasks session (bound.Table def) s = asks {A = Unit {0}} (table_record def) tt (with_table def s) s
   bound_asks tasks session (bound.View def) s = asks {A = Unit {0}} (view_record def s) tt (with_view def s) s
@@ -155,10 +160,7 @@ module _ (settings : Settings) (u : Upkeep) (fails : Bool) where
       first : Case ℕ
       first = changed session change (began session s).next
 
-      turn_with : (Rec → Outcome) → Bool → Turn
-      turn_with out b = if b then turn_by reply.Changed (changed session change s) else turn_by (λ done. reply.Alone done.0 done.1) (alone out session change s)
-
-      by : (b : Bool) → (turn_with (out_if fails) b).attempted ≡ (turn_with (out_if false) b).written
+      by : (b : Bool) → (changed_turn session change s (out_if fails) b).attempted ≡ (changed_turn session change s (out_if false) b).written
       by true = unattempted session change s ∙ sym (unwritten session change s)
       by false = alone_asks session s first.next first.answer
   bound_asks tasks session (bound.Query query) s = refl
@@ -171,25 +173,22 @@ module _ (settings : Settings) (u : Upkeep) (fails : Bool) where
   turn_asks tasks session (Ok b) s = bound_asks tasks session b s
   turn_asks tasks session (Err f) s = refl
 
+  abbrev marking_by : ℕ → Bool → (Rec → Outcome) → Marking
+  marking_by v b out = cond {A = Marking} b (record { answer = Ok None; next = u; attempted = None }) (marked_by (out (mark_record v u)) v u)
+
   -- a mark asks for what it writes
   pub mark_asks : (v : ℕ) → (marking (out_if fails) v u).attempted ≡ mark_written (marking (out_if false) v u)
   mark_asks v = by (slice_index u.marks v == point u v)
     where
-      of : Bool → Outcome
-      of b = if b then failed else good
-
-      kept : (b : Bool) → (marked_by (of b) v u).attempted ≡ mark_written (marked_by good v u)
+      kept : (b : Bool) → (marked_by (fitting b) v u).attempted ≡ mark_written (marked_by good v u)
       kept true = refl
       kept false = refl
 
-      written : (b : Bool) → (marked_by (if b then full (need u (mark_record v u)) settings.limit else of fails) v u).attempted ≡ mark_written (marked_by (if b then full (need u (mark_record v u)) settings.limit else good) v u)
+      written : (b : Bool) → (marked_by (if b then full (need u (mark_record v u)) settings.limit else fitting fails) v u).attempted ≡ mark_written (marked_by (if b then full (need u (mark_record v u)) settings.limit else good) v u)
       written true = refl
       written false = kept fails
 
-      abbrev marking_by : Bool → (Rec → Outcome) → Marking
-      marking_by b out = cond {A = Marking} b (record { answer = Ok None; next = u; attempted = None }) (marked_by (out (mark_record v u)) v u)
-
-      by : (b : Bool) → (marking_by b (out_if fails)).attempted ≡ mark_written (marking_by b (out_if false))
+      by : (b : Bool) → (marking_by v b (out_if fails)).attempted ≡ mark_written (marking_by v b (out_if false))
       by true = refl
       by false = written (nat_lt settings.limit (need u (mark_record v u)))
 
