@@ -12,7 +12,7 @@ roomed_code = code_by (List ℕ × ℕ) (coded× (coded_list coded_ℕ) coded_�
 
 -- how many numbers a full block has
 abbrev pub block_size : ℕ
-block_size = 512
+block_size = 1024
 
 -- the block with this number
 abbrev pub block_at : List (List ℕ) → ℕ → List ℕ

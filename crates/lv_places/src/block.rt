@@ -10,7 +10,7 @@ use std::collections::VecDeque;
 use std::marker::Model;
 
 /// How many numbers a full block has.
-pub(crate) const SIZE: usize = 512;
+pub(crate) const SIZE: usize = 1024;
 
 /// Numbers, with room for those of a full block and one more.
 #[derive(Drop)]

@@ -11,9 +11,9 @@ use std::marker::Model;
 /// There is no memory for more numbers than these.
 const MOST: usize = (1 << 63) - 1;
 
-/// Numbers in an order. They lie in blocks of 512, and where one comes or goes each block behind passes one number on,
-/// so that a place costs two steps to find and a change costs a move within a block and one number for each block
-/// behind. Contracts see the numbers, and for how many in all there is room.
+/// Numbers in an order. They lie in blocks of 1,024, each a ring, and each full before the next one has a number. Where
+/// one comes or goes each block behind passes one number on, and the rest stay where they are. Contracts see the
+/// numbers, and for how many in all there is room.
 #[derive(Drop)]
 pub struct Places {
     blocks: Vec<Block>,
@@ -32,7 +32,7 @@ impl Model for Places {
 
     ghost view = { λ p. record { list = concat p.blocks.items; room = block_size * length p.blocks.items } };
 
-    ghost invariant = { λ p. (p.len ≡ length (concat p.blocks.items)) × ArePacked p.len p.blocks.items × (length p.blocks.items ≤ 2 ^ 54) };
+    ghost invariant = { λ p. (p.len ≡ length (concat p.blocks.items)) × ArePacked p.len p.blocks.items × (length p.blocks.items ≤ 2 ^ 53) };
 }
 
 impl Places {
@@ -62,7 +62,8 @@ impl Places {
         number_at(self.len, self.blocks.as_slice(), at)
     }
 
-    /// Makes room for so many numbers in all. Cost: constant for each block that is made.
+    /// Makes room for so many numbers in all. The numbers stay as they were, and the room never shrinks. Cost: constant
+    /// for each 1,024.
     pub fn reserve(&mut self, room: usize) -> Result<(), NoMemory>
         ensures same { self.new.list ≡ self.old.list }
         ensures room { OnOk result (room ≤ self.new.room) }
@@ -74,8 +75,8 @@ impl Places {
         add_blocks(self.alloc, room / SIZE + 1, &mut self.blocks)
     }
 
-    /// Puts a number at a place. It takes no memory. Cost: a move of at most 256 numbers, and of one more for each 512
-    /// behind.
+    /// Puts a number at a place. It takes no memory. Cost: a move of at most 512 numbers within their block, and of one
+    /// more for each 1,024 behind.
     pub fn insert(&mut self, at: usize, number: u32)
         requires place { at ≤ length self.old.list }
         requires room { length self.old.list < self.old.room }
