@@ -1,8 +1,9 @@
 -- Further orders of the elements in slots.
-use Rattle.std.proofs.Common.{◌≡◌, ℕ, zero, suc, ◌+◌, ◌<◌, ◌≤◌, Bool, true, false, cond, List, [], ◌∷◌, ◌++◌, length, length-append, map, take, get_or, set, filter, Option, Some, None, refl, sym, ap, ap₂, ◌∙◌, subst, arith}
+use Rattle.std.proofs.Common.{◌≡◌, ℕ, zero, suc, ◌+◌, ◌<◌, ◌≤◌, Bool, true, false, cond, List, [], ◌∷◌, ◌++◌, length, length-append, map, take, drop, get_or, set, filter, Option, Some, None, refl, sym, ap, ap₂, ◌∙◌, subst, arith}
 use Rattle.std.specs.Prelude.{is_some, slice_get, ◌==◌}
 use Rattle.std.specs.List.{AllByRecursion, cons_option, insert, remove}
-use Rattle.std.proofs.lemmas.List.{get_or-set_same, get_or_read, length-map, map-set}
+use Rattle.std.proofs.lemmas.List.{append-nil, drop-drop, drop-set-lt, get_or-drop, get_or-set_same, get_or_read, length-map, map-set, take_more, take_more_set}
+use Rattle.std.proofs.lemmas.List.Elements.{filter-append}
 use Rattle.std.proofs.Math.Seq.{map-set_same}
 use Rattle.lv_schema.proofs.Apart.{all_weaker, apart_filter}
 use Rattle.lv_shelf.specs.Shelves.{AreShelved, ChangesOnly, Differ, HaveRoom, IsEmpty, IsHeld, IsOrder, LacksItem, Roomed, clear_of, cleared, is_among, is_taken, items_at, lists_of, passes, passes_in, slot_of}
@@ -357,4 +358,54 @@ shelved_grown {T} slots order free n a b a' b' os os' e la lb is more s =
       own = grown_shelf slots order free n a b a' b' e la lb s.own;
       lists = orders_grown slots (lists_of os') (subst (AllByRecursion (IsOrder slots)) (sym is) s.lists);
       rooms = subst (λ k. HaveRoom k os') (sym (length-append slots none)) more;
+    }
+
+-- ---- numbers that stay
+-- each element passes the test that all pass
+passes_any : {T : Type 0} (o : Option T) → passes (λ _. true) o ≡ is_some o
+passes_any None = refl
+passes_any (Some x) = refl
+
+pub taken_pass : {T : Type 0} (slots : List (Option T)) (ps : List ℕ) → filter (passes_in (λ _. true) slots) ps ≡ filter (is_taken slots) ps
+taken_pass slots [] = refl
+taken_pass slots (p ∷ ps) = ap₂ (λ b l. cond b (p ∷ l) l) (passes_any (slot_of slots p)) (taken_pass slots ps)
+
+-- one number of those that a loop goes over
+same_at : (xs ys : List ℕ) (i : ℕ) → drop i ys ≡ drop i xs → get_or ys i 0 ≡ get_or xs i 0
+same_at xs ys i rest = ap (λ k. get_or ys k 0) (sym (add_none i)) ∙ sym (get_or-drop i ys 0 0) ∙ ap (λ l. get_or l 0 0) rest ∙ get_or-drop i xs 0 0 ∙ ap (λ k. get_or xs k 0) (add_none i)
+  where
+    add_none : (n : ℕ) → n + 0 ≡ n
+    add_none n = omega arith
+
+one_test : (test : ℕ → Bool) (x : ℕ) (b : Bool) → test x ≡ b → filter test (x ∷ []) ≡ cond b (x ∷ []) []
+one_test test x b e = ap (λ t. cond t (x ∷ []) []) e
+
+pub one_more : (test : ℕ → Bool) (xs ys : List ℕ) (i x : ℕ) (b : Bool) → i < length xs → drop i ys ≡ drop i xs → x ≡ get_or ys i 0 → test x ≡ b → filter test (take (i + 1) xs) ≡ filter test (take i xs) ++ cond b (x ∷ []) []
+one_more test xs ys i x b lt rest is e =
+    ap (filter test) (take_more xs i 0 lt)
+    ∙ filter-append test (take i xs) (get_or xs i 0 ∷ [])
+    ∙ ap (λ y. filter test (take i xs) ++ filter test (y ∷ [])) (sym (same_at xs ys i rest) ∙ sym is)
+    ∙ ap (λ l. filter test (take i xs) ++ l) (one_test test x b e)
+
+pub rest_more : (xs ys : List ℕ) (i : ℕ) → drop i ys ≡ drop i xs → drop (i + 1) ys ≡ drop (i + 1) xs
+rest_more xs ys i rest = sym (drop-drop 1 i ys) ∙ ap (drop 1) rest ∙ drop-drop 1 i xs
+
+pub record IsKept (test : ℕ → Bool) (xs ys : List ℕ) (i kept : ℕ) : Type 0 where
+  pub first : take kept ys ≡ filter test (take i xs)
+  pub rest : drop i ys ≡ drop i xs
+
+pub kept_step : (test : ℕ → Bool) (xs ys : List ℕ) (i kept x : ℕ) → i < length xs → length ys ≡ length xs → kept ≤ i → IsKept test xs ys i kept → x ≡ get_or ys i x → test x ≡ true → IsKept test xs (set ys kept x) (i + 1) (kept + 1)
+kept_step test xs ys i kept x lt long le k is e =
+    let read : x ≡ get_or ys i 0 = get_or_read ys i x (omega (arith, lt, long)) is 0 in
+    record {
+      first = take_more_set ys kept x (omega (arith, lt, long, le)) ∙ ap (λ l. l ++ x ∷ []) k.first ∙ sym (one_more test xs ys i x true lt k.rest read e);
+      rest = drop-set-lt (i + 1) ys kept x (omega (arith, le)) ∙ rest_more xs ys i k.rest;
+    }
+
+pub skip_step : (test : ℕ → Bool) (xs ys : List ℕ) (i kept x : ℕ) → i < length xs → length ys ≡ length xs → IsKept test xs ys i kept → x ≡ get_or ys i x → test x ≡ false → IsKept test xs ys (i + 1) kept
+skip_step test xs ys i kept x lt long k is e =
+    let read : x ≡ get_or ys i 0 = get_or_read ys i x (omega (arith, lt, long)) is 0 in
+    record {
+      first = k.first ∙ sym (append-nil (filter test (take i xs))) ∙ sym (one_more test xs ys i x false lt k.rest read e);
+      rest = rest_more xs ys i k.rest;
     }

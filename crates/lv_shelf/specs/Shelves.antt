@@ -2,6 +2,7 @@
 use Rattle.std.specs.Prelude.{◌≡◌, ℕ, zero, suc, ◌+◌, ◌<◌, ◌≤◌, ◌==◌, Bool, cond, List, [], ◌∷◌, length, map, slice_index_or, slice_set, Option, Some, None, is_some, true, false, refl}
 use Rattle.std.specs.Coded.{Coded, code_by, coded×, coded_ℕ, coded_list}
 use Rattle.std.specs.List.{AllByRecursion, filter_map, list_any}
+pub use Rattle.lv_places.specs.Blocks.{Roomed}
 use Rattle.lv_shelf.specs.Cuts.{Apart}
 
 -- a list, lists of some of its elements in other orders, and how many more elements go in without memory
@@ -89,14 +90,6 @@ pub record IsShelf {T : Type 0} (slots : List (Option T)) (order free : List ℕ
 pub record IsOrder {T : Type 0} (slots : List (Option T)) (order : List ℕ) : Type 0 where
   pub held : AllByRecursion (IsHeld slots) order
   pub apart : Apart Differ order
-
--- numbers of slots, and how many have room
-pub record Roomed : Type 0 where
-  pub list : List ℕ
-  pub room : ℕ
-
-abbrev pub roomed_code : Coded Roomed
-roomed_code = code_by (List ℕ × ℕ) (coded× (coded_list coded_ℕ) coded_ℕ) (λ r. (r.list, r.room)) (λ p. record { list = p.0; room = p.1 }) (λ _. refl)
 
 abbrev pub lists_of : List Roomed → List (List ℕ)
 lists_of others = map (λ o. o.list) others

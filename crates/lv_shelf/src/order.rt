@@ -1,82 +1,47 @@
 //! Numbers of slots in an order.
 ghost use Rattle.std.specs.Prelude.{◌≡◌, ℕ, ◌+◌, ◌≤◌, ◌<◌, [], length, filter, map, OnOk, vec_capacity};
 ghost use Rattle.std.specs.List.{insert, remove};
-ghost use Rattle.lv_shelf.specs.Shelves.{HaveRoom, lists_of, passes_in};
+ghost use Rattle.lv_shelf.specs.Shelves.{HaveRoom, is_taken, lists_of, passes_in};
 
 use crate::slots::passes_in;
+use lv_places::Places;
 use lv_values::{NoMemory, Test};
-use std::alloc::Global;
-use std::marker::Model;
 
-/// Numbers of slots in an order, with the room that they have.
-#[derive(Drop)]
-pub(crate) struct Order {
-    places: Vec<u32>,
+/// Passed by each element.
+struct Any;
+
+impl<T> Test<T> for Any {
+    ghost use Rattle.std.specs.Prelude.{true};
+
+    ghost passed = { λ _ _. true };
+
+    fn passes(&self, _: &T) -> bool {
+        true
+    }
 }
 
-impl Model for Order {
-    ghost use Rattle.std.specs.Vec.{vec_capacity};
-    ghost use Rattle.lv_shelf.specs.Shelves.{Roomed, roomed_code};
-
-    ghost Value = { Roomed };
-
-    ghost coded = { roomed_code };
-
-    ghost view = { λ o. record { list = o.places.items; room = vec_capacity o.places } };
-}
-
-impl Order {
-    /// No number. It takes no memory.
-    pub(crate) fn new(alloc: Global) -> Order
-        ensures { result.list ≡ [] }
-    {
-        Order {
-            places: Vec::new(alloc),
+/// Keeps the numbers of the slots whose elements pass. Cost: one pass over the numbers.
+fn keep_passing<T, P: Test<T>>(test: &P, slots: &[Option<T>], order: &mut Places)
+    ensures kept { order.new.list ≡ filter (passes_in (P.passed test.now) slots.now) order.old.list }
+    ensures room { order.new.room ≡ order.old.room }
+{
+    let mut kept = 0;
+    for at in 0..order.len() {
+        let slot = order.at(at);
+        if passes_in(test, slots, slot) {
+            order.set(kept, slot);
+            kept += 1;
         }
     }
+    order.truncate(kept);
+}
 
-    /// The numbers.
-    pub(crate) fn as_slice(&self) -> &[u32]
-        ensures { result.now ≡ self.now.list }
-    {
-        self.places.as_slice()
-    }
-
-    /// Makes room for so many numbers in all.
-    pub(crate) fn reserve(&mut self, room: usize) -> Result<(), NoMemory>
-        ensures same { self.new.list ≡ self.old.list }
-        ensures room { OnOk result (room ≤ self.new.room) }
-        ensures kept { self.old.room ≤ self.new.room }
-    {
-        reserve_to(&mut self.places, room)
-    }
-
-    /// Puts a number at a place.
-    pub(crate) fn insert(&mut self, at: usize, slot: u32)
-        requires place { at ≤ length self.old.list }
-        requires room { length self.old.list < self.old.room }
-        ensures added { self.new.list ≡ insert self.old.list at slot }
-        ensures room { self.old.room ≤ self.new.room }
-    {
-        self.places.insert(at, slot).unwrap();
-    }
-
-    /// Takes the number at a place out.
-    pub(crate) fn remove(&mut self, at: usize)
-        requires { at < length self.old.list }
-        ensures rest { self.new.list ≡ remove self.old.list at }
-        ensures room { self.old.room ≤ self.new.room }
-    {
-        self.places.remove(at);
-    }
-
-    /// Keeps the numbers of the slots whose elements pass.
-    pub(crate) fn keep<T, P: Test<T>>(&mut self, test: &P, slots: &[Option<T>])
-        ensures kept { self.new.list ≡ filter (passes_in (P.passed test.now) slots.now) self.old.list }
-        ensures room { self.old.room ≤ self.new.room }
-    {
-        self.places.retain(|slot| passes_in(test, slots, *slot));
-    }
+/// Keeps the numbers of slots that have elements. Cost: one pass over the numbers.
+pub(crate) fn keep_taken<T>(slots: &[Option<T>], order: &mut Places)
+    ensures kept { order.new.list ≡ filter (is_taken slots.now) order.old.list }
+    ensures room { order.new.room ≡ order.old.room }
+{
+    keep_passing(&Any, slots, order);
 }
 
 /// Makes room for so many numbers in all.
@@ -95,31 +60,31 @@ fn reserve_to(places: &mut Vec<u32>, room: usize) -> Result<(), NoMemory>
 /// Makes room for one slot more, and for its number in every list of numbers.
 pub(crate) fn make_room<T>(
     slots: &mut Vec<Option<T>>,
-    order: &mut Vec<u32>,
+    order: &mut Places,
     free: &mut Vec<u32>,
-    others: &mut Vec<Order>,
+    others: &mut Vec<Places>,
 ) -> Result<(), NoMemory>
     ensures slots { slots.new.items ≡ slots.old.items }
-    ensures order { order.new.items ≡ order.old.items }
+    ensures order { order.new.list ≡ order.old.list }
     ensures free { free.new.items ≡ free.old.items }
     ensures others { lists_of others.new.items ≡ lists_of others.old.items }
     ensures slots_room { OnOk result (length slots.old.items + 1 ≤ vec_capacity slots.new) }
-    ensures order_room { OnOk result (length slots.old.items + 1 ≤ vec_capacity order.new) }
+    ensures order_room { OnOk result (length slots.old.items + 1 ≤ order.new.room) }
     ensures free_room { OnOk result (length slots.old.items + 1 ≤ vec_capacity free.new) }
     ensures others_room { OnOk result (HaveRoom (length slots.old.items + 1) others.new.items) }
-    ensures order_kept { vec_capacity order.old ≤ vec_capacity order.new }
+    ensures order_kept { order.old.room ≤ order.new.room }
     ensures free_kept { vec_capacity free.old ≤ vec_capacity free.new }
     ensures others_kept { (n : ℕ) → HaveRoom n others.old.items → HaveRoom n others.new.items }
 {
     let room = slots.len() + 1;
     slots.reserve(1)?;
-    reserve_to(order, room)?;
+    order.reserve(room)?;
     reserve_to(free, room)?;
     reserve_each(others, room)
 }
 
 /// Makes room for so many numbers in all, in each order.
-fn reserve_each(orders: &mut Vec<Order>, room: usize) -> Result<(), NoMemory>
+fn reserve_each(orders: &mut Vec<Places>, room: usize) -> Result<(), NoMemory>
     ensures same { lists_of orders.new.items ≡ lists_of orders.old.items }
     ensures room { OnOk result (HaveRoom room orders.new.items) }
     ensures kept { (n : ℕ) → HaveRoom n orders.old.items → HaveRoom n orders.new.items }
@@ -131,11 +96,11 @@ fn reserve_each(orders: &mut Vec<Order>, room: usize) -> Result<(), NoMemory>
 }
 
 /// Keeps, in each order, the numbers of the slots whose elements pass.
-pub(crate) fn keep_each<T, P: Test<T>>(test: &P, slots: &[Option<T>], orders: &mut Vec<Order>)
+pub(crate) fn keep_each<T, P: Test<T>>(test: &P, slots: &[Option<T>], orders: &mut Vec<Places>)
     ensures kept { lists_of orders.new.items ≡ map (filter (passes_in (P.passed test.now) slots.now)) (lists_of orders.old.items) }
     ensures room { (n : ℕ) → HaveRoom n orders.old.items → HaveRoom n orders.new.items }
 {
     for i in 0..orders.len() {
-        orders[i].keep(test, slots);
+        keep_passing(test, slots, &mut orders[i]);
     }
 }

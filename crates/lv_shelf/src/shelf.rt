@@ -4,20 +4,22 @@ ghost use Rattle.std.specs.List.{insert, remove, AllByRecursion};
 ghost use Rattle.lv_shelf.specs.Cuts.{Falls, IsCut};
 ghost use Rattle.lv_shelf.specs.Shelves.{ChangesOnly, LacksItem, other_at};
 
-use crate::order::{Order, keep_each, make_room};
-use crate::slots::{clear_failing, cut_at, edit_slot, item_at, keep_taken, set_slot};
+use crate::order::{keep_each, keep_taken, make_room};
+use crate::slots::{clear_failing, cut_at, edit_slot, item_at, set_slot};
+use lv_places::Places;
 use lv_values::{Edit, NoMemory, Test};
 use std::alloc::Global;
 use std::marker::Model;
 
 /// A list whose elements lie still: each keeps its slot as long as it is in the list, and the order is kept by the
-/// numbers of the slots, four bytes each. Beside the list there may be further orders, each of some of its elements.
+/// numbers of the slots, four bytes each, in blocks. Beside the list there may be further orders, each of some of its
+/// elements.
 /// Contracts see the list, the further orders as lists, and the number of elements that still go in without memory.
 #[derive(Drop)]
 pub struct Shelf<T> {
     slots: Vec<Option<T>>,
-    order: Vec<u32>,
-    others: Vec<Order>,
+    order: Places,
+    others: Vec<Places>,
     free: Vec<u32>,
 }
 
@@ -30,9 +32,9 @@ impl<T> Model for Shelf<T> {
 
     ghost coded = { shelved_code T.code };
 
-    ghost view = { λ s. record { list = items_at s.slots.items s.order.items; others = map (items_at s.slots.items) (lists_of s.others.items); spare = length s.free.items } };
+    ghost view = { λ s. record { list = items_at s.slots.items s.order.list; others = map (items_at s.slots.items) (lists_of s.others.items); spare = length s.free.items } };
 
-    ghost invariant = { λ s. AreShelved s.slots.items s.order.items s.free.items (vec_capacity s.order) (vec_capacity s.free) s.others.items };
+    ghost invariant = { λ s. AreShelved s.slots.items s.order.list s.free.items s.order.room (vec_capacity s.free) s.others.items };
 }
 
 impl<T> Shelf<T> {
@@ -44,7 +46,7 @@ impl<T> Shelf<T> {
     {
         Shelf {
             slots: Vec::new(alloc),
-            order: Vec::new(alloc),
+            order: Places::new(alloc),
             others: Vec::new(alloc),
             free: Vec::new(alloc),
         }
@@ -62,7 +64,7 @@ impl<T> Shelf<T> {
         requires { at < length self.now.list }
         ensures { slice_get self.now.list at ≡ Some result.now }
     {
-        item_at(self.slots.as_slice(), self.order.as_slice(), at)
+        item_at(self.slots.as_slice(), &self.order, at)
     }
 
     /// How many elements pass a test that no later element passes where an earlier one fails. Cost: a binary search.
@@ -71,7 +73,7 @@ impl<T> Shelf<T> {
         ensures within { result ≤ length self.now.list }
         ensures cut { IsCut (P.passed test.now) result self.now.list }
     {
-        cut_at(test, self.slots.as_slice(), self.order.as_slice())
+        cut_at(test, self.slots.as_slice(), &self.order)
     }
 
     /// The number of further orders.
@@ -86,7 +88,7 @@ impl<T> Shelf<T> {
         requires { order < length self.now.others }
         ensures { result ≡ length (other_at self.now.others order) }
     {
-        self.others[order].as_slice().len()
+        self.others[order].len()
     }
 
     /// The element at a place of a further order.
@@ -95,7 +97,7 @@ impl<T> Shelf<T> {
         requires place { at < length (other_at self.now.others order) }
         ensures { slice_get (other_at self.now.others order) at ≡ Some result.now }
     {
-        item_at(self.slots.as_slice(), self.others[order].as_slice(), at)
+        item_at(self.slots.as_slice(), &self.others[order], at)
     }
 
     /// How many elements of a further order pass a test that no later one passes where an earlier one fails.
@@ -106,7 +108,7 @@ impl<T> Shelf<T> {
         ensures within { result ≤ length (other_at self.now.others order) }
         ensures cut { IsCut (P.passed test.now) result (other_at self.now.others order) }
     {
-        cut_at(test, self.slots.as_slice(), self.others[order].as_slice())
+        cut_at(test, self.slots.as_slice(), &self.others[order])
     }
 }
 
@@ -153,7 +155,7 @@ impl<T: Drop> Shelf<T> {
         ensures refused { OnErr result (self.new.others ≡ self.old.others) }
         ensures room { self.new.spare ≡ self.old.spare }
     {
-        let mut order = Order::new(alloc);
+        let mut order = Places::new(alloc);
         order.reserve(self.slots.len())?;
         self.others.push(order)?;
         Ok(())
@@ -167,7 +169,7 @@ impl<T: Drop> Shelf<T> {
     }
 
     /// Puts an element at a place, before those from there on. It comes into no further order. It takes no memory.
-    /// Cost: one move of the numbers of slots behind it.
+    /// Cost: a move of at most 512 numbers of slots, and of one more for each 1,024 behind.
     pub fn insert(&mut self, at: usize, item: T)
         requires room { 0 < self.old.spare }
         requires place { at ≤ length self.old.list }
@@ -177,7 +179,7 @@ impl<T: Drop> Shelf<T> {
     {
         let slot = self.free.pop().unwrap();
         self.slots[slot as usize] = Some(item);
-        self.order.insert(at, slot).unwrap();
+        self.order.insert(at, slot);
     }
 
     /// Puts an element in the place of another one, in every order. It takes no memory. Cost: constant.
@@ -187,11 +189,11 @@ impl<T: Drop> Shelf<T> {
         ensures others { length self.new.others ≡ length self.old.others }
         ensures room { self.new.spare ≡ self.old.spare }
     {
-        set_slot(&mut self.slots, self.order[at], item);
+        set_slot(&mut self.slots, self.order.at(at), item);
     }
 
     /// Puts the element at a place of the list into a further order that does not have it, before those from a place
-    /// of that order on. It takes no memory. Cost: one move of the numbers of slots behind it.
+    /// of that order on. It takes no memory. Cost: as of `insert`.
     pub fn enter(&mut self, order: usize, place: usize, at: usize)
         requires order { order < length self.old.others }
         requires place { place ≤ length (other_at self.old.others order) }
@@ -201,12 +203,12 @@ impl<T: Drop> Shelf<T> {
         ensures same { self.new.list ≡ self.old.list }
         ensures room { self.new.spare ≡ self.old.spare }
     {
-        let slot = self.order[at];
+        let slot = self.order.at(at);
         self.others[order].insert(place, slot);
     }
 
     /// Takes the element at a place of a further order out of that order. It stays in the list and in the others.
-    /// Cost: one move of the numbers of slots behind it.
+    /// Cost: as of `insert`.
     pub fn leave(&mut self, order: usize, place: usize)
         requires order { order < length self.old.others }
         requires place { place < length (other_at self.old.others order) }
@@ -218,7 +220,7 @@ impl<T: Drop> Shelf<T> {
     }
 
     /// Drops the element at a place, which is in no further order. It takes no memory, and makes room for one.
-    /// Cost: one move of the numbers of slots behind it.
+    /// Cost: as of `insert`.
     pub fn remove(&mut self, at: usize)
         requires at { at < length self.old.list }
         requires alone { (item : T) → slice_get self.old.list at ≡ Some item → AllByRecursion (LacksItem item) self.old.others }
@@ -226,7 +228,8 @@ impl<T: Drop> Shelf<T> {
         ensures others { self.new.others ≡ self.old.others }
         ensures room { self.new.spare ≡ self.old.spare + 1 }
     {
-        let slot = self.order.remove(at);
+        let slot = self.order.at(at);
+        self.order.remove(at);
         self.slots[slot as usize] = None;
         self.free.push_reserved(slot);
     }
@@ -238,7 +241,7 @@ impl<T: Drop> Shelf<T> {
         ensures others { ChangesOnly (E.edited edit.now) at self.old.list → self.new.others ≡ map (map (E.edited edit.now)) self.old.others }
         ensures room { self.new.spare ≡ self.old.spare }
     {
-        edit_slot(&mut self.slots, self.order[at], edit);
+        edit_slot(&mut self.slots, self.order.at(at), edit);
     }
 
     /// Keeps the elements that pass, in every order. It takes no memory, and makes room for as many as go.
@@ -249,7 +252,7 @@ impl<T: Drop> Shelf<T> {
         ensures room { self.old.spare ≤ self.new.spare }
     {
         keep_each(test, self.slots.as_slice(), &mut self.others);
-        clear_failing(test, self.order.as_slice(), &mut self.slots, &mut self.free);
+        clear_failing(test, &self.order, &mut self.slots, &mut self.free);
         keep_taken(self.slots.as_slice(), &mut self.order);
     }
 }

@@ -4,6 +4,7 @@ ghost use Rattle.std.specs.List.{AllByRecursion};
 ghost use Rattle.lv_shelf.specs.Cuts.{Falls, IsCut};
 ghost use Rattle.lv_shelf.specs.Shelves.{IsHeld, cleared, clear_of, dropped, is_taken, items_at, passes_in, slot_of};
 
+use lv_places::Places;
 use lv_values::{Edit, Test};
 
 /// The element in a slot that has one.
@@ -64,48 +65,37 @@ pub(crate) fn clear_slot<T: Drop, P: Test<T>>(
 /// Empties the slots, among these, whose elements do not pass, and lists them as free.
 pub(crate) fn clear_failing<T: Drop, P: Test<T>>(
     test: &P,
-    order: &[u32],
+    order: &Places,
     slots: &mut Vec<Option<T>>,
     free: &mut Vec<u32>,
 )
-    requires within { AllByRecursion (λ p. p < length slots.old.items) order.now }
-    requires room { length free.old.items + length order.now ≤ vec_capacity free.old }
-    ensures cleared { slots.new.items ≡ cleared (P.passed test.now) slots.old.items order.now }
-    ensures freed { free.new.items ≡ free.old.items ++ dropped (P.passed test.now) slots.old.items order.now }
+    requires within { AllByRecursion (λ p. p < length slots.old.items) order.now.list }
+    requires room { length free.old.items + length order.now.list ≤ vec_capacity free.old }
+    ensures cleared { slots.new.items ≡ cleared (P.passed test.now) slots.old.items order.now.list }
+    ensures freed { free.new.items ≡ free.old.items ++ dropped (P.passed test.now) slots.old.items order.now.list }
     ensures capacity { vec_capacity free.new ≡ vec_capacity free.old }
 {
-    for slot in order {
-        clear_slot(test, *slot, slots, free);
+    for at in 0..order.len() {
+        clear_slot(test, order.at(at), slots, free);
     }
 }
 
-/// Keeps the numbers of slots that have elements.
-pub(crate) fn keep_taken<T>(slots: &[Option<T>], order: &mut Vec<u32>)
-    ensures kept { order.new.items ≡ filter (is_taken slots.now) order.old.items }
-    ensures capacity { vec_capacity order.new ≡ vec_capacity order.old }
-{
-    order.retain(|slot| match slots.get(*slot as usize) {
-        Some(Some(_)) => true,
-        Some(None) | None => false,
-    });
-}
-
 /// The element at a place of some slots.
-pub(crate) fn item_at<'a, T>(slots: &'a [Option<T>], places: &[u32], at: usize) -> &'a T
-    requires held { AllByRecursion (IsHeld slots.now) places.now }
-    requires place { at < length places.now }
-    ensures { slice_get (items_at slots.now places.now) at ≡ Some result.now }
+pub(crate) fn item_at<'a, T>(slots: &'a [Option<T>], places: &Places, at: usize) -> &'a T
+    requires held { AllByRecursion (IsHeld slots.now) places.now.list }
+    requires place { at < length places.now.list }
+    ensures { slice_get (items_at slots.now places.now.list) at ≡ Some result.now }
 {
-    in_slot(slots, places[at])
+    in_slot(slots, places.at(at))
 }
 
 /// How many of the elements in some slots pass a test that no later one passes where an earlier one fails.
 /// Cost: a binary search.
-pub(crate) fn cut_at<T, P: Test<T>>(test: &P, slots: &[Option<T>], places: &[u32]) -> usize
-    requires held { AllByRecursion (IsHeld slots.now) places.now }
-    requires falls { Falls (P.passed test.now) (items_at slots.now places.now) }
-    ensures within { result ≤ length places.now }
-    ensures cut { IsCut (P.passed test.now) result (items_at slots.now places.now) }
+pub(crate) fn cut_at<T, P: Test<T>>(test: &P, slots: &[Option<T>], places: &Places) -> usize
+    requires held { AllByRecursion (IsHeld slots.now) places.now.list }
+    requires falls { Falls (P.passed test.now) (items_at slots.now places.now.list) }
+    ensures within { result ≤ length places.now.list }
+    ensures cut { IsCut (P.passed test.now) result (items_at slots.now places.now.list) }
 {
     let mut low = 0;
     let mut high = places.len();

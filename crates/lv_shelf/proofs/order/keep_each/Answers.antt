@@ -11,14 +11,14 @@ loop-i-preserved g c =
     let start = c.args.orders.now.items in
     let j = c.loop-i.i in
     let x = c.index_mut.result.now in
-    let y = c.keep.new.self in
+    let y = c.keep_passing.new.order in
     let lt : j < length os =
     omega (arith, c.loop-i-test.true, c.len-i-end.ensures, c.args.orders.now.ok.0, ap length c.loop-i.invariant.kept, length_done f j (lists_of start), length-map os (λ (o : Roomed). o.list), length-map start (λ (o : Roomed). o.list))
     in
     let at : x ≡ get_or os j no_list = c.index_mut.ensures.value ∙ get_or_default os j x no_list lt in
     record {
-      kept = lists_kept f os (lists_of start) j x y c.loop-i.invariant.kept lt at c.keep.ensures.kept;
-      room = λ n h. room_set n os j x y at lt c.keep.ensures.room (c.loop-i.invariant.room n h);
+      kept = lists_kept f os (lists_of start) j x y c.loop-i.invariant.kept lt at c.keep_passing.ensures.kept;
+      room = λ n h. room_set n os j x y at lt (omega (arith, c.keep_passing.ensures.room)) (c.loop-i.invariant.room n h);
     }
 
 pub returns-clause-kept : goal.returns-clause-kept

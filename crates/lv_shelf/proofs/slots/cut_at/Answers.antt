@@ -6,8 +6,8 @@ use Rattle.lv_shelf.proofs.slots.cut_at.Goals as goal
 
 pub loop-low-init : goal.loop-low-init
 loop-low-init g c =
-    let list = items_at c.args.slots.now c.args.places.now in
-    let long = length_items c.args.slots.now c.args.places.now c.requires.held in
+    let list = items_at c.args.slots.now c.args.places.now.list in
+    let long = length_items c.args.slots.now c.args.places.now.list c.requires.held in
     record {
       order = omega arith;
       within = omega arith;
@@ -18,8 +18,8 @@ loop-low-init g c =
 pub loop-low-preserved-then-passes : goal.loop-low-preserved-then-passes
 loop-low-preserved-then-passes g c =
     let p = g.P.Test.passed c.args.test.now in
-    let list = items_at c.args.slots.now c.args.places.now in
-    let long = length_items c.args.slots.now c.args.places.now c.requires.held in
+    let list = items_at c.args.slots.now c.args.places.now.list in
+    let long = length_items c.args.slots.now c.args.places.now.list c.requires.held in
     let middle = c.loop-low.low + (c.loop-low.high - c.loop-low.low) / 2 in
     let lt : middle < c.loop-low.high = omega arith in
     let lt' : middle < length list = omega (arith, lt, c.loop-low.invariant.within, long) in
@@ -33,7 +33,7 @@ loop-low-preserved-then-passes g c =
 pub loop-low-preserved : goal.loop-low-preserved
 loop-low-preserved g c =
     let p = g.P.Test.passed c.args.test.now in
-    let list = items_at c.args.slots.now c.args.places.now in
+    let list = items_at c.args.slots.now c.args.places.now.list in
     let middle = c.loop-low.low + (c.loop-low.high - c.loop-low.low) / 2 in
     let lt : middle < c.loop-low.high = omega arith in
     record {
@@ -45,8 +45,8 @@ loop-low-preserved g c =
 
 pub returns-clause-cut : goal.returns-clause-cut
 returns-clause-cut g c =
-    let list = items_at c.args.slots.now c.args.places.now in
-    let long = length_items c.args.slots.now c.args.places.now c.requires.held in
+    let list = items_at c.args.slots.now c.args.places.now.list in
+    let long = length_items c.args.slots.now c.args.places.now.list c.requires.held in
     let within : c.loop-low.low ≤ length list = omega (arith, long, c.loop-low.invariant.order, c.loop-low.invariant.within) in
     cut_from (g.P.Test.passed c.args.test.now) list c.loop-low.low within c.loop-low.invariant.below
     (λ k d le h. c.loop-low.invariant.above k d (omega (arith, le, c.loop-low-test.false)) h)

@@ -5,6 +5,6 @@ use Rattle.lv_shelf.proofs.shelf.Shelf.cut.Goals as goal
 pub returns-clause-within : goal.returns-clause-within
 returns-clause-within g c =
     let s = c.self.inside in
-    let long = length_items s.slots.items s.order.items c.self.invariant.own.held in
+    let long = length_items s.slots.items s.order.list c.self.invariant.own.held in
     let is = ap (λ r. length r.list) c.self.view_is in
-    omega (arith, long, is, c.cut_at.ensures.within, ap length c.as_slice-2.ensures.value)
+    omega (arith, long, is, c.cut_at.ensures.within)

@@ -1,4 +1,4 @@
-use Rattle.std.proofs.Common.{◌∙◌, sym, ap, subst, length, vec_capacity, arith}
+use Rattle.std.proofs.Common.{◌∙◌, sym, ap, subst, vec_capacity, arith}
 use Rattle.lv_shelf.specs.Cuts.{Falls, IsCut}
 use Rattle.lv_shelf.specs.Shelves.{items_at}
 use Rattle.lv_shelf.proofs.Orders.{other_is}
@@ -10,8 +10,8 @@ cut_at-requires g c =
     let slots = s.slots.items in
     let others = c.args.self.now.others in
     let x = c.index.result.now in
-    let o = other_is slots s.order.items s.free.items (vec_capacity s.order) (vec_capacity s.free) s.others.items others c.args.order x c.self.invariant (ap (λ r. r.others) c.self.view_is) c.requires.order c.index.ensures in
-    rw (c.as_slice.ensures.value, c.as_slice-2.ensures) (record { held = o.order.held; falls = subst (Falls (g.P.Test.passed c.args.test.now)) (sym o.seen) c.requires.falls })
+    let o = other_is slots s.order.list s.free.items s.order.room (vec_capacity s.free) s.others.items others c.args.order x c.self.invariant (ap (λ r. r.others) c.self.view_is) c.requires.order c.index.ensures in
+    rw c.as_slice.ensures.value (record { held = o.order.held; falls = subst (Falls (g.P.Test.passed c.args.test.now)) (sym o.seen) c.requires.falls })
 
 pub returns : goal.returns
 returns g c =
@@ -19,9 +19,9 @@ returns g c =
     let slots = s.slots.items in
     let others = c.args.self.now.others in
     let x = c.index.result.now in
-    let o = other_is slots s.order.items s.free.items (vec_capacity s.order) (vec_capacity s.free) s.others.items others c.args.order x c.self.invariant (ap (λ r. r.others) c.self.view_is) c.requires.order c.index.ensures in
-    let there = ap (λ sl. items_at sl c.as_slice-2.result.now) c.as_slice.ensures.value ∙ ap (items_at slots) c.as_slice-2.ensures ∙ o.seen in
+    let o = other_is slots s.order.list s.free.items s.order.room (vec_capacity s.free) s.others.items others c.args.order x c.self.invariant (ap (λ r. r.others) c.self.view_is) c.requires.order c.index.ensures in
+    let there = ap (λ sl. items_at sl x.list) c.as_slice.ensures.value ∙ o.seen in
     record {
-      within = omega (arith, c.cut_at.ensures.within, o.long, ap length c.as_slice-2.ensures);
+      within = omega (arith, c.cut_at.ensures.within, o.long);
       cut = subst (IsCut (g.P.Test.passed c.args.test.now) c.cut_at.result) there c.cut_at.ensures.cut;
     }

@@ -10,8 +10,8 @@ item_at-requires g c =
     let slots = s.slots.items in
     let others = c.args.self.now.others in
     let x = c.index.result.now in
-    let o = other_is slots s.order.items s.free.items (vec_capacity s.order) (vec_capacity s.free) s.others.items others c.args.order x c.self.invariant (ap (λ r. r.others) c.self.view_is) c.requires.order c.index.ensures in
-    rw (c.as_slice.ensures.value, c.as_slice-2.ensures) (record { held = o.order.held; place = omega (arith, c.requires.place, o.long) })
+    let o = other_is slots s.order.list s.free.items s.order.room (vec_capacity s.free) s.others.items others c.args.order x c.self.invariant (ap (λ r. r.others) c.self.view_is) c.requires.order c.index.ensures in
+    rw c.as_slice.ensures.value (record { held = o.order.held; place = omega (arith, c.requires.place, o.long) })
 
 pub returns : goal.returns
 returns g c =
@@ -19,8 +19,7 @@ returns g c =
     let slots = s.slots.items in
     let others = c.args.self.now.others in
     let x = c.index.result.now in
-    let o = other_is slots s.order.items s.free.items (vec_capacity s.order) (vec_capacity s.free) s.others.items others c.args.order x c.self.invariant (ap (λ r. r.others) c.self.view_is) c.requires.order c.index.ensures in
+    let o = other_is slots s.order.list s.free.items s.order.room (vec_capacity s.free) s.others.items others c.args.order x c.self.invariant (ap (λ r. r.others) c.self.view_is) c.requires.order c.index.ensures in
     ap (λ l. slice_get l c.args.at) (sym o.seen)
-    ∙ ap (λ l. slice_get (items_at slots l) c.args.at) (sym c.as_slice-2.ensures)
-    ∙ ap (λ sl. slice_get (items_at sl c.as_slice-2.result.now) c.args.at) (sym c.as_slice.ensures.value)
+    ∙ ap (λ sl. slice_get (items_at sl x.list) c.args.at) (sym c.as_slice.ensures.value)
     ∙ c.item_at.ensures

@@ -9,22 +9,25 @@ use Rattle.lv_shelf.proofs.shelf.Shelf.insert.Goals as goal
 pub insert-requires : goal.insert-requires
 insert-requires g c =
     let s = c.self.inside in
-    let long = length_items s.slots.items s.order.items c.self.invariant.own.held in
+    let long = length_items s.slots.items s.order.list c.self.invariant.own.held in
     let is = ap (λ r. length r.list) c.self.view_is in
-    omega (arith, long, is, s.order.ok.0, c.requires.place)
+    record {
+      place = omega (arith, long, is, c.requires.place);
+      room = omega (arith, c.self.invariant.own.long, c.self.invariant.own.order_long, ap (λ r. r.spare) c.self.view_is, c.requires.room);
+    }
 
 pub invariant_of-self : goal.invariant_of-self
 invariant_of-self g c =
     let s = c.self.inside in
     let slot = c.unwrap-slot.result in
     let popped : s.free.items ≡ c.pop.new.self.items ++ slot ∷ [] = c.pop.ensures.items ∙ ap (λ o. c.pop.new.self.items ++ option_to_list o) c.unwrap-slot.ensures in
-    let shelf = subst (λ l. IsShelf s.slots.items s.order.items l (vec_capacity s.order) (vec_capacity s.free)) popped c.self.invariant.own in
-    let inserted : c.insert.new.self.items ≡ insert s.order.items c.args.at slot = rw c.unwrap.ensures at c.insert.ensures.items in
-    let long = length_items s.slots.items s.order.items c.self.invariant.own.held in
+    let shelf = subst (λ l. IsShelf s.slots.items s.order.list l s.order.room (vec_capacity s.free)) popped c.self.invariant.own in
+    let inserted : c.insert.new.self.list ≡ insert s.order.list c.args.at slot = c.insert.ensures.added in
+    let long = length_items s.slots.items s.order.list c.self.invariant.own.held in
     let is = ap (λ r. length r.list) c.self.view_is in
     rw inserted (record {
-      own = inserted_shelf s.slots.items s.order.items c.pop.new.self.items c.args.at slot c.args.item (vec_capacity s.order) (vec_capacity s.free) (vec_capacity c.insert.new.self) (vec_capacity c.pop.new.self)
-          (omega (arith, long, is, c.requires.place)) c.insert.ensures.capacity (omega (arith, c.pop.ensures.capacity)) shelf;
+      own = inserted_shelf s.slots.items s.order.list c.pop.new.self.items c.args.at slot c.args.item s.order.room (vec_capacity s.free) c.insert.new.self.room (vec_capacity c.pop.new.self)
+          (omega (arith, long, is, c.requires.place)) (omega (arith, c.insert.ensures.room)) (omega (arith, c.pop.ensures.capacity)) shelf;
       lists = orders_inserted s.slots.items slot c.args.item (lists_of s.others.items) c.self.invariant.lists;
       rooms = subst (λ n. HaveRoom n s.others.items) (sym (length-set s.slots.items slot (Some c.args.item))) c.self.invariant.rooms;
     })
@@ -34,12 +37,12 @@ returns-clause-added g c =
     let s = c.self.inside in
     let slot = c.unwrap-slot.result in
     let popped : s.free.items ≡ c.pop.new.self.items ++ slot ∷ [] = c.pop.ensures.items ∙ ap (λ o. c.pop.new.self.items ++ option_to_list o) c.unwrap-slot.ensures in
-    let inserted : c.insert.new.self.items ≡ insert s.order.items c.args.at slot = rw c.unwrap.ensures at c.insert.ensures.items in
-    let long = length_items s.slots.items s.order.items c.self.invariant.own.held in
+    let inserted : c.insert.new.self.list ≡ insert s.order.list c.args.at slot = c.insert.ensures.added in
+    let long = length_items s.slots.items s.order.list c.self.invariant.own.held in
     let is = ap (λ r. length r.list) c.self.view_is in
     let empty = all_last (IsEmpty s.slots.items) c.pop.new.self.items slot (subst (AllByRecursion (IsEmpty s.slots.items)) popped c.self.invariant.own.empty) in
     ap (items_at (set s.slots.items slot (Some c.args.item))) inserted
-    ∙ inserted_items s.slots.items s.order.items c.args.at slot c.args.item c.self.invariant.own.held empty.1 (omega (arith, long, is, c.requires.place))
+    ∙ inserted_items s.slots.items s.order.list c.args.at slot c.args.item c.self.invariant.own.held empty.1 (omega (arith, long, is, c.requires.place))
     ∙ ap (λ r. insert r.list c.args.at c.args.item) c.self.view_is
 
 pub returns-clause-others : goal.returns-clause-others

@@ -8,18 +8,18 @@ use Rattle.lv_shelf.proofs.shelf.Shelf.keep.Goals as goal
 pub clear_failing-requires-clause-within : goal.clear_failing-requires-clause-within
 clear_failing-requires-clause-within g c =
     let s = c.self.inside in
-    rw c.as_slice-2.ensures.value (in_range s.slots.items s.order.items c.self.invariant.own.held)
+    in_range s.slots.items s.order.list c.self.invariant.own.held
 
 pub invariant_of-self : goal.invariant_of-self
 invariant_of-self g c =
     let s = c.self.inside in
     let slots = s.slots.items in
-    let order = s.order.items in
+    let order = s.order.list in
     let test = g.P.Test.passed c.args.test.now in
     let after = cleared test slots order in
     let lists : lists_of c.keep_each.new.orders.items ≡ map (filter (passes_in test slots)) (lists_of s.others.items) = c.keep_each.ensures.kept ∙ ap (λ l. map (filter (passes_in test l)) (lists_of s.others.items)) c.as_slice.ensures.value in
-    rw (c.keep_taken.ensures.kept, c.as_slice-3.ensures.value, c.clear_failing.ensures.cleared, c.clear_failing.ensures.freed, c.as_slice-2.ensures.value, c.keep_taken.ensures.capacity, c.clear_failing.ensures.capacity) (record {
-      own = kept_shelf test slots order s.free.items (vec_capacity s.order) (vec_capacity s.free) c.self.invariant.own;
+    rw (c.keep_taken.ensures.kept, c.as_slice-2.ensures.value, c.clear_failing.ensures.cleared, c.clear_failing.ensures.freed, c.keep_taken.ensures.room, c.clear_failing.ensures.capacity) (record {
+      own = kept_shelf test slots order s.free.items s.order.room (vec_capacity s.free) c.self.invariant.own;
       lists = subst (AllByRecursion (IsOrder after)) (sym lists) (orders_kept test slots order (lists_of s.others.items) c.self.invariant.lists);
       rooms = subst (λ n. HaveRoom n c.keep_each.new.orders.items) (sym (length_cleared test slots order)) (c.keep_each.ensures.room (length slots) c.self.invariant.rooms);
     })
@@ -28,18 +28,18 @@ pub returns-clause-kept : goal.returns-clause-kept
 returns-clause-kept g c =
     let s = c.self.inside in
     let test = g.P.Test.passed c.args.test.now in
-    rw (c.keep_taken.ensures.kept, c.as_slice-3.ensures.value, c.clear_failing.ensures.cleared, c.as_slice-2.ensures.value)
-    (kept_items test s.slots.items s.order.items c.self.invariant.own.held c.self.invariant.own.apart ∙ ap (λ r. filter test r.list) c.self.view_is)
+    rw (c.keep_taken.ensures.kept, c.as_slice-2.ensures.value, c.clear_failing.ensures.cleared)
+    (kept_items test s.slots.items s.order.list c.self.invariant.own.held c.self.invariant.own.apart ∙ ap (λ r. filter test r.list) c.self.view_is)
 
 pub returns-clause-others : goal.returns-clause-others
 returns-clause-others g c =
     let s = c.self.inside in
     let slots = s.slots.items in
-    let order = s.order.items in
+    let order = s.order.list in
     let test = g.P.Test.passed c.args.test.now in
     let ls = lists_of s.others.items in
     let lists : lists_of c.keep_each.new.orders.items ≡ map (filter (passes_in test slots)) ls = c.keep_each.ensures.kept ∙ ap (λ l. map (filter (passes_in test l)) ls) c.as_slice.ensures.value in
-    ap (λ l. map (items_at l) (lists_of c.keep_each.new.orders.items)) (c.clear_failing.ensures.cleared ∙ ap (cleared test slots) c.as_slice-2.ensures.value)
+    ap (λ l. map (items_at l) (lists_of c.keep_each.new.orders.items)) c.clear_failing.ensures.cleared
     ∙ ap (map (items_at (cleared test slots order))) lists
     ∙ others_kept test slots order ls
     ∙ ap (λ r. map (filter test) r.others) c.self.view_is

@@ -11,7 +11,7 @@ remove-requires g c =
     let slots = s.slots.items in
     let others = c.args.self.now.others in
     let x = c.index_mut.result.now in
-    let o = other_is slots s.order.items s.free.items (vec_capacity s.order) (vec_capacity s.free) s.others.items others c.args.order x c.self.invariant (ap (λ r. r.others) c.self.view_is) c.requires.order c.index_mut.ensures.value in
+    let o = other_is slots s.order.list s.free.items s.order.room (vec_capacity s.free) s.others.items others c.args.order x c.self.invariant (ap (λ r. r.others) c.self.view_is) c.requires.order c.index_mut.ensures.value in
     omega (arith, c.requires.place, o.long)
 
 pub invariant_of-self : goal.invariant_of-self
@@ -20,12 +20,12 @@ invariant_of-self g c =
     let slots = s.slots.items in
     let others = c.args.self.now.others in
     let x = c.index_mut.result.now in
-    let o = other_is slots s.order.items s.free.items (vec_capacity s.order) (vec_capacity s.free) s.others.items others c.args.order x c.self.invariant (ap (λ r. r.others) c.self.view_is) c.requires.order c.index_mut.ensures.value in
+    let o = other_is slots s.order.list s.free.items s.order.room (vec_capacity s.free) s.others.items others c.args.order x c.self.invariant (ap (λ r. r.others) c.self.view_is) c.requires.order c.index_mut.ensures.value in
     let y = c.remove.new.self in
     record {
       own = c.self.invariant.own;
       lists = lists_set slots s.others.items c.args.order y (subst (IsOrder slots) (sym c.remove.ensures.rest) (order_left slots x.list c.args.place o.order)) c.self.invariant.lists;
-      rooms = room_set (length slots) s.others.items c.args.order x y o.read o.within c.remove.ensures.room c.self.invariant.rooms;
+      rooms = room_set (length slots) s.others.items c.args.order x y o.read o.within (omega (arith, c.remove.ensures.room)) c.self.invariant.rooms;
     }
 
 pub returns-clause-left : goal.returns-clause-left
@@ -34,6 +34,6 @@ returns-clause-left g c =
     let slots = s.slots.items in
     let others = c.args.self.now.others in
     let x = c.index_mut.result.now in
-    let o = other_is slots s.order.items s.free.items (vec_capacity s.order) (vec_capacity s.free) s.others.items others c.args.order x c.self.invariant (ap (λ r. r.others) c.self.view_is) c.requires.order c.index_mut.ensures.value in
+    let o = other_is slots s.order.list s.free.items s.order.room (vec_capacity s.free) s.others.items others c.args.order x c.self.invariant (ap (λ r. r.others) c.self.view_is) c.requires.order c.index_mut.ensures.value in
     value_set slots s.others.items others c.args.order c.remove.new.self (remove (get_or others c.args.order []) c.args.place) (ap (λ r. r.others) c.self.view_is)
     (ap (items_at slots) c.remove.ensures.rest ∙ remove_items slots x.list c.args.place o.order.held ∙ ap (λ l. remove l c.args.place) o.seen)

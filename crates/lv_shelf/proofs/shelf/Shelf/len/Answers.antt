@@ -5,6 +5,6 @@ use Rattle.lv_shelf.proofs.shelf.Shelf.len.Goals as goal
 pub returns : goal.returns
 returns g c =
     let s = c.self.inside in
-    let long = length_items s.slots.items s.order.items c.self.invariant.own.held in
+    let long = length_items s.slots.items s.order.list c.self.invariant.own.held in
     let is = ap (λ r. length r.list) c.self.view_is in
-    omega (arith, long, is, s.order.ok.0)
+    omega (arith, long, is)

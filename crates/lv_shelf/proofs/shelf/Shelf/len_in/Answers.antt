@@ -1,4 +1,4 @@
-use Rattle.std.proofs.Common.{ap, length, vec_capacity, arith}
+use Rattle.std.proofs.Common.{ap, vec_capacity, arith}
 use Rattle.lv_shelf.proofs.Orders.{other_is}
 use Rattle.lv_shelf.proofs.shelf.Shelf.len_in.Goals as goal
 
@@ -8,5 +8,5 @@ returns g c =
     let slots = s.slots.items in
     let others = c.args.self.now.others in
     let x = c.index.result.now in
-    let o = other_is slots s.order.items s.free.items (vec_capacity s.order) (vec_capacity s.free) s.others.items others c.args.order x c.self.invariant (ap (λ r. r.others) c.self.view_is) c.requires c.index.ensures in
-    omega (arith, o.long, ap length c.as_slice.ensures)
+    let o = other_is slots s.order.list s.free.items s.order.room (vec_capacity s.free) s.others.items others c.args.order x c.self.invariant (ap (λ r. r.others) c.self.view_is) c.requires c.index.ensures in
+    omega (arith, o.long, c.len.ensures)

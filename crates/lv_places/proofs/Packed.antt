@@ -1,0 +1,212 @@
+-- Numbers in blocks: where a place lies, and what a change of a block does to the numbers.
+use mathlib.Core.Logic.{⊎_elim}
+use Rattle.std.proofs.Common.{◌≡◌, ℕ, zero, suc, min, ◌+◌, ◌-◌, ◌*◌, ◌/◌, ◌<◌, ◌≤◌, List, [], ◌∷◌, ◌++◌, length, length-append, take, drop, get_or, set, refl, sym, ap, ap₂, ◌∙◌, subst, arith}
+use Rattle.std.specs.List.{concat, insert, remove}
+use Rattle.std.proofs.lemmas.Bool.{cases_eq}
+use Rattle.std.proofs.lemmas.List.{append_assoc, get_or_push, get_or-append_right, get_or-set_other, get_or-set_same, get_or_append_left, get_or_default, get_or_past, length-set, set-append_left, set-append_right, set-get_or}
+use Rattle.std.proofs.lemmas.List.Edits.{insert-append_left, insert-append_right, length-insert, length-remove, remove-append_left, remove-append_right}
+use Rattle.lv_places.specs.Blocks.{ArePacked, HaveOneMore, LackOne, block_at, block_size, share}
+
+-- ---- the numbers round a block
+concat_set : (bs : List (List ℕ)) (j : ℕ) (b : List ℕ) → j < length bs → concat (set bs j b) ≡ concat (take j bs) ++ (b ++ concat (drop (suc j) bs))
+concat_set [] j b lt = absurd (omega arith)
+concat_set (c ∷ bs) zero b lt = refl
+concat_set (c ∷ bs) (suc j) b lt = ap (λ l. c ++ l) (concat_set bs j b (omega arith)) ∙ sym (append_assoc c (concat (take j bs)) (b ++ concat (drop (suc j) bs)))
+
+concat_at : (bs : List (List ℕ)) (j : ℕ) → j < length bs → concat bs ≡ concat (take j bs) ++ (block_at bs j ++ concat (drop (suc j) bs))
+concat_at bs j lt = ap concat (sym (set-get_or bs j [])) ∙ concat_set bs j (block_at bs j) lt
+
+front_long : (bs : List (List ℕ)) (j : ℕ) → j ≤ length bs → ((k : ℕ) → k < j → length (block_at bs k) ≡ block_size) → length (concat (take j bs)) ≡ j * block_size
+front_long bs zero le h = refl
+front_long [] (suc j) le h = absurd (omega arith)
+front_long (c ∷ bs) (suc j) le h =
+    let ih = front_long bs j (omega arith) (λ k lt. h (suc k) (omega arith)) in
+    omega (arith, length-append c (concat (take j bs)), ih, h 0 (omega arith))
+
+-- the blocks before one that has a number are full
+full : (n : ℕ) (bs : List (List ℕ)) (j : ℕ) → ArePacked n bs → j ≤ length bs → j * block_size ≤ n → length (concat (take j bs)) ≡ j * block_size
+full n bs j p le more = front_long bs j le (λ k lt. omega (arith, p.shares k (omega arith), lt, more))
+
+-- ---- a read and a change of a block
+pub got_in : (n : ℕ) (bs : List (List ℕ)) (j o : ℕ) (d : ℕ) → ArePacked n bs → j < length bs → o < length (block_at bs j) → get_or (concat bs) (j * block_size + o) d ≡ get_or (block_at bs j) o d
+got_in n bs j o d p lt in_block =
+    let long = full n bs j p (omega arith) (omega (arith, p.shares j lt, in_block)) in
+    let at : j * block_size + o - j * block_size ≡ o = omega arith in
+    ap (λ l. get_or l (j * block_size + o) d) (concat_at bs j lt)
+    ∙ get_or-append_right (concat (take j bs)) (block_at bs j ++ concat (drop (suc j) bs)) (j * block_size) (j * block_size + o) d long (omega arith)
+    ∙ ap (λ i. get_or (block_at bs j ++ concat (drop (suc j) bs)) i d) at
+    ∙ get_or_append_left (block_at bs j) (concat (drop (suc j) bs)) d o in_block
+
+pub put_in : (n : ℕ) (bs : List (List ℕ)) (j o x : ℕ) → ArePacked n bs → j < length bs → j * block_size ≤ n → o ≤ length (block_at bs j) → concat (set bs j (insert (block_at bs j) o x)) ≡ insert (concat bs) (j * block_size + o) x
+put_in n bs j o x p lt more in_block =
+    let long = full n bs j p (omega arith) more in
+    let at : j * block_size + o - j * block_size ≡ o = omega arith in
+    let front = concat (take j bs) in
+    let behind = concat (drop (suc j) bs) in
+    concat_set bs j (insert (block_at bs j) o x) lt
+    ∙ ap (λ l. front ++ l) (sym (insert-append_left (block_at bs j) behind o x in_block))
+    ∙ ap (λ i. front ++ insert (block_at bs j ++ behind) i x) (sym at)
+    ∙ sym (insert-append_right front (block_at bs j ++ behind) (j * block_size) (j * block_size + o) x long (omega arith))
+    ∙ ap (λ l. insert l (j * block_size + o) x) (sym (concat_at bs j lt))
+
+pub taken_in : (n : ℕ) (bs : List (List ℕ)) (j o : ℕ) → ArePacked n bs → j < length bs → o < length (block_at bs j) → concat (set bs j (remove (block_at bs j) o)) ≡ remove (concat bs) (j * block_size + o)
+taken_in n bs j o p lt in_block =
+    let long = full n bs j p (omega arith) (omega (arith, p.shares j lt, in_block)) in
+    let at : j * block_size + o - j * block_size ≡ o = omega arith in
+    let front = concat (take j bs) in
+    let behind = concat (drop (suc j) bs) in
+    concat_set bs j (remove (block_at bs j) o) lt
+    ∙ ap (λ l. front ++ l) (sym (remove-append_left (block_at bs j) behind o in_block))
+    ∙ ap (λ i. front ++ remove (block_at bs j ++ behind) i) (sym at)
+    ∙ sym (remove-append_right front (block_at bs j ++ behind) (j * block_size) (j * block_size + o) long (omega arith))
+    ∙ ap (λ l. remove l (j * block_size + o)) (sym (concat_at bs j lt))
+
+pub set_in : (n : ℕ) (bs : List (List ℕ)) (j o x : ℕ) → ArePacked n bs → j < length bs → o < length (block_at bs j) → concat (set bs j (set (block_at bs j) o x)) ≡ set (concat bs) (j * block_size + o) x
+set_in n bs j o x p lt in_block =
+    let long = full n bs j p (omega arith) (omega (arith, p.shares j lt, in_block)) in
+    let at : j * block_size + o - j * block_size ≡ o = omega arith in
+    let front = concat (take j bs) in
+    let behind = concat (drop (suc j) bs) in
+    concat_set bs j (set (block_at bs j) o x) lt
+    ∙ ap (λ l. front ++ l) (sym (set-append_left (block_at bs j) behind o x in_block))
+    ∙ ap (λ i. front ++ set (block_at bs j ++ behind) i x) (sym at)
+    ∙ sym (set-append_right front (block_at bs j ++ behind) (j * block_size) (j * block_size + o) x long (omega arith))
+    ∙ ap (λ l. set l (j * block_size + o) x) (sym (concat_at bs j lt))
+
+-- ---- a number that goes on to the next block, or back
+pub passed : (bs : List (List ℕ)) (j x : ℕ) (b : List ℕ) → suc j < length bs → block_at bs j ≡ b ++ x ∷ [] → concat (set (set bs j b) (suc j) (x ∷ block_at bs (suc j))) ≡ concat bs
+passed [] j x b lt e = absurd (omega arith)
+passed (c ∷ []) zero x b lt e = absurd (omega arith)
+passed (c ∷ d ∷ bs) zero x b lt e = sym (append_assoc b (x ∷ []) (d ++ concat bs)) ∙ ap (λ l. l ++ (d ++ concat bs)) (sym e)
+passed (c ∷ bs) (suc j) x b lt e = ap (λ l. c ++ l) (passed bs j x b (omega arith) e)
+
+pub pulled : (bs : List (List ℕ)) (j x : ℕ) (b : List ℕ) → suc j < length bs → block_at bs (suc j) ≡ x ∷ b → concat (set (set bs (suc j) b) j (block_at bs j ++ x ∷ [])) ≡ concat bs
+pulled [] j x b lt e = absurd (omega arith)
+pulled (c ∷ []) zero x b lt e = absurd (omega arith)
+pulled (c ∷ d ∷ bs) zero x b lt e = append_assoc c (x ∷ []) (b ++ concat bs) ∙ ap (λ l. c ++ (l ++ concat bs)) (sym e)
+pulled (c ∷ bs) (suc j) x b lt e = ap (λ l. c ++ l) (pulled bs j x b (omega arith) e)
+
+-- ---- blocks that are packed but for one number
+pub packed_more : (n : ℕ) (bs : List (List ℕ)) → ArePacked n bs → ArePacked n (bs ++ [] ∷ [])
+packed_more n bs p =
+    let none : List (List ℕ) = [] ∷ [] in
+    let long = length-append bs none in
+    record {
+      shares = λ j lt. ⊎_elim
+          (λ (e : j ≡ length bs). ap length (get_or_push bs [] [] j (sym e)) ∙ empty_past j e)
+          (λ (ne : j ≡ length bs → ⊥). let within : j < length bs = omega (arith, lt, long, ne) in ap length (get_or_append_left bs none [] j within) ∙ p.shares j within)
+          (cases_eq j (length bs));
+      fits = omega (arith, p.fits, long);
+    }
+  where
+    empty_past : (j : ℕ) → j ≡ length bs → 0 ≡ share n j
+    empty_past j e = omega (arith, p.fits, e)
+
+pub packed_added : (n : ℕ) (bs : List (List ℕ)) (j o x : ℕ) → ArePacked n bs → j < length bs → o ≤ length (block_at bs j) → HaveOneMore n j (set bs j (insert (block_at bs j) o x))
+packed_added n bs j o x p lt le = record {
+  over = ap length (get_or-set_same bs j (insert (block_at bs j) o x) [] lt) ∙ length-insert (block_at bs j) o x le ∙ ap (λ m. m + 1) (p.shares j lt);
+  shares = λ k ne within. ap length (get_or-set_other bs j k (insert (block_at bs j) o x) [] ne) ∙ p.shares k (omega (arith, within, length-set bs j (insert (block_at bs j) o x)));
+}
+
+pub packed_taken : (n : ℕ) (bs : List (List ℕ)) (j o : ℕ) → ArePacked n bs → j < length bs → o < length (block_at bs j) → LackOne n j (set bs j (remove (block_at bs j) o))
+packed_taken n bs j o p lt le = record {
+  lacks = ap (λ b. length b + 1) (get_or-set_same bs j (remove (block_at bs j) o) [] lt) ∙ length-remove (block_at bs j) o le ∙ p.shares j lt;
+  shares = λ k ne within. ap length (get_or-set_other bs j k (remove (block_at bs j) o) [] ne) ∙ p.shares k (omega (arith, within, length-set bs j (remove (block_at bs j) o)));
+}
+
+-- what two changes of neighbours leave elsewhere
+set_twice : (bs : List (List ℕ)) (i j k : ℕ) (b c : List ℕ) → (k ≡ i → ⊥) → (k ≡ j → ⊥) → block_at (set (set bs i b) j c) k ≡ block_at bs k
+set_twice bs i j k b c ne ne' = get_or-set_other (set bs i b) j k c [] ne' ∙ get_or-set_other bs i k b [] ne
+
+pub record IsMoved (more : ℕ → List (List ℕ) → Type 0) (i : ℕ) (old new : List (List ℕ)) : Type 0 where
+  pub same : concat new ≡ concat old
+  pub but : more i new
+  pub count : length new ≡ length old
+
+pub passed_on : (n i j x : ℕ) (bs mid new : List (List ℕ)) → i ≡ suc j → j < n / block_size → n / block_size < length bs → HaveOneMore n j bs
+    → block_at bs j ≡ block_at mid j ++ x ∷ [] → mid ≡ set bs j (block_at mid j) → new ≡ set mid i (x ∷ block_at mid i) → IsMoved (HaveOneMore n) i bs new
+passed_on n i j x bs mid new is lt last p rest to onto =
+    let b = block_at mid j in
+    let within : i < length bs = omega (arith, is, lt, last) in
+    let ne : i ≡ j → ⊥ = λ e. omega (arith, is, e) in
+    let next : block_at mid i ≡ block_at bs i = ap (λ l. block_at l i) to ∙ get_or-set_other bs j i b [] ne in
+    let is_new : new ≡ set (set bs j b) i (x ∷ block_at bs i) = onto ∙ ap₂ (λ l c. set l i (x ∷ c)) to next in
+    let wide = length-set bs j b in
+    record {
+      same = ap concat is_new ∙ subst (λ k. concat (set (set bs j b) k (x ∷ block_at bs k)) ≡ concat bs) (sym is) (passed bs j x b (omega (arith, within, is)) rest);
+      but = record {
+        over = ap (λ l. length (block_at l i)) is_new ∙ ap length (get_or-set_same (set bs j b) i (x ∷ block_at bs i) [] (omega (arith, within, wide))) ∙ omega (arith, p.shares i ne within);
+        shares = λ k ne' lt'. ap (λ l. length (block_at l k)) is_new ∙ ⊎_elim
+            (λ (e : k ≡ j).
+            ap (λ m. length (block_at (set (set bs j b) i (x ∷ block_at bs i)) m)) e
+            ∙ ap length (get_or-set_other (set bs j b) i j (x ∷ block_at bs i) [] (λ e'. ne (sym e')) ∙ get_or-set_same bs j b [] (omega (arith, within, is)))
+            ∙ omega (arith, ap length rest, length-append b (x ∷ []), p.over)
+            ∙ ap (share n) (sym e))
+            (λ (other : k ≡ j → ⊥). ap length (set_twice bs j i k b (x ∷ block_at bs i) other ne') ∙ p.shares k other (omega (arith, lt', ap length is_new, length-set (set bs j b) i (x ∷ block_at bs i), wide)))
+            (cases_eq k j);
+      };
+      count = ap length is_new ∙ length-set (set bs j b) i (x ∷ block_at bs i) ∙ wide;
+    }
+
+pub pulled_up : (n i j x : ℕ) (bs mid new : List (List ℕ)) → i ≡ suc j → i < length bs → LackOne n j bs
+    → block_at bs i ≡ x ∷ block_at mid i → mid ≡ set bs i (block_at mid i) → new ≡ set mid j (block_at mid j ++ x ∷ []) → IsMoved (LackOne n) i bs new
+pulled_up n i j x bs mid new is within p rest to onto =
+    let b = block_at mid i in
+    let ne : i ≡ j → ⊥ = λ e. omega (arith, is, e) in
+    let ne_back : j ≡ i → ⊥ = λ e. omega (arith, is, e) in
+    let here : block_at mid j ≡ block_at bs j = ap (λ l. block_at l j) to ∙ get_or-set_other bs i j b [] ne_back in
+    let more : List ℕ = block_at bs j ++ x ∷ [] in
+    let is_new : new ≡ set (set bs i b) j more = onto ∙ ap₂ (λ l c. set l j (c ++ x ∷ [])) to here in
+    let wide = length-set bs i b in
+    record {
+      same = ap concat is_new ∙ pulled_at is within rest;
+      but = record {
+        lacks = ap (λ l. length (block_at l i) + 1) is_new
+            ∙ ap (λ l. length l + 1) (get_or-set_other (set bs i b) j i more [] ne ∙ get_or-set_same bs i b [] within)
+            ∙ omega (arith, ap length rest, p.shares i ne within);
+        shares = λ k ne' lt'. ap (λ l. length (block_at l k)) is_new ∙ ⊎_elim
+            (λ (e : k ≡ j).
+            ap (λ m. length (block_at (set (set bs i b) j more) m)) e
+            ∙ ap length (get_or-set_same (set bs i b) j more [] (omega (arith, within, is, wide)))
+            ∙ length-append (block_at bs j) (x ∷ [])
+            ∙ p.lacks
+            ∙ ap (share n) (sym e))
+            (λ (other : k ≡ j → ⊥). ap length (set_twice bs i j k b more ne' other) ∙ p.shares k other (omega (arith, lt', ap length is_new, length-set (set bs i b) j more, wide)))
+            (cases_eq k j);
+      };
+      count = ap length is_new ∙ length-set (set bs i b) j more ∙ wide;
+    }
+  where
+    pulled_at : {k : ℕ} → k ≡ suc j → k < length bs → block_at bs k ≡ x ∷ block_at mid k → concat (set (set bs k (block_at mid k)) j (block_at bs j ++ x ∷ [])) ≡ concat bs
+    pulled_at {k} e lt r = subst (λ m. concat (set (set bs m (block_at mid k)) j (block_at bs j ++ x ∷ [])) ≡ concat bs) (sym e) (pulled bs j x (block_at mid k) (omega (arith, lt, e)) (ap (block_at bs) (sym e) ∙ r))
+
+-- ---- and packed again
+pub packed_on : (n j : ℕ) (bs : List (List ℕ)) → j ≡ n / block_size → j < length bs → HaveOneMore n j bs → ArePacked (n + 1) bs
+packed_on n j bs is lt p = record {
+  shares = λ k within. ⊎_elim
+      (λ (e : k ≡ j). ap (λ m. length (block_at bs m)) e ∙ p.over ∙ here k e)
+      (λ (ne : k ≡ j → ⊥). p.shares k ne within ∙ there k ne)
+      (cases_eq k j);
+  fits = omega (arith, is, lt);
+}
+  where
+    here : (k : ℕ) → k ≡ j → share n j + 1 ≡ share (n + 1) k
+    here k e = omega (arith, is, e)
+
+    there : (k : ℕ) → (k ≡ j → ⊥) → share n k ≡ share (n + 1) k
+    there k ne = omega (arith, is, ne)
+
+pub packed_back : (n m j : ℕ) (bs : List (List ℕ)) → n ≡ m + 1 → j ≡ m / block_size → n ≤ block_size * length bs → LackOne n j bs → ArePacked m bs
+packed_back n m j bs one is fit p = record {
+  shares = λ k within. ⊎_elim
+      (λ (e : k ≡ j). here k e (ap (λ i. length (block_at bs i) + 1) e ∙ p.lacks))
+      (λ (ne : k ≡ j → ⊥). p.shares k ne within ∙ there k ne)
+      (cases_eq k j);
+  fits = omega (arith, one, fit);
+}
+  where
+    here : (k : ℕ) → k ≡ j → length (block_at bs k) + 1 ≡ share n j → length (block_at bs k) ≡ share m k
+    here k e h = omega (arith, one, is, e, h)
+
+    there : (k : ℕ) → (k ≡ j → ⊥) → share n k ≡ share m k
+    there k ne = omega (arith, one, is, ne)

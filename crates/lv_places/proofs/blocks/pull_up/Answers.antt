@@ -1,0 +1,11 @@
+use Rattle.std.proofs.Common.{◌+◌, suc, arith}
+use Rattle.lv_places.specs.Blocks.{LackOne}
+use Rattle.lv_places.proofs.Packed.{IsMoved, pulled_up}
+use Rattle.lv_places.proofs.blocks.pull_up.Goals as goal
+
+pub returns : goal.returns
+returns c =
+    let j = c.args.block in
+    let bs = c.args.blocks.now.items in
+    let moved = pulled_up c.args.len (j + 1) j c.pop_front-number.result bs c.pop_front-number.new.blocks.items c.push_back.new.blocks.items (omega arith) c.requires.last c.requires.lacks c.pop_front-number.ensures.rest c.pop_front-number.ensures.set c.push_back.ensures in
+    record { same = moved.same; lacks = moved.but; count = moved.count }

@@ -1,0 +1,18 @@
+use Rattle.std.proofs.Common.{◌≡◌, ◌+◌, ◌*◌, ◌/◌, ◌%◌, ◌<◌, ◌∙◌, sym, ap, length, set, arith}
+use Rattle.std.specs.List.{concat}
+use Rattle.lv_places.specs.Blocks.{block_at, block_size}
+use Rattle.lv_places.proofs.Packed.{set_in}
+use Rattle.lv_places.proofs.blocks.set_number.Goals as goal
+
+pub returns-clause-replaced : goal.returns-clause-replaced
+returns-clause-replaced c =
+    let n = c.args.len in
+    let bs = c.args.blocks.now.items in
+    let at = c.args.at in
+    let p = c.requires.packed in
+    let j = at / block_size in
+    let o = at % block_size in
+    let is : j * block_size + o ≡ at = omega arith in
+    let lt : j < length bs = omega (arith, p.fits, c.requires.place) in
+    let within : o < length (block_at bs j) = omega (arith, p.shares j lt, c.requires.place) in
+    ap concat c.set_in.ensures ∙ set_in n bs j o c.args.number p lt within ∙ ap (λ i. set (concat bs) i c.args.number) is

@@ -1,0 +1,8 @@
+//! Lists of numbers in which one comes or goes anywhere without a move of all behind it.
+#![tactic(auto)]
+
+mod block;
+mod blocks;
+mod places;
+
+pub use places::Places;

@@ -1,0 +1,118 @@
+//! Numbers in an order, with the room that they have.
+ghost use Rattle.std.specs.Prelude.{◌≡◌, ◌≤◌, ◌<◌, [], length, slice_index_or, slice_set, take, OnOk};
+ghost use Rattle.std.specs.List.{insert, remove};
+
+use crate::block::{Block, SIZE};
+use crate::blocks::{add_blocks, insert_number, number_at, remove_number, set_number};
+use lv_values::NoMemory;
+use std::alloc::Global;
+use std::marker::Model;
+
+/// There is no memory for more numbers than these.
+const MOST: usize = (1 << 63) - 1;
+
+/// Numbers in an order. They lie in blocks of 1,024, each a ring, and each full before the next one has a number. Where
+/// one comes or goes each block behind passes one number on, and the rest stay where they are. Contracts see the
+/// numbers, and for how many in all there is room.
+#[derive(Drop)]
+pub struct Places {
+    blocks: Vec<Block>,
+    len: usize,
+    alloc: Global,
+}
+
+impl Model for Places {
+    ghost use Rattle.std.specs.Prelude.{◌≡◌, ◌≤◌, ◌*◌, ◌^◌, length};
+    ghost use Rattle.std.specs.List.{concat};
+    ghost use Rattle.lv_places.specs.Blocks.{ArePacked, Roomed, block_size, roomed_code};
+
+    ghost Value = { Roomed };
+
+    ghost coded = { roomed_code };
+
+    ghost view = { λ p. record { list = concat p.blocks.items; room = block_size * length p.blocks.items } };
+
+    ghost invariant = { λ p. (p.len ≡ length (concat p.blocks.items)) × ArePacked p.len p.blocks.items × (length p.blocks.items ≤ 2 ^ 53) };
+}
+
+impl Places {
+    /// No number. It takes no memory.
+    pub fn new(alloc: Global) -> Places
+        ensures { result.list ≡ [] }
+    {
+        Places {
+            blocks: Vec::new(alloc),
+            len: 0,
+            alloc,
+        }
+    }
+
+    /// How many numbers there are.
+    pub fn len(&self) -> usize
+        ensures { result ≡ length self.now.list }
+    {
+        self.len
+    }
+
+    /// The number at a place. Cost: constant.
+    pub fn at(&self, at: usize) -> u32
+        requires { at < length self.now.list }
+        ensures { result ≡ slice_index_or self.now.list at result }
+    {
+        number_at(self.len, self.blocks.as_slice(), at)
+    }
+
+    /// Makes room for so many numbers in all. The numbers stay as they were, and the room never shrinks. Cost: constant
+    /// for each 1,024.
+    pub fn reserve(&mut self, room: usize) -> Result<(), NoMemory>
+        ensures same { self.new.list ≡ self.old.list }
+        ensures room { OnOk result (room ≤ self.new.room) }
+        ensures kept { self.old.room ≤ self.new.room }
+    {
+        if room > MOST {
+            return Err(NoMemory);
+        }
+        add_blocks(self.alloc, room / SIZE + 1, &mut self.blocks)
+    }
+
+    /// Puts a number at a place. It takes no memory. Cost: a move of at most 512 numbers within their block, and of one
+    /// more for each 1,024 behind.
+    pub fn insert(&mut self, at: usize, number: u32)
+        requires place { at ≤ length self.old.list }
+        requires room { length self.old.list < self.old.room }
+        ensures added { self.new.list ≡ insert self.old.list at number }
+        ensures room { self.new.room ≡ self.old.room }
+    {
+        insert_number(self.len, &mut self.blocks, at, number);
+        self.len += 1;
+    }
+
+    /// Takes the number at a place out. Cost: as of `insert`.
+    pub fn remove(&mut self, at: usize)
+        requires { at < length self.old.list }
+        ensures rest { self.new.list ≡ remove self.old.list at }
+        ensures room { self.new.room ≡ self.old.room }
+    {
+        remove_number(self.len, &mut self.blocks, at);
+        self.len -= 1;
+    }
+
+    /// Puts a number in the place of another one. Cost: constant.
+    pub fn set(&mut self, at: usize, number: u32)
+        requires { at < length self.old.list }
+        ensures replaced { self.new.list ≡ slice_set self.old.list at number }
+        ensures room { self.new.room ≡ self.old.room }
+    {
+        set_number(self.len, &mut self.blocks, at, number);
+    }
+
+    /// Keeps the first so many numbers. Cost: constant for each that goes.
+    pub fn truncate(&mut self, len: usize)
+        ensures rest { self.new.list ≡ take len self.old.list }
+        ensures room { self.new.room ≡ self.old.room }
+    {
+        while self.len() > len {
+            self.remove(self.len() - 1);
+        }
+    }
+}
