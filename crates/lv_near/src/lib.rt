@@ -5,7 +5,9 @@
 mod changes;
 mod input;
 mod ordering;
+mod orders;
 mod picking;
 mod source;
 
 pub use input::step_input;
+pub use orders::index_links;
