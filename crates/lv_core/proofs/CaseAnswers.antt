@@ -34,7 +34,6 @@ use Rattle.lv_engine.specs.declared.fault.CreateFault.TheVariants as create
 use Rattle.lv_engine.proofs.Logged.{unchanged_logs}
 use Rattle.lv_engine.specs.Answering.{GivesQuery, LogsUnless, Refuses, commit_fault, create_fault, shows_store}
 use Rattle.lv_engine.specs.Kept.{EngineView, Stands, length_of}
-use Rattle.lv_engine.specs.Records.{HasRecords}
 use Rattle.lv_core.specs.declared.answered.Answered.{Answered}
 use Rattle.lv_core.specs.Answering.{Answers, CommitsAlone, GivesAlone, GivesTurn, IsRefusal, IsUndone, Journals, alone_after, turned, with_transaction}
 

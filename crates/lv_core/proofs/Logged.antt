@@ -1,9 +1,8 @@
 -- What has become of the journal of a run, after one entry more or none.
 use Rattle.std.proofs.Common.{inl, inr, ⊎_elim, ◌≡◌, ◌≤◌, ℕ, false, List, [], ◌∷◌, ◌++◌, Option, Some, None, refl, sym, ap, ◌∙◌, subst, arith}
-use Rattle.std.specs.Prelude.{◌⊎◌, Bool, IfSome, IsSomeAnd, is_some}
+use Rattle.std.specs.Prelude.{Bool, IfSome, IsSomeAnd, is_some}
 use Rattle.std.specs.List.{cons_option}
 use Rattle.std.proofs.lemmas.List.{append-nil, append_assoc}
-use Rattle.lv_journal.specs.declared.writer.Writer.{Writer}
 use Rattle.lv_schema.specs.declared.rec.Rec.{Rec}
 use Rattle.lv_plain.specs.declared.event.Event.{Event}
 use Rattle.lv_plain.specs.Legal.{event_of}
@@ -16,7 +15,7 @@ use Rattle.lv_crash.specs.Attempts.{Attempt, MayStay, as_attempt, asked_by, atte
 use Rattle.lv_crash.proofs.Follows.{Follows}
 use Rattle.lv_crash.proofs.Staying.{all_stay, kept_written, last_stays, stays_on}
 use Rattle.lv_engine.specs.Kept.{EngineView}
-use Rattle.lv_engine.specs.Records.{HasRecords, IsJournalWith, IsLeftBy, LeavesMore, Logs}
+use Rattle.lv_engine.specs.Records.{HasRecords, IsJournalWith, IsLeftBy, Logs}
 use Rattle.lv_core.specs.Run.{CoreView, IsLeftOf, IsLogged, asked_of, first_state, rules_of, written_of}
 use Rattle.lv_core.proofs.RecordsGo.{Goes, GoesOn, IsAfter}
 

@@ -1,5 +1,5 @@
 -- A run in which want of memory has left all but the room in the journal goes on.
-use Rattle.std.proofs.Common.{◌≡◌, ℕ, ◌≤◌, List, ◌++◌, Option, refl, sym, ap, ◌∙◌, subst, arith}
+use Rattle.std.proofs.Common.{◌≡◌, ℕ, ◌≤◌, List, Option, refl, sym, ap, ◌∙◌, subst, arith}
 use Rattle.std.specs.Prelude.{◌+◌, ◌-◌, ◌^◌, min}
 use Rattle.lv_schema.specs.World.{World}
 use Rattle.lv_plain.specs.declared.entry.Entry.{Entry}

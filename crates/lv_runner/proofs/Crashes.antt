@@ -1,14 +1,13 @@
 -- What a crash may leave of a run opens.
-use Rattle.std.proofs.Common.{◌≡◌, ℕ, true, List, [], ◌∷◌, ◌++◌, map, Option, Some, None, refl, sym, ◌∙◌, subst, arith}
+use Rattle.std.proofs.Common.{◌≡◌, ℕ, true, List, [], ◌∷◌, ◌++◌, map, Option, None, sym, subst, arith}
 use Rattle.std.proofs.lemmas.List.{append-nil}
-use Rattle.lv_core.specs.Run.{CoreView, IsLeftOf, IsOpening, IsRun, asked_of, rules_of, world_of}
+use Rattle.lv_core.specs.Run.{CoreView, IsLeftOf, IsRun, asked_of, rules_of, world_of}
 use Rattle.lv_core.proofs.Binds.{reads_binds}
 use Rattle.lv_crash.specs.Attempts.{MayStay, attempts_of}
 use Rattle.lv_crash.proofs.Staying.{all_stay}
 use Rattle.lv_engine.specs.Fresh.{IsFresh, world_kept}
 use Rattle.lv_engine.specs.Kept.{EngineView}
 use Rattle.lv_engine.specs.Records.{HasRecords, IsJournalWith}
-use Rattle.lv_journal.specs.Bytes.{bad_place}
 use Rattle.lv_journal.proofs.Meaning.{closed_means}
 use Rattle.lv_record.specs.Spelling.{spelling}
 use Rattle.lv_recover.specs.Opening.{OpensAs}
