@@ -75,6 +75,16 @@ impl Base {
         self.tables.push_reserved(Table::new(alloc, def));
     }
 
+    /// Adds an index of a table's versions by some columns, in which `probe` then searches. Where there is one, nothing
+    /// is done. What is kept and the room for more stay as they were, also for want of memory. Cost: a binary search and
+    /// a move of small numbers for each version, and later as much for each row that goes or comes.
+    pub fn add_index(&mut self, table: u32, columns: &[u8]) -> Result<(), NoMemory>
+        requires { table < length self.old.tables }
+        ensures { self.new ≡ self.old }
+    {
+        self.tables[table as usize].add_index(columns)
+    }
+
     /// A table's versions, which can be read at the floor of the last clean-up and above.
     pub fn versions(&self, table: u32) -> &Versions
         requires { table < length self.now.tables }

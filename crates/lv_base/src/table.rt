@@ -67,6 +67,13 @@ impl Table {
         self.versions.reserve(rows)
     }
 
+    /// Adds an index by some columns, if there is none. What is kept stays as it was.
+    pub(crate) fn add_index(&mut self, columns: &[u8]) -> Result<(), NoMemory>
+        ensures { self.new ≡ self.old }
+    {
+        self.versions.add_index(columns)
+    }
+
     /// Takes a net change as the commit after `last`. It takes no memory.
     pub(crate) fn commit(&mut self, last: u64, net: Net)
         requires takes { CanTakeNet last net self.old }

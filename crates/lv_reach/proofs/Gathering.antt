@@ -1,5 +1,4 @@
--- The near rows by rounds: what holds of the rows that are near and of the old rows that are left, from the first round
--- to the last.
+-- Rows of aliases, gathered from parts; and that the changed rows are near.
 use Rattle.std.proofs.Common.{◌≡◌, ℕ, zero, suc, ◌+◌, ◌<◌, Bool, true, false, cond, not, ◌&&◌, ◌||◌, ◌==◌, List, [], ◌∷◌, ◌++◌, map, length, drop, get_or, refl, sym, ap, ◌∙◌, subst, append_assoc, arith}
 use Rattle.std.proofs.lemmas.Bool.{and_parts, eqb-true, eq-eqb}
 use Rattle.std.proofs.lemmas.List.{drop_more}
@@ -8,13 +7,11 @@ use Rattle.std.specs.List.{filter, AllByRecursion}
 use Rattle.lv_values.specs.Order.{row_eq}
 use Rattle.lv_schema.specs.declared.part.Part.{Part}
 use Rattle.lv_schema.specs.Nets.{has_row}
-use Rattle.lv_schema.proofs.Apart.{all_weaker, all_map, all_append, all_both, all_filter}
+use Rattle.lv_schema.proofs.Apart.{all_weaker, all_map, all_append}
 use Rattle.lv_schema.proofs.ChangeLists.{ARow}
-use Rattle.lv_schema.proofs.NetsLead.{elements, passes, same_row, row_itself}
-use Rattle.lv_reach.specs.declared.link.Link.{Link}
+use Rattle.lv_schema.proofs.NetsLead.{elements, same_row, row_itself}
 use Rattle.lv_reach.specs.declared.rows.AliasRow.{AliasRow}
-use Rattle.lv_reach.specs.Reach.{of_alias, part_at, agree, agrees_with, is_changed, IsNear, has_alias_row, rows_from, changed_rows, old_rows}
-use Rattle.lv_reach.proofs.NearLaws.{changed_near, agreeing_near, near_least}
+use Rattle.lv_reach.specs.Reach.{of_alias, alike, part_at, is_changed, has_alias_row, rows_from, changed_rows, old_rows}
 
 -- ---- a loop over the parts
 pub rows_step : (pick : Part → List ARow) (out all : List AliasRow) (i : ℕ) (parts : List Part) (p : Part) → i < length parts → p ≡ get_or parts i p
@@ -27,17 +24,14 @@ rows_step pick out all i parts p lt is h =
     ∙ h
 
 -- ---- rows of aliases
-abbrev alike : AliasRow → AliasRow → Bool
-alike a b = (a.alias == b.alias) && row_eq a.row b.row
-
-one_row : (a b : AliasRow) → alike a b ≡ true → a ≡ b
+pub one_row : (a b : AliasRow) → alike a b ≡ true → a ≡ b
 one_row a b h =
     let both = and_parts (a.alias == b.alias) (row_eq a.row b.row) h in
     let alias : a.alias ≡ b.alias = eqb-true a.alias b.alias both.0 in
     let row : a.row ≡ b.row = same_row a.row b.row both.1 in
     λ i. record { alias = alias i; row = row i }
 
-row_alike : (a : AliasRow) → alike a a ≡ true
+pub row_alike : (a : AliasRow) → alike a a ≡ true
 row_alike a = (λ i. eq-eqb a.alias a.alias refl i && row_eq a.row a.row) ∙ row_itself a.row
 
 -- what holds of each holds of one among them
@@ -57,22 +51,22 @@ more_there a b rows h = by (alike a b)
     by true = refl
     by false = h
 
-each_there : (rows : List AliasRow) → AllByRecursion (λ a. has_alias_row a rows ≡ true) rows
+pub each_there : (rows : List AliasRow) → AllByRecursion (λ a. has_alias_row a rows ≡ true) rows
 each_there [] = tt
 each_there (b ∷ rows) = (ap (λ t. t || has_alias_row b rows) (row_alike b), all_weaker (λ a. has_alias_row a rows ≡ true) (λ a. has_alias_row a (b ∷ rows) ≡ true) (λ a h. more_there a b rows h) rows (each_there rows))
 
-first_there : (a b : Bool) → a ≡ true → (a || b) ≡ true
+pub first_there : (a b : Bool) → a ≡ true → (a || b) ≡ true
 first_there true b h = refl
 first_there false b h = cc
 
-second_there : (a b : Bool) → b ≡ true → (a || b) ≡ true
+pub second_there : (a b : Bool) → b ≡ true → (a || b) ≡ true
 second_there true b h = refl
 second_there false b h = h
 
-there_before : (a : AliasRow) (xs ys : List AliasRow) → has_alias_row a xs ≡ true → has_alias_row a (xs ++ ys) ≡ true
+pub there_before : (a : AliasRow) (xs ys : List AliasRow) → has_alias_row a xs ≡ true → has_alias_row a (xs ++ ys) ≡ true
 there_before a xs ys h = list_any-append (alike a) xs ys ∙ first_there _ _ h
 
-there_behind : (a : AliasRow) (xs ys : List AliasRow) → has_alias_row a ys ≡ true → has_alias_row a (xs ++ ys) ≡ true
+pub there_behind : (a : AliasRow) (xs ys : List AliasRow) → has_alias_row a ys ≡ true → has_alias_row a (xs ++ ys) ≡ true
 there_behind a xs ys h = list_any-append (alike a) xs ys ∙ second_there _ _ h
 
 -- ---- rows of parts
@@ -88,7 +82,7 @@ module _ (pick : Part → List ARow) (nothing : pick (record { old = []; minus =
   none_there row n h = sym h ∙ ap (has_row row) nothing
 
   -- each is a row of its alias
-  each_of_alias : (P : AliasRow → Type 0) (i : ℕ) (parts : List Part) → ((j : ℕ) (row : ARow) → has_row row (pick (part_at parts j)) ≡ true → P (of_alias (i + j) row)) → AllByRecursion P (rows_from pick i parts)
+  pub each_of_alias : (P : AliasRow → Type 0) (i : ℕ) (parts : List Part) → ((j : ℕ) (row : ARow) → has_row row (pick (part_at parts j)) ≡ true → P (of_alias (i + j) row)) → AllByRecursion P (rows_from pick i parts)
   each_of_alias P i [] h = tt
   each_of_alias P i (p ∷ parts) h =
       let here : i + 0 ≡ i = omega arith in
@@ -97,7 +91,7 @@ module _ (pick : Part → List ARow) (nothing : pick (record { old = []; minus =
       (each_of_alias P (suc i) parts (λ j row e. let next : i + suc j ≡ suc i + j = omega arith in subst (λ n. P (of_alias n row)) next (h (suc j) row e)))
 
   -- each row of an alias is there
-  there_of_alias : (i : ℕ) (parts : List Part) (j : ℕ) (row : ARow) → has_row row (pick (part_at parts j)) ≡ true → has_alias_row (of_alias (i + j) row) (rows_from pick i parts) ≡ true
+  pub there_of_alias : (i : ℕ) (parts : List Part) (j : ℕ) (row : ARow) → has_row row (pick (part_at parts j)) ≡ true → has_alias_row (of_alias (i + j) row) (rows_from pick i parts) ≡ true
   there_of_alias i [] j row h = let none = none_there row j h in cc
   there_of_alias i (p ∷ parts) zero row h =
       let here : i ≡ i + 0 = omega arith in
@@ -106,114 +100,49 @@ module _ (pick : Part → List ARow) (nothing : pick (record { old = []; minus =
       let next : suc i + j ≡ i + suc j = omega arith in
       there_behind (of_alias (i + suc j) row) (map (of_alias i) (pick p)) (rows_from pick (suc i) parts) (subst (λ n. has_alias_row (of_alias n row) (rows_from pick (suc i) parts) ≡ true) next (there_of_alias (suc i) parts j row h))
 
--- ---- the rounds
-module _ (links : List Link) (parts : List Part) where
+module _ (parts : List Part) where
   abbrev IsOld : AliasRow → Type 0
   IsOld a = has_row a.row (part_at parts a.alias).old ≡ true
 
-  -- each row that is near is so, the changed rows are among them, and each old row is among them or among those left
-  pub record IsGathered (near left : List AliasRow) : Type 0 where
-    pub sound : AllByRecursion (IsNear links parts) near
-    pub old : AllByRecursion IsOld left
-    pub changed : (a : AliasRow) → is_changed (part_at parts a.alias) a.row ≡ true → has_alias_row a near ≡ true
-    pub each : (a : AliasRow) → IsOld a → (has_alias_row a near || has_alias_row a left) ≡ true
+  abbrev IsChanged : AliasRow → Type 0
+  IsChanged a = is_changed (part_at parts a.alias) a.row ≡ true
 
   changed_is : (p : Part) (row : ARow) → has_row row (p.minus ++ p.plus) ≡ is_changed p row
   changed_is p row = list_any-append (row_eq row) p.minus p.plus
 
-  pub starts : IsGathered (changed_rows parts) (old_rows parts)
-  starts = record {
-    sound = each_of_alias (λ p. p.minus ++ p.plus) refl (IsNear links parts) 0 parts (λ j row h.
-        let e : j ≡ 0 + j = omega arith in
-        subst (λ n. IsNear links parts (of_alias n row)) e (changed_near links parts (of_alias j row) (sym (changed_is (part_at parts j) row) ∙ h)));
-    old = each_of_alias (λ p. p.old) refl IsOld 0 parts (λ j row h.
-        let e : j ≡ 0 + j = omega arith in
-        subst (λ n. IsOld (of_alias n row)) e h);
-    changed = λ a h.
-        let e : 0 + a.alias ≡ a.alias = omega arith in
-        subst (λ n. has_alias_row (of_alias n a.row) (changed_rows parts) ≡ true) e (there_of_alias (λ p. p.minus ++ p.plus) refl 0 parts a.alias a.row (changed_is (part_at parts a.alias) a.row ∙ h));
-    each = λ a h.
-        let e : 0 + a.alias ≡ a.alias = omega arith in
-        second_there _ _ (subst (λ n. has_alias_row (of_alias n a.row) (old_rows parts) ≡ true) e (there_of_alias (λ p. p.old) refl 0 parts a.alias a.row h));
-  }
+  pub all_changed : AllByRecursion IsChanged (changed_rows parts)
+  all_changed = each_of_alias (λ p. p.minus ++ p.plus) refl IsChanged 0 parts (λ j row h.
+      let e : j ≡ 0 + j = omega arith in
+      subst (λ n. IsChanged (of_alias n row)) e (sym (changed_is (part_at parts j) row) ∙ h))
 
-  -- what agrees with a near row is near
-  agreeing_one : (near : List AliasRow) → AllByRecursion (IsNear links parts) near → (a : AliasRow) → IsOld a → agrees_with links near a ≡ true → IsNear links parts a
-  agreeing_one [] all a old h = cc
-  agreeing_one (b ∷ near) all a old h = by (agree links b a) refl h (agreeing_one near all.1 a old)
-    where
-      by : (t : Bool) → agree links b a ≡ t → (t || agrees_with links near a) ≡ true → (agrees_with links near a ≡ true → IsNear links parts a) → IsNear links parts a
-      by true e h rest = agreeing_near links parts b a all.0 old e
-      by false e h rest = rest h
+  pub changed_there : (a : AliasRow) → IsChanged a → has_alias_row a (changed_rows parts) ≡ true
+  changed_there a h =
+      let e : 0 + a.alias ≡ a.alias = omega arith in
+      subst (λ n. has_alias_row (of_alias n a.row) (changed_rows parts) ≡ true) e (there_of_alias (λ p. p.minus ++ p.plus) refl 0 parts a.alias a.row (changed_is (part_at parts a.alias) a.row ∙ h))
 
-  -- a row is in one half or the other
-  either_half : (near : List AliasRow) (a : AliasRow) (left : List AliasRow) → has_alias_row a left ≡ true
-      → (has_alias_row a (filter (agrees_with links near) left) || has_alias_row a (filter (λ b. not (agrees_with links near b)) left)) ≡ true
-  either_half near a [] h = cc
-  either_half near a (b ∷ left) h = by (agrees_with links near b) (alike a b) refl h (either_half near a left)
-    where
-      by : (t s : Bool) → alike a b ≡ s → (s || has_alias_row a left) ≡ true
-          → (has_alias_row a left ≡ true → (has_alias_row a (filter (agrees_with links near) left) || has_alias_row a (filter (λ b. not (agrees_with links near b)) left)) ≡ true)
-          → (has_alias_row a (cond t (b ∷ filter (agrees_with links near) left) (filter (agrees_with links near) left)) || has_alias_row a (cond (not t) (b ∷ filter (λ b. not (agrees_with links near b)) left) (filter (λ b. not (agrees_with links near b)) left))) ≡ true
-      by true true e h rest = first_there _ _ (ap (λ s. s || has_alias_row a (filter (agrees_with links near) left)) e)
-      by true false e h rest = (λ i. (e i || has_alias_row a (filter (agrees_with links near) left)) || has_alias_row a (filter (λ b. not (agrees_with links near b)) left)) ∙ rest h
-      by false true e h rest = second_there _ _ (ap (λ s. s || has_alias_row a (filter (λ b. not (agrees_with links near b)) left)) e)
-      by false false e h rest = (λ i. has_alias_row a (filter (agrees_with links near) left) || (e i || has_alias_row a (filter (λ b. not (agrees_with links near b)) left))) ∙ rest h
+  pub all_old : AllByRecursion IsOld (old_rows parts)
+  all_old = each_of_alias (λ p. p.old) refl IsOld 0 parts (λ j row h.
+      let e : j ≡ 0 + j = omega arith in
+      subst (λ n. IsOld (of_alias n row)) e h)
 
-  or_assoc : (a b c : Bool) → ((a || b) || c) ≡ (a || (b || c))
-  or_assoc true b c = refl
-  or_assoc false b c = refl
+  pub old_there : (a : AliasRow) → IsOld a → has_alias_row a (old_rows parts) ≡ true
+  old_there a h =
+      let e : 0 + a.alias ≡ a.alias = omega arith in
+      subst (λ n. has_alias_row (of_alias n a.row) (old_rows parts) ≡ true) e (there_of_alias (λ p. p.old) refl 0 parts a.alias a.row h)
 
-  pub goes_on : (near left : List AliasRow) → IsGathered near left → IsGathered (near ++ filter (agrees_with links near) left) (filter (λ a. not (agrees_with links near a)) left)
-  goes_on near left g =
-      let more = filter (agrees_with links near) left in
-      let rest = filter (λ a. not (agrees_with links near a)) left in
-      record {
-        sound = all_append (IsNear links parts) near more g.sound
-            (all_both IsOld (λ a. agrees_with links near a ≡ true) (IsNear links parts) (λ a old h. agreeing_one near g.sound a old h) more (all_filter IsOld (agrees_with links near) left g.old) (passes (agrees_with links near) left));
-        old = all_filter IsOld (λ a. not (agrees_with links near a)) left g.old;
-        changed = λ a h. there_before a near more (g.changed a h);
-        each = λ a h. by a (has_alias_row a near) refl (g.each a h);
-      }
-    where
-      by : (a : AliasRow) (t : Bool) → has_alias_row a near ≡ t → (t || has_alias_row a left) ≡ true
-          → (has_alias_row a (near ++ filter (agrees_with links near) left) || has_alias_row a (filter (λ b. not (agrees_with links near b)) left)) ≡ true
-      by a true e h = first_there _ _ (there_before a near (filter (agrees_with links near) left) e)
-      by a false e h =
-          ap (λ s. s || has_alias_row a (filter (λ b. not (agrees_with links near b)) left)) (list_any-append (alike a) near (filter (agrees_with links near) left))
-          ∙ or_assoc (has_alias_row a near) _ _
-          ∙ second_there (has_alias_row a near) _ (either_half near a left h)
+-- a row that is there and passes a test passes the filter
+pub filter_there : (f : AliasRow → Bool) (left : List AliasRow) (a : AliasRow) → has_alias_row a left ≡ true → f a ≡ true → has_alias_row a (filter f left) ≡ true
+filter_there f [] a h e = cc
+filter_there f (b ∷ left) a h e = by (alike a b) (f b) refl refl h (λ k. filter_there f left a k e)
+  where
+    by : (s t : Bool) → alike a b ≡ s → f b ≡ t → (s || has_alias_row a left) ≡ true → (has_alias_row a left ≡ true → has_alias_row a (filter f left) ≡ true)
+        → has_alias_row a (cond t (b ∷ filter f left) (filter f left)) ≡ true
+    by true true d k h rest = ap (λ s. s || has_alias_row a (filter f left)) d
+    by true false d k h rest = let no : true ≡ false = sym e ∙ ap f (one_row a b d) ∙ k in cc
+    by false true d k h rest = second_there _ _ (rest h)
+    by false false d k h rest = rest h
 
-  -- what agrees with a row among them agrees with one of them
-  one_agrees : (near : List AliasRow) (b a : AliasRow) → has_alias_row b near ≡ true → agree links b a ≡ true → agrees_with links near a ≡ true
-  one_agrees [] b a h e = cc
-  one_agrees (x ∷ near) b a h e = by (alike b x) refl h (λ k. one_agrees near b a k e)
-    where
-      by : (t : Bool) → alike b x ≡ t → (t || has_alias_row b near) ≡ true → (has_alias_row b near ≡ true → agrees_with links near a ≡ true) → (agree links x a || agrees_with links near a) ≡ true
-      by true d h rest = first_there _ _ (ap (λ y. agree links y a) (sym (one_row b x d)) ∙ e)
-      by false d h rest = second_there _ _ (rest h)
-
-  -- a row that is left and passes a test passes the filter
-  filter_there : (f : AliasRow → Bool) (left : List AliasRow) (a : AliasRow) → has_alias_row a left ≡ true → f a ≡ true → has_alias_row a (filter f left) ≡ true
-  filter_there f [] a h e = cc
-  filter_there f (b ∷ left) a h e = by (alike a b) (f b) refl refl h (λ k. filter_there f left a k e)
-    where
-      by : (s t : Bool) → alike a b ≡ s → f b ≡ t → (s || has_alias_row a left) ≡ true → (has_alias_row a left ≡ true → has_alias_row a (filter f left) ≡ true)
-          → has_alias_row a (cond t (b ∷ filter f left) (filter f left)) ≡ true
-      by true true d k h rest = ap (λ s. s || has_alias_row a (filter f left)) d
-      by true false d k h rest = let no : true ≡ false = sym e ∙ ap f (one_row a b d) ∙ k in cc
-      by false true d k h rest = second_there _ _ (rest h)
-      by false false d k h rest = rest h
-
-  pub ends : (near left : List AliasRow) → IsGathered near left → filter (agrees_with links near) left ≡ [] → (a : AliasRow) → IsNear links parts a → has_alias_row a near ≡ true
-  ends near left g none = near_least links parts (λ a. has_alias_row a near) g.changed (λ a b h there e. by a b h e (has_alias_row b near) refl (g.each b there))
-    where
-      by : (a b : AliasRow) → has_alias_row a near ≡ true → agree links a b ≡ true → (t : Bool) → has_alias_row b near ≡ t → (t || has_alias_row b left) ≡ true → has_alias_row b near ≡ true
-      by a b h e true d k = d
-      by a b h e false d k =
-          let no : true ≡ false = sym (filter_there (agrees_with links near) left b k (one_agrees near a b h e)) ∙ ap (has_alias_row b) none in cc
-
--- ---- each round leaves fewer
+-- ---- a round leaves fewer
 both_halves : {X : Type 0} (f : X → Bool) (xs : List X) → length (filter f xs) + length (filter (λ x. not (f x)) xs) ≡ length xs
 both_halves f [] = refl
 both_halves f (x ∷ xs) = by (f x) (both_halves f xs)

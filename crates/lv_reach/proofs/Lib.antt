@@ -6,4 +6,6 @@ pub mod Reached
 pub mod Gathering
 pub mod Paths
 pub mod FarLaws
-pub mod CutLaws
+pub mod Asking
+pub mod Walking
+pub mod Costing

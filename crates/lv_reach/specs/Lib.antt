@@ -2,3 +2,4 @@ pub mod Links
 pub mod Reach
 pub mod Cost
 pub mod Far
+pub mod Walk

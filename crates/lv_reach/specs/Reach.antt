@@ -52,10 +52,6 @@ all_fit links a b = list_all (λ link. fit link a b && fit link b a) links
 abbrev pub agree : List Link → AliasRow → AliasRow → Bool
 agree links a b = are_linked links a.alias b.alias && all_fit links a b
 
--- whether a row agrees with one of these
-abbrev pub agrees_with : List Link → List AliasRow → AliasRow → Bool
-agrees_with links others row = list_any (λ other. agree links other row) others
-
 -- whether a chain of links leads from an alias to another, over these aliases
 abbrev pub IsPath : List Link → ℕ → List ℕ → ℕ → Type 0
 IsPath links i [] j = i ≡ j
@@ -90,9 +86,13 @@ changed_rows parts = rows_from (λ p. p.minus ++ p.plus) 0 parts
 abbrev pub old_rows : List Part → List AliasRow
 old_rows parts = rows_from (λ p. p.old) 0 parts
 
+-- whether two are the same row of the same alias
+abbrev pub alike : AliasRow → AliasRow → Bool
+alike a b = (a.alias == b.alias) && row_eq a.row b.row
+
 -- whether a row of an alias is among these
 abbrev pub has_alias_row : AliasRow → List AliasRow → Bool
-has_alias_row a rows = list_any (λ other. (a.alias == other.alias) && row_eq a.row other.row) rows
+has_alias_row a rows = list_any (alike a) rows
 
 -- whether each row of a tuple is present
 abbrev pub IsOver : List Part → Tuple → Type 0
@@ -127,6 +127,14 @@ pub record IsFar (links : List Link) (parts : List Part) (j : ℕ) : Type 0 wher
   pub apart : (path : List ℕ) → IsPath links from.alias path j → ⊥
 
 -- ---- smaller inputs
+-- the same changes, with these rows before the step; the aliases count from i
+abbrev pub with_old_from : (ℕ → List (List Value)) → ℕ → List Part → List Part
+with_old_from rows i [] = []
+with_old_from rows i (p ∷ parts) = record { old = rows i; minus = p.minus; plus = p.plus } ∷ with_old_from rows (suc i) parts
+
+abbrev pub with_old : (ℕ → List (List Value)) → List Part → List Part
+with_old rows parts = with_old_from rows 0 parts
+
 -- the part of an alias with those of the old rows alone that are to be kept
 abbrev pub cut_part : (AliasRow → Bool) → ℕ → Part → Part
 cut_part keep i p = record { old = filter (λ row. keep (of_alias i row)) p.old; minus = p.minus; plus = p.plus }

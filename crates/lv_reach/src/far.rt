@@ -10,7 +10,7 @@ use lv_values::{Bytes, Items, NoMemory, Test};
 use std::alloc::Global;
 
 /// A flag for each alias.
-pub(crate) type Flags = Items<bool>;
+pub type Flags = Items<bool>;
 
 /// Whether one of these aliases is linked to another.
 fn are_led(links: &[Link], from: &[u8], to: u8) -> bool

@@ -13,6 +13,7 @@ ghost use Rattle.lv_schema.specs.Truth.{holds};
 ghost use Rattle.lv_schema.specs.Tuples.{Tuple, tuples};
 ghost use Rattle.lv_reach.specs.declared.link.Link.{Link};
 ghost use Rattle.lv_reach.specs.declared.rows.AliasRow.{AliasRow};
+ghost use Rattle.lv_reach.specs.Cost.{IsReach, cost};
 ghost use Rattle.lv_reach.specs.Links.{links_of};
 ghost use Rattle.lv_reach.specs.Reach.{in_tuple, row_at, part_at, agree, IsPath, AreWithin, AgreesIn, is_changed, IsOver, unchanged, IsNear, KeepsReach, cut};
 
@@ -55,4 +56,9 @@ pub fn the_reach_gives_the_difference()
         → difference view (old_sides (cut keep parts)) (new_sides (cut keep parts)) ≡ difference view (old_sides parts) (new_sides parts) }
     ensures bound { (tables : List TableDef) (views : List ViewDef) (view : ViewDef) (parts : List Part) (keep : AliasRow → Bool) → IsBoundView tables views view → length parts ≡ length view.tables → KeepsReach (links_of view.cond) parts keep
         → difference view (old_sides (cut keep parts)) (new_sides (cut keep parts)) ≡ difference view (old_sides parts) (new_sides parts) }
+{}
+
+/// However the near rows are listed, the cost of a step is the same number.
+pub fn the_cost_is_one_number()
+    ensures { (links : List Link) (parts : List Part) (some all : List AliasRow) (f g : ℕ → Bool) → IsReach links parts some f → IsReach links parts all g → cost links parts some f ≡ cost links parts all g }
 {}

@@ -1,74 +1,77 @@
-//! The near rows of a change.
-ghost use Rattle.std.specs.Prelude.{◌≡◌, ◌≤◌, ◌++◌, true, length, map, IfOk, OnOk};
-ghost use Rattle.std.specs.List.{AllByRecursion};
-ghost use Rattle.lv_reach.specs.declared.rows.AliasRow.{AliasRow as ARowOf};
-ghost use Rattle.lv_reach.specs.Reach.{IsNear, has_alias_row, of_alias, changed_rows, old_rows};
+//! Rows of aliases, each once.
+ghost use Rattle.std.specs.Prelude.{◌≡◌, ◌<◌, ◌^◌, [], true, length, slice_index_or, OnOk, OnErr};
+ghost use Rattle.lv_schema.specs.Once.{are_apart};
+ghost use Rattle.lv_reach.specs.Reach.{alike};
+ghost use Rattle.lv_reach.specs.Walk.{put_all, put_behind};
 
-use crate::link::Link;
-use crate::rows::{AliasRows, Apart, add_rows, agreeing};
-use lv_schema::Part;
+use crate::rows::{AliasRow, AliasRows};
+use indexmap::IndexSet;
 use lv_values::NoMemory;
 use std::alloc::Global;
+use std::marker::Model;
 
-/// Puts copies of the rows of a part that go or come behind the others.
-fn add_changed(alloc: Global, out: &mut AliasRows, alias: u8, part: &Part) -> Result<(), NoMemory>
-    ensures { OnOk result (out.new ≡ out.old ++ map (of_alias alias) (part.now.minus ++ part.now.plus)) }
-{
-    add_rows(alloc, out, alias, part.minus.as_slice())?;
-    add_rows(alloc, out, alias, part.plus.as_slice())
+/// Rows of aliases, each once, in the order in which they were put in. Contracts see the list.
+#[derive(Drop)]
+pub struct NearRows {
+    rows: IndexSet<AliasRow>,
 }
 
-/// Copies of the rows that go or come, alias by alias.
-#[tactic(auto, using(crate::proofs::Gathering::rows_step))]
-fn changed_rows(alloc: Global, parts: &[Part]) -> Result<AliasRows, NoMemory>
-    requires { length parts.now ≤ 255 }
-    ensures { IfOk result (λ rows. rows ≡ changed_rows parts.now) }
-{
-    let mut rows = AliasRows::new(alloc);
-    let mut alias = 0;
-    for part in parts {
-        add_changed(alloc, &mut rows, alias, part)?;
-        alias += 1;
-    }
-    Ok(rows)
+impl Model for NearRows {
+    ghost use Rattle.std.specs.Prelude.{◌≡◌, List, true};
+    ghost use Rattle.lv_schema.specs.Once.{are_apart};
+    ghost use Rattle.lv_reach.specs.declared.rows.AliasRow.{AliasRow as ARowOf};
+    ghost use Rattle.lv_reach.specs.Reach.{alike};
+
+    ghost Value = { List ARowOf };
+
+    ghost view = { λ n. n.rows.keys };
+
+    ghost invariant = { λ n. are_apart alike n.rows.keys ≡ true };
 }
 
-/// Copies of the rows before the step, alias by alias.
-#[tactic(auto, using(crate::proofs::Gathering::rows_step))]
-fn old_rows(alloc: Global, parts: &[Part]) -> Result<AliasRows, NoMemory>
-    requires { length parts.now ≤ 255 }
-    ensures { IfOk result (λ rows. rows ≡ old_rows parts.now) }
-{
-    let mut rows = AliasRows::new(alloc);
-    let mut alias = 0;
-    for part in parts {
-        add_rows(alloc, &mut rows, alias, part.old.as_slice())?;
-        alias += 1;
-    }
-    Ok(rows)
-}
-
-/// The near rows of a change, by rounds: at first the changed rows, then those old rows that agree with one of them, and
-/// so on until a round finds none. There are at most 255 aliases. Cost: in each round one comparison for each pair of a
-/// row that is near and one that is not, and at most as many rounds as there are old rows.
-pub fn near_rows(alloc: Global, links: &[Link], parts: &[Part]) -> Result<AliasRows, NoMemory>
-    requires { length parts.now ≤ 255 }
-    ensures near { IfOk result (λ rows. AllByRecursion (IsNear links.now parts.now) rows) }
-    ensures each { IfOk result (λ rows. (a : ARowOf) → IsNear links.now parts.now a → has_alias_row a rows ≡ true) }
-{
-    let mut near = changed_rows(alloc, parts)?;
-    let mut left = old_rows(alloc, parts)?;
-    let rounds = left.len();
-    for _ in 0..rounds {
-        let more = agreeing(alloc, links, near.as_slice(), left.as_slice())?;
-        if more.is_empty() {
-            return Ok(near);
+impl NearRows {
+    /// No rows. It takes no memory.
+    pub(crate) fn new(alloc: Global) -> NearRows
+        ensures { result ≡ [] }
+    {
+        NearRows {
+            rows: IndexSet::new(alloc),
         }
-        left.keep(&Apart {
-            links,
-            others: near.as_slice(),
-        });
-        near.append(more)?;
     }
-    Ok(near)
+
+    /// How many rows there are.
+    pub fn len(&self) -> usize
+        ensures len { result ≡ length self.now }
+        ensures few { result < 2 ^ 63 }
+    {
+        self.rows.len()
+    }
+
+    /// The rows.
+    pub fn as_slice(&self) -> &[AliasRow]
+        ensures rows { result.now ≡ self.now }
+        ensures once { are_apart alike self.now ≡ true }
+    {
+        self.rows.as_slice()
+    }
+
+    /// Puts a row behind the others, if it is not among them. Want of memory changes nothing. Cost: that of hashing the
+    /// row, on average.
+    fn put(&mut self, row: AliasRow) -> Result<(), NoMemory>
+        ensures put { OnOk result (self.new ≡ put_behind row self.old) }
+        ensures refused { OnErr result (self.new ≡ self.old) }
+    {
+        self.rows.insert(row)?;
+        Ok(())
+    }
+
+    /// Puts rows behind the others, those that are not among them.
+    pub(crate) fn put_all(&mut self, rows: AliasRows) -> Result<(), NoMemory>
+        ensures { OnOk result (self.new ≡ put_all rows self.old) }
+    {
+        for row in rows.into_vec() {
+            self.put(row)?;
+        }
+        Ok(())
+    }
 }

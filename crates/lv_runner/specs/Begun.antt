@@ -89,3 +89,8 @@ module _ {D : Type 0} (seen : D → Option (List ℕ)) (may_leave : D → List �
     EndsOpened (Differ session place given kept) (Some disk) = EndsOver (Differ session place given kept) (Some disk)
     EndsOpened NoMemory (Some disk) = Keeps written0 written1 ⊎ HasWrittenPart seen may_leave moment left_since faults w told bytes written0 written1 count disk
     EndsOpened status (Some disk) = ⊥
+
+  -- how a run of a program over an engine ends, whatever its disk was told to hold, and whichever bytes say the program
+  abbrev pub EndsFrom : SaidWords → Program → EngineView D → Option (List ℕ) → Option (List ℕ) → Bool → ℕ → ℕ → Status → Option D → Type 0
+  EndsFrom w p e written0 written1 is_flushed sink0 sink1 status back =
+      (told : Option (List ℕ)) (bytes : List ℕ) (count : ℕ) → HasBegun told bytes p count e → EndsOver w told bytes count written0 written1 is_flushed sink0 sink1 status back

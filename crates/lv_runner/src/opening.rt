@@ -5,7 +5,7 @@ ghost use Rattle.lv_core.specs.Run.{IsOpenedBy, IsOpening};
 ghost use Rattle.lv_lines.specs.Script.{script_of};
 ghost use Rattle.lv_schema.specs.declared.rec.Rec.{Rec};
 ghost use Rattle.lv_words.specs.Range.{IsInRange};
-ghost use Rattle.lv_runner.specs.Begun.{EndsOpened, EndsOver, HasBegun, TellsAtLeast, store_settings, unopened_as};
+ghost use Rattle.lv_runner.specs.Begun.{EndsFrom, EndsOpened, TellsAtLeast, store_settings, unopened_as};
 ghost use Rattle.lv_runner.specs.Ends.{Ends, HasInput};
 ghost use Rattle.lv_runner.specs.Following.{MayFollow};
 ghost use Rattle.lv_runner.specs.Late.{HasRunBy};
@@ -81,8 +81,7 @@ fn run_alone<K: Sink, D: Disk, L: Ledger>(
     requires fresh { IsOpening engine }
     requires records { (recs : List Rec) × IsOpenedBy D.seen D.may_leave recs engine }
     requires alone { words.now.threads ≡ false }
-    ensures ends { (told : Option (List ℕ)) (bytes : List ℕ) (count : ℕ) → HasBegun D.seen D.may_leave D.moment D.left_since D.failures told bytes plan.program count engine
-        → EndsOver D.seen D.may_leave D.moment D.left_since D.failures words.now told bytes count (K.written sink.old) (K.written sink.new) (K.is_flushed sink.new) (K.faults sink.old) (K.faults sink.new) result.status result.disk }
+    ensures ends { EndsFrom D.seen D.may_leave D.moment D.left_since D.failures words.now plan.program engine (K.written sink.old) (K.written sink.new) (K.is_flushed sink.new) (K.faults sink.old) (K.faults sink.new) result.status result.disk }
     ensures later { K.faults sink.old ≤ K.faults sink.new }
 {
     each_event_may_come();
@@ -121,8 +120,7 @@ fn run_beside<R: Threads + Wait + Sync, K: Sink, D: Disk + Send, G: Gate + Sync,
     requires beside { words.now.threads ≡ true }
     requires apart { words.now.make ≡ None }
     requires workers { words.now.workers ≤ 8 }
-    ensures ends { (told : Option (List ℕ)) (bytes : List ℕ) (count : ℕ) → HasBegun D.seen D.may_leave D.moment D.left_since D.failures told bytes plan.program count engine
-        → EndsOver D.seen D.may_leave D.moment D.left_since D.failures words.now told bytes count (K.written sink.old) (K.written sink.new) (K.is_flushed sink.new) (K.faults sink.old) (K.faults sink.new) result.status result.disk }
+    ensures ends { EndsFrom D.seen D.may_leave D.moment D.left_since D.failures words.now plan.program engine (K.written sink.old) (K.written sink.new) (K.is_flushed sink.new) (K.faults sink.old) (K.faults sink.new) result.status result.disk }
     ensures later { K.faults sink.old ≤ K.faults sink.new }
 {
     fresh_engines_stand_for_one_world();
@@ -161,8 +159,7 @@ fn run_over<R: Threads + Wait + Sync, K: Sink, D: Disk + Send, G: Gate + Sync, L
     requires fresh { IsOpening engine }
     requires records { (recs : List Rec) × IsOpenedBy D.seen D.may_leave recs engine }
     requires range { IsInRange words.now }
-    ensures ends { (told : Option (List ℕ)) (bytes : List ℕ) (count : ℕ) → HasBegun D.seen D.may_leave D.moment D.left_since D.failures told bytes plan.program count engine
-        → EndsOver D.seen D.may_leave D.moment D.left_since D.failures words.now told bytes count (K.written sink.old) (K.written sink.new) (K.is_flushed sink.new) (K.faults sink.old) (K.faults sink.new) result.status result.disk }
+    ensures ends { EndsFrom D.seen D.may_leave D.moment D.left_since D.failures words.now plan.program engine (K.written sink.old) (K.written sink.new) (K.is_flushed sink.new) (K.faults sink.old) (K.faults sink.new) result.status result.disk }
     ensures later { K.faults sink.old ≤ K.faults sink.new }
 {
     if words.threads {

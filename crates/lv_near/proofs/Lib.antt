@@ -1,0 +1,4 @@
+pub mod Ordered
+pub mod Picked
+pub mod Parts
+pub mod Inputs

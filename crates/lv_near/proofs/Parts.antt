@@ -1,0 +1,311 @@
+-- The parts of a step: with whole tables, as they are made from the changes and the reach.
+use Rattle.std.proofs.Common.{◌≡◌, ℕ, zero, suc, ◌+◌, ◌<◌, ◌≤◌, Bool, true, false, cond, not, ◌&&◌, ◌||◌, List, [], ◌∷◌, ◌++◌, map, length, take, drop, slice_get, Some, get_or, refl, sym, ap, ◌∙◌, subst, append_assoc, arith}
+use Rattle.std.specs.Prelude.{◌⊎◌}
+use mathlib.Core.Logic.{inl, inr}
+use Rattle.std.proofs.Math.ListN.{get_or-map}
+use Rattle.std.proofs.lemmas.List.{take-append-drop}
+use Rattle.std.proofs.lemmas.Bool.{and_parts}
+use Rattle.std.proofs.lemmas.List.Folds.{list_any-append}
+use Rattle.std.specs.List.{filter, AllByRecursion, AllZip}
+use Rattle.lv_values.specs.Order.{row_eq}
+use Rattle.lv_values.specs.Rows.{key_cmp}
+use Rattle.lv_schema.specs.declared.part.Part.{Part}
+use Rattle.lv_schema.specs.declared.table.TableDef.{TableDef}
+use Rattle.lv_schema.specs.declared.view.ViewDef.{ViewDef}
+use Rattle.lv_schema.specs.Jobs.{IsPart}
+use Rattle.lv_schema.specs.Nets.{has_row, lacking}
+use Rattle.lv_schema.specs.Once.{Ascends}
+use Rattle.lv_schema.specs.World.{table_at}
+use Rattle.lv_schema.proofs.Apart.{all_weaker, all_filter}
+use Rattle.lv_schema.proofs.ChangeLists.{ARow}
+use Rattle.lv_schema.proofs.NetsLead.{elements, same_row}
+use Rattle.lv_schema.proofs.Replay.{ascends_filter}
+use Rattle.lv_schema.specs.Versions.{is_at}
+use Rattle.lv_stands.specs.Moves.{part_in}
+use Rattle.lv_base.specs.Bases.{BaseRoom, base_of, defs_of, kept_of, no_versions, table_in}
+use Rattle.lv_versions.specs.Versions.{Kept}
+use Rattle.lv_maint.specs.Inputs.{Fit, FitOver}
+use Rattle.lv_reach.specs.declared.link.Link.{Link}
+use Rattle.lv_reach.specs.declared.rows.AliasRow.{AliasRow}
+use Rattle.lv_reach.specs.Cost.{AreFound, IsReach, whole_from}
+use Rattle.lv_reach.specs.Reach.{alike, cut, cut_from, cut_part, has_alias_row, is_changed, IsFar, IsNear, IsReachOf, kept_by, KeepsReach, of_alias, part_at, with_old, with_old_from}
+use Rattle.lv_reach.proofs.Gathering.{among as alias_among}
+use Rattle.lv_near.specs.Small.{IsSplit, change_in, old_at, table_at_commit, whole_parts}
+use Rattle.lv_near.proofs.Picked.{any_filter}
+
+first_there : (a b : Bool) → a ≡ true → (a || b) ≡ true
+first_there true b h = refl
+first_there false b h = cc
+
+second_there : (a b : Bool) → b ≡ true → (a || b) ≡ true
+second_there true b h = refl
+second_there false b h = h
+
+both_there : (a b : Bool) → a ≡ true → b ≡ true → (a && b) ≡ true
+both_there true b h k = k
+both_there false b h k = h
+
+other_there : (a b : Bool) → b ≡ false → (a || b) ≡ true → a ≡ true
+other_there true b e h = refl
+other_there false b e h = let no : true ≡ false = sym h ∙ e in cc
+
+same_flag : (a b : Bool) → (a ≡ true → b ≡ true) → (b ≡ true → a ≡ true) → a ≡ b
+same_flag true b h k = sym (h refl)
+same_flag false true h k = k refl
+same_flag false false h k = refl
+
+among : (P : ARow → Type 0) (rows : List ARow) (q : ARow) → AllByRecursion P rows → has_row q rows ≡ true → P q
+among P [] q a h = cc
+among P (r ∷ rows) q a h = by (row_eq q r) refl h (among P rows q a.1)
+  where
+    by : (t : Bool) → row_eq q r ≡ t → (t || has_row q rows) ≡ true → (has_row q rows ≡ true → P q) → P q
+    by true e k rest = subst P (sym (same_row q r e)) a.0
+    by false e k rest = rest k
+
+-- ---- what is kept of a table
+module _ (b : BaseRoom) (lo hi : ℕ) where
+  abbrev part : ℕ → Part
+  part t = part_in (defs_of b) (base_of b) lo hi t
+
+  pub old_is : (t : ℕ) → (part t).old ≡ table_at_commit b lo t
+  old_is t = ap (λ versions. map (λ v. v.row) (filter (is_at lo) versions)) (ap (λ k. k.versions) (get_or-map kept_of b.tables t no_versions))
+
+  pub key_is : (t : ℕ) → (table_at (defs_of b) t).key ≡ (table_in b.tables t).def.key
+  key_is t = ap (λ (d : TableDef). d.key) (get_or-map (λ (k : Kept). k.def) b.tables t no_versions)
+
+  -- ---- the whole parts are the changes with the old rows
+  whole_from_changes : (rows : ℕ → List ARow) (i : ℕ) (tables : List ℕ) → ((k : ℕ) → k < length tables → rows (i + k) ≡ get_or (map (table_at_commit b lo) tables) k [])
+      → with_old_from rows i (map (change_in b lo hi) tables) ≡ map part tables
+  whole_from_changes rows i [] h = refl
+  whole_from_changes rows i (t ∷ tables) h =
+      let here : i + 0 ≡ i = omega arith in
+      let old : rows i ≡ (part t).old = subst (λ n. rows n ≡ table_at_commit b lo t) here (h 0 (omega arith)) ∙ sym (old_is t) in
+      let rest = whole_from_changes rows (suc i) tables (λ k lt. let next : i + suc k ≡ suc i + k = omega arith in subst (λ n. rows n ≡ get_or (map (table_at_commit b lo) tables) k []) next (h (suc k) (omega arith))) in
+      λ x. record { old = old x; minus = (part t).minus; plus = (part t).plus } ∷ rest x
+
+  pub changes_with_old : (tables : List ℕ) → with_old (λ alias. old_at b tables lo alias) (map (change_in b lo hi) tables) ≡ whole_parts b tables lo hi
+  changes_with_old tables = whole_from_changes (λ alias. old_at b tables lo alias) 0 tables (λ k lt. let same : 0 + k ≡ k = omega arith in ap (λ n. get_or (map (table_at_commit b lo) tables) n []) same)
+
+  part_at_table : (tables : List ℕ) (n t : ℕ) → slice_get tables n ≡ Some t → part_at (map part tables) n ≡ part t
+  part_at_table [] n t h = cc
+  part_at_table (u ∷ tables) zero t h = by h
+    where
+      by : Some u ≡ Some t → part u ≡ part t
+      by e = let same : u ≡ t = cc in ap part same
+  part_at_table (u ∷ tables) (suc n) t h = part_at_table tables n t h
+
+  is_part_at : (defs : List TableDef) (tables : List ℕ) (n t : ℕ) → AllZip (λ t p. IsPart (table_at defs t) p) tables (map part tables) → slice_get tables n ≡ Some t → IsPart (table_at defs t) (part t)
+  is_part_at defs [] n t all h = cc
+  is_part_at defs (u ∷ tables) zero t all h = by h
+    where
+      by : Some u ≡ Some t → IsPart (table_at defs t) (part t)
+      by e = let same : u ≡ t = cc in subst (λ x. IsPart (table_at defs x) (part x)) same all.0
+  is_part_at defs (u ∷ tables) (suc n) t all h = is_part_at defs tables n t all.1 h
+
+  -- ---- the near rows of an alias that are old
+  module _ (links : List Link) (tables : List ℕ) (near : List AliasRow) (far : ℕ → Bool) (changed : ℕ)
+      (each : AllZip (λ t p. IsPart (table_at (defs_of b) t) p) tables (whole_parts b tables lo hi))
+      (found : AreFound (whole_parts b tables lo hi) (take changed near) (drop changed near)) where
+    near_split : (q : AliasRow) → has_alias_row q near ≡ (has_alias_row q (take changed near) || has_alias_row q (drop changed near))
+    near_split q = ap (has_alias_row q) (sym (take-append-drop changed near)) ∙ list_any-append (alike q) (take changed near) (drop changed near)
+
+    pub is_split : (n t : ℕ) → slice_get tables n ≡ Some t → IsSplit (table_in b.tables t).def.key near changed n (change_in b lo hi t).minus (table_at_commit b lo t)
+    is_split n t at =
+        let p = part t in
+        let here : part_at (whole_parts b tables lo hi) n ≡ p = part_at_table tables n t at in
+        let is : IsPart (table_at (defs_of b) t) p = is_part_at (defs_of b) tables n t each at in
+        record {
+          up = subst (λ key. Ascends (key_cmp key) (table_at_commit b lo t)) (key_is t) (subst (Ascends (key_cmp (table_at (defs_of b) t).key)) (old_is t) is.old_keyed);
+          old_near = λ q. same_flag _ _ (forth p here (old_is t) is q (has_row q p.minus) refl) (back p here (old_is t) is q);
+        }
+      where
+        forth : (p : Part) → part_at (whole_parts b tables lo hi) n ≡ p → p.old ≡ table_at_commit b lo t → IsPart (table_at (defs_of b) t) p → (q : ARow) (s : Bool) → has_row q p.minus ≡ s → (s || has_alias_row (of_alias n q) (drop changed near)) ≡ true → (has_row q (table_at_commit b lo t) && has_alias_row (of_alias n q) near) ≡ true
+        forth p here old is q true e h =
+            both_there _ _ (ap (has_row q) (sym old) ∙ among (λ r. has_row r p.old ≡ true) p.minus q is.there e)
+            (near_split (of_alias n q) ∙ first_there _ _ (found.all (of_alias n q) (ap (λ x. is_changed x q) here ∙ first_there _ (has_row q p.plus) e)))
+        forth p here old is q false e h =
+            both_there _ _ (ap (has_row q) (sym old) ∙ ap (λ x. has_row q x.old) (sym here) ∙ alias_among (λ a. has_row a.row (part_at (whole_parts b tables lo hi) a.alias).old ≡ true) (drop changed near) (of_alias n q) found.old h)
+            (near_split (of_alias n q) ∙ second_there _ _ h)
+
+        back : (p : Part) → part_at (whole_parts b tables lo hi) n ≡ p → p.old ≡ table_at_commit b lo t → IsPart (table_at (defs_of b) t) p → (q : ARow) → (has_row q (table_at_commit b lo t) && has_alias_row (of_alias n q) near) ≡ true → (has_row q p.minus || has_alias_row (of_alias n q) (drop changed near)) ≡ true
+        back p here old is q h =
+            let both = and_parts (has_row q (table_at_commit b lo t)) (has_alias_row (of_alias n q) near) h in
+            by (has_alias_row (of_alias n q) (drop changed near)) refl (has_row q p.minus) (has_row q p.plus) refl refl (ap (has_row q) old ∙ both.0)
+            (λ e. ap (λ x. is_changed x q) (sym here) ∙ found.changed (of_alias n q) (other_there (has_alias_row (of_alias n q) (take changed near)) _ e (sym (near_split (of_alias n q)) ∙ both.1)))
+          where
+            by : (t : Bool) → has_alias_row (of_alias n q) (drop changed near) ≡ t → (u v : Bool) → has_row q p.minus ≡ u → has_row q p.plus ≡ v → has_row q p.old ≡ true
+                → (has_alias_row (of_alias n q) (drop changed near) ≡ false → is_changed p q ≡ true) → (has_row q p.minus || has_alias_row (of_alias n q) (drop changed near)) ≡ true
+            by true e u v f g o k = second_there _ _ e
+            by false e true v f g o k = first_there _ _ f
+            by false e false true f g o k = let no : true ≡ false = sym o ∙ among (λ r. has_row r p.old ≡ false) p.plus q is.absent g in cc
+            by false e false false f g o k = let no : true ≡ false = sym (k e) ∙ (λ x. f x || g x) in cc
+
+-- ---- the reach is kept
+past_end : (flags : List Bool) (j : ℕ) → length flags ≤ j → get_or flags j true ≡ true
+past_end [] j le = refl
+past_end (f ∷ flags) zero le = absurd (let none = le in omega (arith, none))
+past_end (f ∷ flags) (suc j) le = past_end flags j (omega arith)
+
+high_or_low : (i n : ℕ) → (i < n) ⊎ (n ≤ i)
+high_or_low i n = grind arith
+
+module _ (links : List Link) (parts : List Part) (near : List AliasRow) (far : List Bool) (reach : IsReach links parts near (λ j. get_or far j true)) (flags : length far ≡ length parts) where
+  far_kept : (a : AliasRow) → IsFar links parts a.alias → kept_by near far a ≡ true
+  far_kept a h = by (high_or_low a.alias (length parts))
+    where
+      by : (a.alias < length parts) ⊎ (length parts ≤ a.alias) → kept_by near far a ≡ true
+      by (inl lt) = first_there _ _ ((reach.far_aliases a.alias lt).1 h)
+      by (inr le) = first_there _ _ (past_end far a.alias (omega (arith, flags, le)))
+
+  pub keeps_reach : KeepsReach links parts (kept_by near far)
+  keeps_reach = record { near = λ a h. second_there (get_or far a.alias true) _ ((reach.near_rows a).1 h); far = far_kept }
+
+  only_reach : (a : AliasRow) → a.alias < length parts → kept_by near far a ≡ true → IsNear links parts a ⊎ IsFar links parts a.alias
+  only_reach a lt h = by (get_or far a.alias true) refl h
+    where
+      by : (t : Bool) → get_or far a.alias true ≡ t → (t || has_alias_row a near) ≡ true → IsNear links parts a ⊎ IsFar links parts a.alias
+      by true e k = inr ((reach.far_aliases a.alias lt).0 e)
+      by false e k = inl ((reach.near_rows a).0 k)
+
+  pub reach_is_cut : IsReachOf links parts (cut (kept_by near far) parts)
+  reach_is_cut = record { keep = kept_by near far; keeps = keeps_reach; only = only_reach; cut_is = refl }
+
+-- ---- the small parts fit the tables
+fewer : (f : ARow → Bool) (rows : List ARow) → length (filter f rows) ≤ length rows
+fewer f [] = omega arith
+fewer f (r ∷ rows) = by (f r) (fewer f rows)
+  where
+    by : (t : Bool) → length (filter f rows) ≤ length rows → length (cond t (r ∷ filter f rows) (filter f rows)) ≤ suc (length rows)
+    by true h = omega (arith, h)
+    by false h = omega (arith, h)
+
+fewer_both : (f g : ARow → Bool) (rows : List ARow) → length (filter g (filter f rows)) ≤ length (filter g rows)
+fewer_both f g [] = omega arith
+fewer_both f g (r ∷ rows) = by (f r) (g r) refl (fewer_both f g rows)
+  where
+    by : (s t : Bool) → g r ≡ t → length (filter g (filter f rows)) ≤ length (filter g rows) → length (filter g (cond s (r ∷ filter f rows) (filter f rows))) ≤ length (cond t (r ∷ filter g rows) (filter g rows))
+    by true true e h = let l = ap (λ x. length (cond x (r ∷ filter g (filter f rows)) (filter g (filter f rows)))) e in omega (arith, h, l)
+    by true false e h = let l = ap (λ x. length (cond x (r ∷ filter g (filter f rows)) (filter g (filter f rows)))) e in omega (arith, h, l)
+    by false true e h = omega (arith, h)
+    by false false e h = h
+
+long_both : (xs ys : List ARow) → length (xs ++ ys) ≡ length xs + length ys
+long_both [] ys = omega arith
+long_both (x ∷ xs) ys = omega (arith, long_both xs ys)
+
+part_cut : (def : TableDef) (p : Part) (keep : AliasRow → Bool) (i : ℕ) → IsPart def p → ((row : ARow) → has_row row p.minus ≡ true → keep (of_alias i row) ≡ true) → IsPart def (cut_part keep i p)
+part_cut def p keep i is minus_kept =
+    let f : ARow → Bool = λ row. keep (of_alias i row) in
+    record {
+      old_fits = all_filter _ f p.old is.old_fits;
+      plus_fits = is.plus_fits;
+      old_keyed = ascends_filter (key_cmp def.key) f p.old is.old_keyed;
+      minus_keyed = is.minus_keyed;
+      plus_keyed = is.plus_keyed;
+      there = all_weaker (λ row. has_row row p.minus ≡ true) (λ row. has_row row (filter f p.old) ≡ true) (λ row h. any_filter f row p.old ∙ both_there _ _ (among (λ r. has_row r p.old ≡ true) p.minus row is.there h) (minus_kept row h)) p.minus (elements p.minus);
+      absent = all_weaker (λ row. has_row row p.old ≡ false) (λ row. has_row row (filter f p.old) ≡ false) (λ row h. any_filter f row p.old ∙ ap (λ b. b && f row) h) p.plus is.absent;
+      old_few = let few = fewer f p.old in let most = is.old_few in omega (arith, few, most);
+      new_few =
+          let few = fewer_both f (λ row. not (has_row row p.minus)) p.old in
+          let most = is.new_few in
+          omega (arith, few, most, long_both (lacking (filter f p.old) p.minus) p.plus, long_both (lacking p.old p.minus) p.plus);
+    }
+
+zip_cut : (defs : List TableDef) (keep : AliasRow → Bool) (i : ℕ) (ts : List ℕ) (ps : List Part) → AllZip (λ t p. IsPart (table_at defs t) p) ts ps
+    → ((j : ℕ) (row : ARow) → has_row row (part_at ps j).minus ≡ true → keep (of_alias (i + j) row) ≡ true) → AllZip (λ t p. IsPart (table_at defs t) p) ts (cut_from keep i ps)
+zip_cut defs keep i [] [] all h = tt
+zip_cut defs keep i [] (p ∷ ps) all h = absurd all
+zip_cut defs keep i (t ∷ ts) [] all h = absurd all
+zip_cut defs keep i (t ∷ ts) (p ∷ ps) all h =
+    let here : i + 0 ≡ i = omega arith in (
+      part_cut (table_at defs t) p keep i all.0 (λ row e. subst (λ n. keep (of_alias n row) ≡ true) here (h 0 row e)),
+      zip_cut defs keep (suc i) ts ps all.1 (λ j row e. let next : i + suc j ≡ suc i + j = omega arith in subst (λ n. keep (of_alias n row) ≡ true) next (h (suc j) row e)),
+    )
+
+pub fit_cut : (tables : List TableDef) (views : List ViewDef) (def : ViewDef) (parts small : List Part) (keep : AliasRow → Bool) → FitOver tables views def parts
+    → ((a : AliasRow) → is_changed (part_at parts a.alias) a.row ≡ true → keep a ≡ true) → small ≡ cut keep parts → Fit def small
+fit_cut tables views def parts small keep fit changed is = (
+  tables,
+  (
+    views,
+    record {
+      bound = fit.bound;
+      each = subst (AllZip (λ t p. IsPart (table_at tables t) p) def.tables) (sym is)
+          (zip_cut tables keep 0 def.tables parts fit.each (λ j row e.
+          let same : j ≡ 0 + j = omega arith in
+          subst (λ n. keep (of_alias n row) ≡ true) same (changed (of_alias j row) (first_there _ (has_row row (part_at parts j).plus) e))));
+    },
+  ),
+)
+
+-- ---- a loop over the changes
+pub change_at : (b : BaseRoom) (lo hi : ℕ) (seen : List Part) (change : Part) (rest : List Part) (tables : List ℕ) (alias : ℕ) → alias ≡ length seen → seen ++ change ∷ rest ≡ map (change_in b lo hi) tables
+    → (t : ℕ) × (slice_get tables alias ≡ Some t) × (change ≡ change_in b lo hi t)
+change_at b lo hi [] change rest [] alias e h = cc
+change_at b lo hi [] change rest (t ∷ tables) zero e h = (t, refl, first h)
+  where
+    first : change ∷ rest ≡ change_in b lo hi t ∷ map (change_in b lo hi) tables → change ≡ change_in b lo hi t
+    first h = cc
+change_at b lo hi [] change rest (t ∷ tables) (suc alias) e h = absurd (let none = e in omega (arith, none))
+change_at b lo hi (p ∷ seen) change rest [] alias e h = cc
+change_at b lo hi (p ∷ seen) change rest (t ∷ tables) zero e h = absurd (let none = e in omega (arith, none))
+change_at b lo hi (p ∷ seen) change rest (t ∷ tables) (suc alias) e h = change_at b lo hi seen change rest tables alias (omega (arith, e)) (others h)
+  where
+    others : p ∷ (seen ++ change ∷ rest) ≡ change_in b lo hi t ∷ map (change_in b lo hi) tables → seen ++ change ∷ rest ≡ map (change_in b lo hi) tables
+    others h = cc
+
+pub at_of : (tables : List ℕ) (alias t d : ℕ) → slice_get tables alias ≡ Some t → get_or tables alias d ≡ t
+at_of [] alias t d h = cc
+at_of (u ∷ tables) zero t d h = cc
+at_of (u ∷ tables) (suc alias) t d h = at_of tables alias t d h
+
+pub below_of : (tables : List ℕ) (alias t : ℕ) → slice_get tables alias ≡ Some t → alias < length tables
+below_of [] alias t h = cc
+below_of (u ∷ tables) zero t h = omega arith
+below_of (u ∷ tables) (suc alias) t h = let rest = below_of tables alias t h in omega (arith, rest)
+
+drop_table : (f : ℕ → Part) (tables : List ℕ) (alias t : ℕ) → slice_get tables alias ≡ Some t → drop alias (map f tables) ≡ f t ∷ drop (suc alias) (map f tables)
+drop_table f [] alias t h = cc
+drop_table f (u ∷ tables) zero t h = by h
+  where
+    by : Some u ≡ Some t → f u ∷ map f tables ≡ f t ∷ map f tables
+    by e = let same : u ≡ t = cc in ap (λ x. f x ∷ map f tables) same
+drop_table f (u ∷ tables) (suc alias) t h = drop_table f tables alias t h
+
+module _ (b : BaseRoom) (lo hi : ℕ) (tables : List ℕ) (near : List AliasRow) (flags : List Bool) where
+  pub small_step : (out all new : List Part) (alias t : ℕ) (old : List ARow) → slice_get tables alias ≡ Some t → out ++ cut_from (kept_by near flags) alias (drop alias (whole_parts b tables lo hi)) ≡ all
+      → old ≡ filter (λ row. kept_by near flags (of_alias alias row)) (table_at_commit b lo t)
+      → new ≡ out ++ record { old = old; minus = (change_in b lo hi t).minus; plus = (change_in b lo hi t).plus } ∷ []
+      → new ++ cut_from (kept_by near flags) (alias + 1) (drop (alias + 1) (whole_parts b tables lo hi)) ≡ all
+  small_step out all new alias t old at h old_is_kept is =
+      let keep = kept_by near flags in
+      let rest = cut_from keep (alias + 1) (drop (alias + 1) (whole_parts b tables lo hi)) in
+      let next : alias + 1 ≡ suc alias = omega arith in
+      let one : record { old = old; minus = (change_in b lo hi t).minus; plus = (change_in b lo hi t).plus } ≡ cut_part keep alias (part b lo hi t) =
+      λ i. record { old = (old_is_kept ∙ ap (filter (λ row. keep (of_alias alias row))) (sym (old_is b lo hi t))) i; minus = (change_in b lo hi t).minus; plus = (change_in b lo hi t).plus } in
+      ap (λ l. l ++ rest) is
+      ∙ append_assoc out (record { old = old; minus = (change_in b lo hi t).minus; plus = (change_in b lo hi t).plus } ∷ []) rest
+      ∙ ap (λ p. out ++ p ∷ rest) one
+      ∙ ap (λ n. out ++ cut_part keep alias (part b lo hi t) ∷ cut_from keep n (drop n (whole_parts b tables lo hi))) next
+      ∙ ap (λ l. out ++ cut_from keep alias l) (sym (drop_table (part b lo hi) tables alias t at))
+      ∙ h
+
+  abbrev far : ℕ → Bool
+  far j = get_or flags j true
+
+  pub whole_step : (alias t : ℕ) → slice_get tables alias ≡ Some t
+      → whole_from far alias (drop alias (whole_parts b tables lo hi)) ≡ cond (far alias) (length (table_at_commit b lo t)) 0 + whole_from far (alias + 1) (drop (alias + 1) (whole_parts b tables lo hi))
+  whole_step alias t at =
+      let next : suc alias ≡ alias + 1 = omega arith in
+      ap (whole_from far alias) (drop_table (part b lo hi) tables alias t at)
+      ∙ ap (λ (l : List ARow). cond (far alias) (length l) 0 + whole_from far (suc alias) (drop (suc alias) (whole_parts b tables lo hi))) (old_is b lo hi t)
+      ∙ ap (λ n. cond (far alias) (length (table_at_commit b lo t)) 0 + whole_from far n (drop n (whole_parts b tables lo hi))) next
+
+  pub past_parts : (alias : ℕ) → length tables ≤ alias → (drop alias (whole_parts b tables lo hi)) ≡ []
+  past_parts alias le = none tables alias le
+    where
+      none : (ts : List ℕ) (n : ℕ) → length ts ≤ n → drop n (map (part b lo hi) ts) ≡ []
+      none [] zero le = refl
+      none [] (suc n) le = refl
+      none (t ∷ ts) zero le = absurd (let no = le in omega (arith, no))
+      none (t ∷ ts) (suc n) le = none ts n (omega arith)

@@ -1,0 +1,92 @@
+//! What a step of a view is computed from.
+ghost use Rattle.std.specs.Prelude.{◌≡◌, ◌≤◌, ◌+◌, ℕ, Bool, true, List, Some, length, map, slice_get, slice_index_or, IfOk, OnOk, OnErr};
+ghost use Rattle.lv_schema.specs.declared.view.ViewDef.{ViewDef as AViewDef};
+ghost use Rattle.lv_schema.specs.Differences.{difference};
+ghost use Rattle.lv_schema.specs.Jobs.{new_sides, old_sides};
+ghost use Rattle.lv_base.specs.Bases.{defs_of, table_in};
+ghost use Rattle.lv_maint.specs.Inputs.{FitOver};
+ghost use Rattle.lv_reach.specs.declared.rows.AliasRow.{AliasRow as ARowOf};
+ghost use Rattle.lv_reach.specs.Cost.{IsReach, cost, whole_from};
+ghost use Rattle.lv_reach.specs.Links.{links_of};
+ghost use Rattle.lv_reach.specs.Reach.{cut, kept_by};
+ghost use Rattle.lv_near.specs.Small.{CanRead, IsSmallInput, IsSplit, change_in, table_at_commit, whole_parts};
+
+use crate::changes::changes_between;
+use crate::picking::old_of;
+use crate::source::TablesBetween;
+use lv_base::Base;
+use lv_maint::JobInput;
+use lv_reach::{Reach, links, reach_of};
+use lv_schema::{Part, Parts, ViewDef};
+use lv_values::{Copying, NoMemory, Rows, Steps};
+use std::alloc::Global;
+use std::sync::ledger::Ledger;
+
+/// A change with the rows before it.
+fn with_old(change: Part, old: Rows) -> Part
+    ensures { result ≡ record { old = old; minus = change.minus; plus = change.plus } }
+{
+    Part { old, ..change }
+}
+
+/// The parts of a step with those old rows alone that it needs.
+fn small_parts<L: Ledger>(
+    alloc: Global,
+    at: &TablesBetween<'_>,
+    changes: Parts,
+    reach: &Reach,
+    steps: &mut Steps<L>,
+) -> Result<Parts, NoMemory>
+    requires can { CanRead at.now.base.now at.now.tables.now at.now.lo }
+    requires few { length at.now.tables.now ≤ 255 }
+    requires changes { changes ≡ map (change_in at.now.base.now at.now.lo at.now.hi) at.now.tables.now }
+    requires split { (alias t : ℕ) → slice_get at.now.tables.now alias ≡ Some t
+        → IsSplit (table_in at.now.base.now.tables t).def.key reach.now.near reach.now.changed alias (change_in at.now.base.now at.now.lo at.now.hi t).minus (table_at_commit at.now.base.now at.now.lo t) }
+    ensures small { IfOk result (λ small. small ≡ cut (kept_by reach.now.near reach.now.far) (whole_parts at.now.base.now at.now.tables.now at.now.lo at.now.hi)) }
+    ensures cost { OnOk result (steps.new ≡ steps.old + whole_from (λ j. slice_index_or reach.now.far j true) 0 (whole_parts at.now.base.now at.now.tables.now at.now.lo at.now.hi)) }
+    ensures most { OnErr result (steps.new ≤ steps.old + whole_from (λ j. slice_index_or reach.now.far j true) 0 (whole_parts at.now.base.now at.now.tables.now at.now.lo at.now.hi)) }
+{
+    let mut small = Parts::new(alloc);
+    let mut alias = 0;
+    for change in changes.into_vec() {
+        let table = at.tables[alias as usize];
+        let old = old_of(alloc, at, table, reach, alias, &change.minus, steps)?;
+        small.push(with_old(change, old))?;
+        alias += 1;
+    }
+    Ok(small)
+}
+
+/// The input of the step of a view from one commit to another, read from the committed states: the net change of each
+/// alias, and of the old rows those that are near, or all of a far alias. The difference of the view over them is that
+/// over whole tables. Cost: the condensing of the entries between the commits for each alias, and that of the reach; it
+/// ticks as often as the step costs, so by what changed, unless an alias is far.
+pub fn step_input<L: Ledger>(
+    alloc: Global,
+    base: &Base,
+    def: &ViewDef,
+    lo: u64,
+    hi: u64,
+    steps: &mut Steps<L>,
+) -> Result<JobInput, NoMemory>
+    requires can { CanRead base.now def.now.tables lo }
+    requires fit { (views : List AViewDef) × FitOver (defs_of base.now) views def.now (whole_parts base.now def.now.tables lo hi) }
+    ensures input { IfOk result (λ input. IsSmallInput def.now lo hi (whole_parts base.now def.now.tables lo hi) input) }
+    ensures same { IfOk result (λ input. difference def.now (old_sides input.parts) (new_sides input.parts) ≡ difference def.now (old_sides (whole_parts base.now def.now.tables lo hi)) (new_sides (whole_parts base.now def.now.tables lo hi))) }
+    ensures cost { (near : List ARowOf) (far : ℕ → Bool) → IsReach (links_of def.now.cond) (whole_parts base.now def.now.tables lo hi) near far
+        → OnOk result (steps.new ≡ steps.old + cost (links_of def.now.cond) (whole_parts base.now def.now.tables lo hi) near far) }
+    ensures most { (near : List ARowOf) (far : ℕ → Bool) → IsReach (links_of def.now.cond) (whole_parts base.now def.now.tables lo hi) near far
+        → OnErr result (steps.new ≤ steps.old + cost (links_of def.now.cond) (whole_parts base.now def.now.tables lo hi) near far) }
+{
+    let at = TablesBetween {
+        base,
+        tables: def.tables.as_slice(),
+        lo,
+        hi,
+    };
+    let links = links(alloc, def)?;
+    let changes = changes_between(alloc, &at)?;
+    let reach = reach_of(alloc, links.as_slice(), changes.as_slice(), &at, steps)?;
+    let parts = small_parts(alloc, &at, changes, &reach, steps)?;
+    Ok(JobInput::new(def.copy(alloc)?, lo, hi, parts))
+}

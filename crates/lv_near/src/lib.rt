@@ -1,0 +1,13 @@
+//! What a step of a view is computed from, read from the committed states: the rows that can join a changed row, and no
+//! more.
+#![tactic(auto)]
+
+mod changes;
+mod input;
+mod ordering;
+mod orders;
+mod picking;
+mod source;
+
+pub use input::step_input;
+pub use orders::index_links;

@@ -1,0 +1,59 @@
+//! Rows in the order of their keys, each once.
+ghost use Rattle.std.specs.Prelude.{◌≡◌, List, IfOk};
+ghost use Rattle.std.specs.List.Sorted.{IsPermutation, IsSortedByKey};
+ghost use Rattle.lv_values.specs.declared.value.Value.{Value as AValue};
+ghost use Rattle.lv_values.specs.Order.{row_cmp};
+ghost use Rattle.lv_values.specs.Rows.{key_cmp, values_at};
+ghost use Rattle.lv_schema.specs.Nets.{has_row};
+ghost use Rattle.lv_schema.specs.Once.{Ascends};
+ghost use Rattle.lv_near.specs.Small.{HaveOwnKeys, is_above};
+
+use lv_values::{NoMemory, Row, Rows, compare_keys};
+use std::alloc::Global;
+
+/// Puts rows in the order of their keys. It takes no memory. Cost: n log n comparisons.
+fn sort_by_key(key: &[u8], rows: &mut Vec<Row>)
+    ensures moved { IsPermutation rows.old.items rows.new.items }
+    ensures sorted { IsSortedByKey (values_at key.now) row_cmp rows.new.items }
+{
+    rows.sort_unstable_by(|a, b| compare_keys(key, a, b));
+}
+
+/// Whether the key of a row is above that of the last of these, if there is one.
+fn is_above(key: &[u8], rows: &[Row], row: &Row) -> bool
+    ensures { result ≡ is_above key.now rows.now row.now }
+{
+    match rows.last() {
+        Some(last) => compare_keys(key, last, row).is_lt(),
+        None => true,
+    }
+}
+
+/// Each row once, of rows in the order of their keys, no two others of which have the same key. Cost: one comparison for
+/// each.
+fn each_once(alloc: Global, key: &[u8], sorted: Vec<Row>) -> Result<Rows, NoMemory>
+    requires sorted { IsSortedByKey (values_at key.now) row_cmp sorted.items }
+    requires own { HaveOwnKeys key.now sorted.items }
+    ensures up { IfOk result (λ out. Ascends (key_cmp key.now) out) }
+    ensures same { IfOk result (λ out. (q : List AValue) → has_row q out ≡ has_row q sorted.items) }
+{
+    let mut out = Rows::new(alloc);
+    for row in sorted {
+        if is_above(key, out.as_slice(), &row) {
+            out.push(row)?;
+        }
+    }
+    Ok(out)
+}
+
+/// The rows in the order of their keys, each once, of rows no two others of which have the same key. Cost: n log n
+/// comparisons.
+pub(crate) fn in_key_order(alloc: Global, key: &[u8], rows: Rows) -> Result<Rows, NoMemory>
+    requires { HaveOwnKeys key.now rows }
+    ensures up { IfOk result (λ out. Ascends (key_cmp key.now) out) }
+    ensures same { IfOk result (λ out. (q : List AValue) → has_row q out ≡ has_row q rows) }
+{
+    let mut sorted = rows.into_vec();
+    sort_by_key(key, &mut sorted);
+    each_once(alloc, key, sorted)
+}
