@@ -1,7 +1,9 @@
 //! Each single call of the outside fails in turn: how the run ends, what it writes, and what the disk then has.
 
 use crate::runs::{Given, Left, run_again, run_on, run_over};
-use crate::worked::{ITEMS, NO_ROW, NO_TABLE, SHOP, SHOP_TEXT, accepted, records_of};
+use crate::worked::{
+    ITEMS, JOURNAL, NO_ROW, NO_TABLE, ONE_ROW, SHOP, SHOP_TEXT, accepted, records_of,
+};
 use lv_outside::{FreeGate, MemDisks};
 use lv_runner::Status;
 use lv_values::{Items, NoMemory};
@@ -176,6 +178,42 @@ fn each_call_of_the_disk_is_answered_for(rt: HostRuntime) -> Result<(), Fail> {
         for number in 1..15u64 {
             assert!(rt;
                 is_answered(&rt, rt.alloc(), (kind, number))?,
+                "kind {kind} call {number}"
+            );
+        }
+    }
+    Ok(())
+}
+
+/// Whether the opening of a journal of which a call fails is refused with nothing written, the bytes as they were; and a call that is none
+/// of the opening changes nothing.
+fn is_opened<R: Threads + Wait + Sync>(
+    rt: &R,
+    alloc: Global,
+    call: Call,
+    is_needed: bool,
+) -> Result<bool, NoMemory> {
+    let given = Given {
+        words: &[],
+        script: ITEMS,
+        source_fails: &[],
+        sink_fails: &[],
+    };
+    let Left { status, text, disk } = run_on(rt, alloc, &given, JOURNAL, &[call])?;
+    let stays = disk.is_some_and(|left| left.as_slice() == JOURNAL);
+    if is_needed {
+        return Ok(stays && status == Status::OpenFault && text.as_slice().is_empty());
+    }
+    Ok(stays && status == Status::Done && text.as_slice() == ONE_ROW)
+}
+
+#[test]
+fn each_call_of_an_opening_is_answered_for(rt: HostRuntime) -> Result<(), Fail> {
+    // Its length, a sync, and reads: of the first bytes, of each of two frames in two parts, and of the last gate.
+    for (kind, needed) in [(1u8, 1), (2, 6), (3, 0), (4, 1)] {
+        for number in 1..9u64 {
+            assert!(rt;
+                is_opened(&rt, rt.alloc(), (kind, number), number <= needed)?,
                 "kind {kind} call {number}"
             );
         }

@@ -1,4 +1,5 @@
 //! A disk that stops after some calls, and what a crash then may leave of it.
+ghost use Rattle.std.specs.Prelude.{◌<◌};
 
 use crate::runs::{Ended, Given, Left, run_again, run_with};
 use crate::worked::{ITEMS, NO_ROW, NO_TABLE, ONE_ROW, accepted, records_of};
