@@ -7,7 +7,7 @@ use lv_core::Core;
 use lv_engine::fresh_engines_stand_for_one_world;
 use lv_lines::read_script;
 use lv_maint::compute;
-use lv_outside::MemDisk;
+use lv_outside::{Disk, MemDisk};
 use lv_picker::{Choice, Picker, place_of_oldest};
 use lv_plain::{Entry, Reply};
 use lv_recover::reopen;
@@ -29,12 +29,13 @@ insert into item values (1, 10)
 select * from cheap
 ";
 
-/// A core over an empty disk.
-fn open_core<L: Ledger>(
+/// A core over a disk.
+fn open_core<D: Disk + Drop, L: Ledger>(
     alloc: Global,
+    disk: D,
     picker: Picker,
     steps: &mut Steps<L>,
-) -> Result<Core<MemDisk>, NoMemory> {
+) -> Result<Core<D>, NoMemory> {
     fresh_engines_stand_for_one_world();
     let Ok(program) = read_script(alloc, BEHIND) else {
         return Err(NoMemory);
@@ -43,7 +44,6 @@ fn open_core<L: Ledger>(
         combine: 16,
         log_limit: 1000000,
     };
-    let disk = MemDisk::new(Bytes::new(alloc), Items::new(alloc));
     let Ok(engine) = reopen(alloc, disk, settings, steps) else {
         return Err(NoMemory);
     };
@@ -120,7 +120,8 @@ fn worked<L: Ledger>(alloc: Global, picker: Picker, blank: Blank) -> Result<Core
     requires some { 0 < blank.parts }
 {
     let mut steps = Steps::<L>::new(blank);
-    let mut core = open_core(alloc, picker, &mut steps)?;
+    let disk = MemDisk::new(Bytes::new(alloc), Items::new(alloc));
+    let mut core = open_core(alloc, disk, picker, &mut steps)?;
     for session in [0, 0, 1] {
         answer(&mut core, alloc, session, &mut steps)?;
     }
