@@ -14,8 +14,8 @@ use Rattle.lv_schema.proofs.Candidates.{IsCandidate, chosen_is}
 use Rattle.lv_upkeep.specs.Kept.{UpkeepKept, claim_kept}
 use Rattle.lv_upkeep.specs.Stands.{UpkeepStands}
 use Rattle.lv_maint.specs.Inputs.{Input}
-use Rattle.lv_store.specs.Answering.{input_between}
-use Rattle.lv_store.specs.Maintaining.{given_input}
+use Rattle.lv_store.specs.Answering.{IsInputBetween}
+use Rattle.lv_store.specs.Maintaining.{IsGiven}
 use Rattle.lv_engine.specs.Answering.{GivesFetch}
 use Rattle.lv_engine.specs.Kept.{EngineView, Stands}
 use Rattle.lv_core.proofs.WorkerAnswers.{claim_is}
@@ -57,25 +57,28 @@ module _ (settings : Settings) (worker : ℕ) (w : World) (free : claim_of w.upk
   pub idle_now : unclaimed w ≡ [] → fetching_now ≡ (idle, w.upkeep)
   idle_now none = among_all ∙ ap (λ (ps : List Pending). fetch_among ps settings worker w) none
 
-  none_here : None ≡ given_input w.visible fetching_now.0 → unclaimed w ≡ []
-  none_here e = by (unclaimed w) refl (e ∙ ap (λ (d : Fetched × Upkeep). given_input w.visible d.0) among_all)
+  none_here : IsGiven w.visible fetching_now.0 None → unclaimed w ≡ []
+  none_here e = by (unclaimed w) refl (subst (λ (d : Fetched × Upkeep). IsGiven w.visible d.0 None) among_all e)
     where
-      step : (x : Option Forced) → is_some x ≡ true → None ≡ given_input w.visible (fetched_step x worker w.upkeep).0 → ⊥
+      step : (x : Option Forced) → is_some x ≡ true → IsGiven w.visible (fetched_step x worker w.upkeep).0 None → ⊥
       step None some e = cc
-      step (Some f) some e = cc
+      step (Some f) some e = let none = e.1 in cc
 
-      by : (ps : List Pending) → unclaimed w ≡ ps → None ≡ given_input w.visible (fetch_among ps settings worker w).0 → unclaimed w ≡ []
+      by : (ps : List Pending) → unclaimed w ≡ ps → IsGiven w.visible (fetch_among ps settings worker w).0 None → unclaimed w ≡ []
       by [] is e = is
       by (p ∷ ps) is e = absurd (step (next_plan settings w) (has_plan settings w (omega (arith, ap length is))) e)
 
-  pub given_none : (given : Option Input) → given ≡ given_input w.visible fetching_now.0 → (given ≡ None) ↔ (unclaimed w ≡ [])
-  given_none given is = (λ none. none_here (sym none ∙ is), λ none. is ∙ ap (λ (d : Fetched × Upkeep). given_input w.visible d.0) (idle_now none))
+  pub given_none : (given : Option Input) → IsGiven w.visible fetching_now.0 given → (given ≡ None) ↔ (unclaimed w ≡ [])
+  given_none given is = (λ none. none_here (subst (IsGiven w.visible fetching_now.0) none is), λ none. subst (λ (d : Fetched × Upkeep). IsGiven w.visible d.0 given) (idle_now none) is)
 
 -- what is given tells of the step
-pub given_step : (s : Visible) (a : Fetched) (input : Input) → Some input ≡ given_input s a → (step : Forced) × (a ≡ fetched step) × (input ≡ input_between s step)
+pub given_step : (s : Visible) (a : Fetched) (input : Input) → IsGiven s a (Some input) → (step : Forced) × (a ≡ fetched step) × IsInputBetween s step input
 given_step s busy input e = absurd cc
 given_step s idle input e = absurd cc
-given_step s (fetched step) input e = (step, refl, cc)
+given_step s (fetched step) input e = (step, refl, subst (IsInputBetween s step) (some_is e.0 input e.1) e.2)
+  where
+    some_is : (a b : Input) → ◌≡◌ {A = Option Input} (Some b) (Some a) → a ≡ b
+    some_is a b e = cc
 
 -- ---- what is kept where none is given
 -- the upkeep of views that is kept for a world is one alone
@@ -94,7 +97,7 @@ pub idle_stays : {D : Type 0} (settings : Settings) (w : World) (old new : Engin
     → GivesFetch w.visible (maintained (fetching settings worker w) w) input new → new ≡ record old { store = record old.store { upkeep = new.store.upkeep } } → new ≡ old
 idle_stays {D} settings w old new worker stands free input none gives others =
     let free_there : claim_of w.upkeep worker ≡ None = sym (claim_is w old worker stands) ∙ free in
-    let is = idle_now settings worker w free_there (none_here settings worker w free_there (sym none ∙ gives.input_is)) in
+    let is = idle_now settings worker w free_there (none_here settings worker w free_there (subst (IsGiven w.visible (fetching settings worker w).0) none gives.input_is)) in
     let again : Stands w new = subst (λ (d : Fetched × Upkeep). Stands (with_upkeep d.1 w) new) is gives.stands in
     let same : new.store.upkeep ≡ old.store.upkeep = same_upkeep w new.store.upkeep old.store.upkeep again.store_stands.upkeep_stands stands.store_stands.upkeep_stands in
     others ∙ ap (λ (u : UpkeepKept). record old { store = record old.store { upkeep = u } }) same

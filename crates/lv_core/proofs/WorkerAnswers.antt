@@ -17,7 +17,7 @@ use Rattle.lv_plain.specs.Machine.{State, fetch_entry, give, install_entry}
 use Rattle.lv_plain.specs.Rules.{Rules}
 use Rattle.lv_upkeep.specs.Kept.{claim_kept}
 use Rattle.lv_store.specs.declared.installed.Installed.{Installed as InstallAnswer}
-use Rattle.lv_store.specs.Maintaining.{given_input, told}
+use Rattle.lv_store.specs.Maintaining.{IsGiven, told}
 use Rattle.lv_engine.specs.Answering.{GivesFetch, GivesInstall}
 use Rattle.lv_engine.specs.Kept.{EngineView, Stands}
 use Rattle.lv_core.specs.Answering.{GivesEntry}
@@ -54,7 +54,7 @@ module _ (settings : Settings) (worker : ℕ) (w : World) (there : worker < leng
       by (Some f) = refl
       by None = among (unclaimed w)
 
-fetched_claim : (worker : ℕ) (s : Visible) (u : Upkeep) (a : Fetched) (input : Input) → AsClaimed worker None a u → Some input ≡ given_input s a → is_some (claim_of u worker) ≡ true
+fetched_claim : (worker : ℕ) (s : Visible) (u : Upkeep) (a : Fetched) (input : Input) → AsClaimed worker None a u → IsGiven s a (Some input) → is_some (claim_of u worker) ≡ true
 fetched_claim worker s u busy input claims is = absurd cc
 fetched_claim worker s u idle input claims is = absurd cc
 fetched_claim worker s u (fetched g) input claims is = ap (λ (c : Option Forced). is_some c) claims

@@ -1,6 +1,7 @@
 -- The actors over a core: what each of them finds, and what their calls add to the run. Actors 1 to 16 are the sessions of
 -- these numbers, and actors 17 to 24 are workers 1 to 8.
 use Rattle.std.specs.Prelude.{◌≡◌, ◌⊎◌, ◌-◌, ◌<◌, ◌≤◌, ℕ, Bool, true, false, List, [], map, Option, Some, None, Result, Ok, Err}
+use Rattle.std.specs.List.{AllZip}
 use Rattle.lv_schema.specs.declared.forced.Forced.{Forced as Step}
 use Rattle.lv_schema.specs.declared.pending.Pending.{Pending}
 use Rattle.lv_schema.specs.Policies.{unclaimed}
@@ -14,7 +15,7 @@ use Rattle.lv_plain.specs.declared.event.Event.TheVariants.{Turn as turn_of, Fet
 use Rattle.lv_plain.specs.declared.program.Program.{Program}
 use Rattle.lv_plain.specs.Machine.{give}
 use Rattle.lv_plain.specs.Programs.{Places, all_answered, may_turn, setup_answered}
-use Rattle.lv_store.specs.Answering.{input_between}
+use Rattle.lv_store.specs.Answering.{IsInputBetween}
 use Rattle.lv_shared.specs.declared.machine.Taken.{Taken}
 use Rattle.lv_shared.specs.declared.machine.Taken.TheVariants.{Work, Idle, Ended}
 use Rattle.lv_core.specs.declared.jobs.Assignment.{Assignment}
@@ -70,7 +71,7 @@ module _ {D : Type 0} (c : CoreView D) (actor : ℕ) where
 -- ---- work
 -- a session is handed out what the steps are computed from that its next statement would force now
 abbrev pub HandsForced : {D E : Type 0} → ℕ → CoreView D → Result (Taken Assignment) E → Type 0
-HandsForced session c (Ok (Work a)) = a.jobs ≡ Forced (map (input_between (state_of c).world.visible) (next_steps c session))
+HandsForced session c (Ok (Work a)) = (inputs : List Input) × (a.jobs ≡ Forced inputs) × AllZip (IsInputBetween (state_of c).world.visible) (next_steps c session) inputs
 HandsForced session c other = Unit {0}
 
 -- results are those of jobs: each has its job's input
@@ -108,7 +109,7 @@ module _ {D : Type 0} (seen : D → Option (List ℕ)) (may_leave : D → List �
     pub gave : Gave seen may_leave moment left_since failures (fetch_of worker) old new
     pub step : Step
     pub fetches : (fetching old.settings worker (state_of old).world).0 ≡ fetched step
-    pub input_is : input ≡ input_between (state_of old).world.visible step
+    pub input_is : IsInputBetween (state_of old).world.visible step input
 
   -- a worker without a claim fetches a step exactly where it is handed out one
   abbrev pub Fetches : {E : Type 0} → ℕ → CoreView D → CoreView D → Result (Taken Assignment) E → Type 0

@@ -1,5 +1,6 @@
 //! The answer to a line, and to each kind of bound statement.
-ghost use Rattle.std.specs.Prelude.{◌≡◌, ◌<◌, ◌==◌, ℕ, false, true, List, [], None, Ok, IfOk, map};
+ghost use Rattle.std.specs.Prelude.{◌≡◌, ◌<◌, ◌==◌, ℕ, false, true, List, [], None, Ok, IfOk, map, ◌≤◌, ◌+◌};
+ghost use Rattle.std.specs.List.{AllZip};
 ghost use Rattle.lv_schema.specs.declared.bound.Bound.TheVariants as bound;
 ghost use Rattle.lv_schema.specs.declared.query.Query.{Query as AQuery};
 ghost use Rattle.lv_schema.specs.Bound.{IsBound, IsBoundTable, IsBoundView};
@@ -14,7 +15,8 @@ ghost use Rattle.lv_plain.specs.Machine.{steps_of};
 ghost use Rattle.lv_plain.specs.Turns.{bound_line, bound_turn, read_turn, shown, turn_by};
 ghost use Rattle.lv_bind.specs.Reads.{reads};
 ghost use Rattle.lv_txn.specs.Kept.{IsLive, live_kept, transaction_at};
-ghost use Rattle.lv_store.specs.Answering.{ReadsNoTable, input_between};
+ghost use Rattle.lv_store.specs.Answering.{IsCostBetween, IsInputBetween, ReadsNoTable};
+ghost use Rattle.lv_store.specs.Inputs.{AreCosts};
 ghost use Rattle.lv_engine.specs.Kept.{Stands};
 ghost use Rattle.lv_core.specs.Answering.{Answers, GivesTurn, IsNext, IsReady};
 
@@ -179,8 +181,10 @@ fn stale_bound<D: Disk, L: Ledger>(
 ) -> Result<Items<JobInput>, NoMemory>
     requires session { session < 17 }
     requires bound { IsBound engine.now.store.tables engine.now.store.views statement }
-    ensures { (w : World) (settings : schema.Settings) → settings.combine ≡ engine.now.store.settings.combine → Stands w engine.now
-        → IfOk result (λ inputs. inputs ≡ map (input_between w.visible) (steps_of settings session (Ok statement) w)) }
+    ensures inputs { (w : World) (settings : schema.Settings) → settings.combine ≡ engine.now.store.settings.combine → Stands w engine.now
+        → IfOk result (λ inputs. AllZip (IsInputBetween w.visible) (steps_of settings session (Ok statement) w) inputs) }
+    ensures most { (w : World) (settings : schema.Settings) → settings.combine ≡ engine.now.store.settings.combine → Stands w engine.now
+        → (n : ℕ) → AreCosts (IsCostBetween w.visible) (steps_of settings session (Ok statement) w) n → steps.new ≤ steps.old + n }
 {
     match statement {
         Bound::Query(query) => engine.stale(alloc, session, &query, steps),
@@ -204,8 +208,10 @@ pub fn stale_line<D: Disk, L: Ledger>(
 ) -> Result<Items<JobInput>, NoMemory>
     requires session { session < 17 }
     requires line { IsStatementLine line.now }
-    ensures { (w : World) (settings : schema.Settings) → settings.combine ≡ engine.now.store.settings.combine → Stands w engine.now
-        → IfOk result (λ inputs. inputs ≡ map (input_between w.visible) (steps_of settings session (bound_line reads session line.now w.visible) w)) }
+    ensures inputs { (w : World) (settings : schema.Settings) → settings.combine ≡ engine.now.store.settings.combine → Stands w engine.now
+        → IfOk result (λ inputs. AllZip (IsInputBetween w.visible) (steps_of settings session (bound_line reads session line.now w.visible) w) inputs) }
+    ensures most { (w : World) (settings : schema.Settings) → settings.combine ≡ engine.now.store.settings.combine → Stands w engine.now
+        → (n : ℕ) → AreCosts (IsCostBetween w.visible) (steps_of settings session (bound_line reads session line.now w.visible) w) n → steps.new ≤ steps.old + n }
 {
     let live = engine.live(session).is_some();
     match read_line(alloc, engine.schema(), session == 0, live, line) {

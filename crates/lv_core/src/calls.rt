@@ -1,18 +1,22 @@
 //! The calls of a core.
-ghost use Rattle.std.specs.Prelude.{◌≡◌, [], List, true, is_some, replicate, None, Ok, OnErr, OnOk, IfErr, IfOk, map};
+ghost use Rattle.std.specs.Prelude.{◌≡◌, [], List, true, is_some, replicate, None, Ok, OnErr, OnOk, IfErr, IfOk, map, ◌≤◌, ◌+◌, ℕ};
+ghost use Rattle.std.specs.List.{AllZip};
 ghost use Rattle.lv_values.specs.Names.{is_lower_name};
 ghost use Rattle.lv_schema.specs.declared.bound.Bound.TheVariants as bound;
 ghost use Rattle.lv_schema.specs.declared.query.Query.{Query as AQuery};
 ghost use Rattle.lv_schema.specs.declared.rec.Rec.{Rec};
+ghost use Rattle.lv_schema.specs.UpkeepCases.{fetching, installing};
 ghost use Rattle.lv_plain.specs.declared.event.Event.TheVariants.{Turn as turn_of, Fetch as fetch_of, Install as install_of, Release as release_of, Mark as mark_of, Clean as clean_up};
 ghost use Rattle.lv_plain.specs.Legal.{IsWorker};
 ghost use Rattle.lv_plain.specs.Limits.{IsWithinLimits};
 ghost use Rattle.lv_plain.specs.Programs.{may_turn, setup_answered};
 ghost use Rattle.lv_upkeep.specs.Kept.{claim_kept};
-ghost use Rattle.lv_store.specs.Answering.{ReadsNoTable, input_between};
+ghost use Rattle.lv_store.specs.Answering.{IsCostBetween, IsInputBetween, ReadsNoTable};
+ghost use Rattle.lv_store.specs.Inputs.{AreCosts};
+ghost use Rattle.lv_store.specs.Maintaining.{TakesGiven, TakesInstalled};
 ghost use Rattle.lv_engine.specs.Kept.{length_of};
 ghost use Rattle.lv_core.specs.Run.{Gave, IsOpenedBy, IsOpening, IsRun, IsSame, next_bound, next_steps, settings_of, state_of};
-ghost use Rattle.lv_core.specs.Slots.{next_input, slot_of, slots_given, slots_without};
+ghost use Rattle.lv_core.specs.Slots.{GivesSlot, slot_of, slots_without};
 
 use crate::machine::Core;
 use crate::opening::Opened;
@@ -136,7 +140,8 @@ impl<D: Disk> Core<D> {
         steps: &mut Steps<L>,
     ) -> Result<Items<JobInput>, NoMemory>
         requires may { may_turn self.now.run.program self.now.run.places session ≡ true }
-        ensures inputs { IfOk result (λ inputs. inputs ≡ map (input_between (state_of self.now.run).world.visible) (next_steps self.now.run session)) }
+        ensures inputs { IfOk result (λ inputs. AllZip (IsInputBetween (state_of self.now.run).world.visible) (next_steps self.now.run session) inputs) }
+        ensures most { (n : ℕ) → AreCosts (IsCostBetween (state_of self.now.run).world.visible) (next_steps self.now.run session) n → steps.new ≤ steps.old + n }
     {
         self.run.stale(alloc, session, steps)
     }
@@ -172,7 +177,8 @@ impl<D: Disk> Core<D> {
         requires worker { IsWorker worker }
         requires setup { setup_answered self.old.run.program self.old.run.places ≡ true }
         ensures done { OnOk result (Gave D.seen D.may_leave D.moment D.left_since D.failures (fetch_of worker) self.old.run self.new.run) }
-        ensures slot { OnOk result (self.new.slots ≡ slots_given worker (next_input self.old.run worker) self.old.slots) }
+        ensures slot { OnOk result (GivesSlot self.old.run worker self.old.slots self.new.slots) }
+        ensures most { TakesGiven (state_of self.old.run).world.visible (fetching self.old.run.settings worker (state_of self.old.run).world).0 steps.old steps.new }
         ensures kept { OnErr result ((self.new.run ≡ self.old.run) × (self.new.slots ≡ self.old.slots)) }
     {
         if self.picker.kind() != self.run.policy() {
@@ -205,6 +211,7 @@ impl<D: Disk> Core<D> {
         requires worker { IsWorker worker }
         requires setup { setup_answered self.old.run.program self.old.run.places ≡ true }
         ensures done { OnOk result (Gave D.seen D.may_leave D.moment D.left_since D.failures (install_of worker) self.old.run self.new.run) }
+        ensures most { TakesInstalled (state_of self.old.run).world.visible (installing worker (state_of self.old.run).world.upkeep).0 steps.old steps.new }
         ensures slot { OnOk result (self.new.slots ≡ slots_without worker self.old.slots) }
         ensures kept { OnErr result ((self.new.run ≡ self.old.run) × (self.new.slots ≡ self.old.slots)) }
     {
@@ -224,6 +231,7 @@ impl<D: Disk> Core<D> {
         requires worker { IsWorker worker }
         requires setup { setup_answered self.old.run.program self.old.run.places ≡ true }
         ensures done { OnOk result (Gave D.seen D.may_leave D.moment D.left_since D.failures (install_of worker) self.old.run self.new.run) }
+        ensures most { TakesInstalled (state_of self.old.run).world.visible (installing worker (state_of self.old.run).world.upkeep).0 steps.old steps.new }
         ensures slot { OnOk result (self.new.slots ≡ slots_without worker self.old.slots) }
         ensures kept { OnErr result ((self.new.run ≡ self.old.run) × (self.new.slots ≡ self.old.slots)) }
     {

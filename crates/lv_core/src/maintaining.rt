@@ -1,13 +1,13 @@
 //! What the calls of workers and a clean-up are answered.
 ghost use Rattle.std.specs.Prelude.{◌≡◌, true, false, is_some, None, IfOk, OnErr};
-ghost use Rattle.lv_schema.specs.UpkeepCases.{fetching};
+ghost use Rattle.lv_schema.specs.UpkeepCases.{fetching, installing};
 ghost use Rattle.lv_plain.specs.declared.entry.Entry.TheVariants as entry;
 ghost use Rattle.lv_plain.specs.declared.event.Event.TheVariants.{Fetch as fetch_of, Install as install_of, Release as release_of, Clean as clean_up};
 ghost use Rattle.lv_plain.specs.Legal.{IsWorker};
 ghost use Rattle.lv_plain.specs.Machine.{State, give, install_entry};
 ghost use Rattle.lv_plain.specs.Rules.{Rules};
 ghost use Rattle.lv_upkeep.specs.Kept.{claim_kept};
-ghost use Rattle.lv_store.specs.Maintaining.{given_input, told};
+ghost use Rattle.lv_store.specs.Maintaining.{IsGiven, TakesGiven, TakesInstalled, told};
 ghost use Rattle.lv_engine.specs.Kept.{Stands};
 ghost use Rattle.lv_core.specs.Actors.{shows_install};
 ghost use Rattle.lv_core.specs.Answering.{GivesEntry};
@@ -43,8 +43,8 @@ fn fetched(worker: u32, step: Forced) -> Entry
     }
 }
 
-/// A worker fetches a step: it is busy where it has a claim, and idle where there is none to fetch. Want of memory leaves
-/// everything as it was.
+/// A worker fetches a step: it is busy where it has a claim, and idle where there is none to fetch; then nothing is read.
+/// Want of memory leaves everything as it was.
 pub fn fetch<D: Disk, L: Ledger>(
     engine: &mut Engine<D>,
     alloc: Global,
@@ -56,7 +56,9 @@ pub fn fetch<D: Disk, L: Ledger>(
     ensures entry { (rules : Rules) (s : State) → rules.settings.combine ≡ engine.old.store.settings.combine → rules.settings.policy ≡ picker.now.kind → Stands s.world engine.old
         → IfOk result (λ given. GivesEntry (give rules false (fetch_of worker) s) engine.new given.entry) }
     ensures input { (rules : Rules) (s : State) → rules.settings.combine ≡ engine.old.store.settings.combine → rules.settings.policy ≡ picker.now.kind → Stands s.world engine.old
-        → IfOk result (λ given. given.input ≡ given_input s.world.visible (fetching rules.settings worker s.world).0) }
+        → IfOk result (λ given. IsGiven s.world.visible (fetching rules.settings worker s.world).0 given.input) }
+    ensures most { (rules : Rules) (s : State) → rules.settings.combine ≡ engine.old.store.settings.combine → rules.settings.policy ≡ picker.now.kind → Stands s.world engine.old
+        → TakesGiven s.world.visible (fetching rules.settings worker s.world).0 steps.old steps.new }
     ensures idle { IfOk result (λ given. given.input ≡ None → engine.new ≡ engine.old) }
     ensures refused { OnErr result (engine.new ≡ engine.old) }
     ensures settings { engine.new.store.settings ≡ engine.old.store.settings }
@@ -128,6 +130,7 @@ pub fn install<D: Disk, L: Ledger>(
 ) -> Result<Entry, NoMemory>
     requires worker { IsWorker worker }
     ensures entry { (rules : Rules) (s : State) → Stands s.world engine.old → IfOk result (λ entry. GivesEntry (give rules false (install_of worker) s) engine.new entry) }
+    ensures most { (s : State) → Stands s.world engine.old → TakesInstalled s.world.visible (installing worker s.world.upkeep).0 steps.old steps.new }
     ensures refused { OnErr result (engine.new ≡ engine.old) }
     ensures settings { engine.new.store.settings ≡ engine.old.store.settings }
     ensures journal { engine.new.journal ≡ engine.old.journal }

@@ -1,21 +1,24 @@
 //! The run of a program over an engine. Each event adds its entry; once it has come nothing takes memory.
-ghost use Rattle.std.specs.Prelude.{◌≡◌, ◌<◌, ◌≤◌, ◌+◌, ◌↔◌, [], List, None, Some, true, is_some, Ok, OnErr, OnOk, IfErr, IfOk, length, map, slice_index};
+ghost use Rattle.std.specs.Prelude.{◌≡◌, ◌<◌, ◌≤◌, ◌+◌, ◌↔◌, [], List, None, Some, true, is_some, Ok, OnErr, OnOk, IfErr, IfOk, length, map, slice_index, ℕ};
+ghost use Rattle.std.specs.List.{AllZip};
 ghost use Rattle.lv_values.specs.Names.{is_lower_name};
 ghost use Rattle.lv_schema.specs.declared.bound.Bound.TheVariants as bound;
 ghost use Rattle.lv_schema.specs.declared.query.Query.{Query as AQuery};
 ghost use Rattle.lv_schema.specs.declared.rec.Rec.{Rec};
 ghost use Rattle.lv_schema.specs.Policies.{unclaimed};
-ghost use Rattle.lv_schema.specs.UpkeepCases.{claim_of};
+ghost use Rattle.lv_schema.specs.UpkeepCases.{claim_of, fetching, installing};
 ghost use Rattle.lv_maint.specs.Inputs.{Input};
 ghost use Rattle.lv_plain.specs.declared.event.Event.TheVariants.{Turn as turn_of, Fetch as fetch_of, Install as install_of, Release as release_of, Mark as mark_of, Clean as clean_up};
 ghost use Rattle.lv_plain.specs.Legal.{IsWorker};
 ghost use Rattle.lv_plain.specs.Limits.{IsWithinLimits};
 ghost use Rattle.lv_plain.specs.Programs.{all_answered, first_places, has_more, may_turn, setup_answered};
 ghost use Rattle.lv_upkeep.specs.Kept.{claim_kept};
-ghost use Rattle.lv_store.specs.Answering.{ReadsNoTable, input_between};
+ghost use Rattle.lv_store.specs.Answering.{IsCostBetween, IsInputBetween, ReadsNoTable};
+ghost use Rattle.lv_store.specs.Inputs.{AreCosts};
+ghost use Rattle.lv_store.specs.Maintaining.{TakesGiven, TakesInstalled};
 ghost use Rattle.lv_engine.specs.Kept.{length_of};
 ghost use Rattle.lv_core.specs.Actors.{Frees, HasFetched, Installs, views_for};
-ghost use Rattle.lv_core.specs.Slots.{next_input};
+ghost use Rattle.lv_core.specs.Slots.{IsNextInput};
 ghost use Rattle.lv_core.specs.Run.{Gave, IsOpenedBy, IsOpening, IsRun, IsSame, next_bound, next_steps, settings_of, state_of, view_of};
 
 use crate::answering::{answer_line, stale_line};
@@ -213,7 +216,8 @@ impl<D: Disk> Run<D> {
         steps: &mut Steps<L>,
     ) -> Result<Items<JobInput>, NoMemory>
         requires may { may_turn self.now.program self.now.places session ≡ true }
-        ensures inputs { IfOk result (λ inputs. inputs ≡ map (input_between (state_of self.now).world.visible) (next_steps self.now session)) }
+        ensures inputs { IfOk result (λ inputs. AllZip (IsInputBetween (state_of self.now).world.visible) (next_steps self.now session) inputs) }
+        ensures most { (n : ℕ) → AreCosts (IsCostBetween (state_of self.now).world.visible) (next_steps self.now session) n → steps.new ≤ steps.old + n }
     {
         let at = session as usize;
         let place = place_of(self.places.as_slice(), at);
@@ -262,7 +266,8 @@ impl<D: Disk> Run<D> {
         requires setup { setup_answered self.old.program self.old.places ≡ true }
         requires policy { self.old.settings.policy ≡ picker.now.kind }
         ensures done { OnOk result (Gave D.seen D.may_leave D.moment D.left_since D.failures (fetch_of worker) self.old self.new) }
-        ensures input { IfOk result (λ input. input ≡ next_input self.old worker) }
+        ensures input { IfOk result (IsNextInput self.old worker) }
+        ensures most { TakesGiven (state_of self.old).world.visible (fetching self.old.settings worker (state_of self.old).world).0 steps.old steps.new }
         ensures kept { OnErr result (self.new ≡ self.old) }
     {
         make_room(&mut self.entries, 1)?;
@@ -309,6 +314,7 @@ impl<D: Disk> Run<D> {
         requires worker { IsWorker worker }
         requires setup { setup_answered self.old.program self.old.places ≡ true }
         ensures done { OnOk result (Gave D.seen D.may_leave D.moment D.left_since D.failures (install_of worker) self.old self.new) }
+        ensures most { TakesInstalled (state_of self.old).world.visible (installing worker (state_of self.old).world.upkeep).0 steps.old steps.new }
         ensures kept { OnErr result (self.new ≡ self.old) }
     {
         make_room(&mut self.entries, 1)?;

@@ -14,7 +14,7 @@ use Rattle.lv_maint.specs.Inputs.{Input}
 use Rattle.lv_store.specs.declared.answer.Answer.{Answer}
 use Rattle.lv_store.specs.declared.cleaned.Cleaned.{Cleaned}
 use Rattle.lv_store.specs.declared.installed.Installed.{Installed as InstallAnswer}
-use Rattle.lv_store.specs.Maintaining.{given_input, shown_by, told}
+use Rattle.lv_store.specs.Maintaining.{IsGiven, shown_by, told}
 use Rattle.lv_txn.specs.Written.{conflict_fault}
 use Rattle.lv_engine.specs.declared.fault.CommitFault.{CommitFault}
 use Rattle.lv_engine.specs.declared.fault.CommitFault.TheVariants as commit
@@ -83,7 +83,7 @@ pub record GivesQuery {D : Type 0} (done : Done Queried) (a : Answer) (new : Eng
   pub stands : Stands done.next new
 
 pub record GivesFetch {D : Type 0} (s : Visible) (done : Done Fetched) (input : Option Input) (new : EngineView D) : Type 0 where
-  pub input_is : input ≡ given_input s done.answer
+  pub input_is : IsGiven s done.answer input
   pub stands : Stands done.next new
 
 pub record GivesInstall {D : Type 0} (done : Done Installed) (a : InstallAnswer) (new : EngineView D) : Type 0 where

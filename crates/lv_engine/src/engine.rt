@@ -1,5 +1,6 @@
 //! The engine.
-ghost use Rattle.std.specs.Prelude.{◌≡◌, ◌≤◌, ◌≢◌, ℕ, ◌<◌, Ok, Some, None, Err, true, is_some, map, length, slice_index, slice_set, option_map, [], IfOk, OnErr};
+ghost use Rattle.std.specs.Prelude.{◌≡◌, ◌≤◌, ◌≢◌, ℕ, ◌<◌, Ok, Some, None, Err, true, is_some, map, length, slice_index, slice_set, option_map, [], IfOk, OnErr, ◌+◌};
+ghost use Rattle.std.specs.List.{AllZip};
 ghost use Rattle.lv_journal.specs.declared.writer.Writer.{Writer};
 ghost use Rattle.lv_outside.specs.Causes.{Rose};
 ghost use Rattle.lv_schema.specs.declared.rec.Rec.{Rec};
@@ -11,9 +12,10 @@ ghost use Rattle.lv_schema.specs.WholeWorld.{maintained, querying, with_upkeep, 
 ghost use Rattle.lv_schema.specs.World.{World};
 ghost use Rattle.lv_schema.specs.World as schema;
 ghost use Rattle.lv_txn.specs.Kept.{IsLive, begun, live_kept, transaction_at, transaction_of};
-ghost use Rattle.lv_store.specs.Answering.{ReadsNoTable, effect_fault, input_between};
+ghost use Rattle.lv_store.specs.Answering.{IsCostBetween, IsInputBetween, ReadsNoTable, ReadsViews, TakesSteps, effect_fault};
+ghost use Rattle.lv_store.specs.Inputs.{AreCosts};
 ghost use Rattle.lv_store.specs.Kept.{IsStore, kept, store_of};
-ghost use Rattle.lv_store.specs.Maintaining.{KeepsNoneBelow};
+ghost use Rattle.lv_store.specs.Maintaining.{KeepsNoneBelow, TakesGiven, TakesInstalled};
 ghost use Rattle.lv_engine.specs.Answering.{GivesCleaned, GivesFetch, GivesInstall, GivesQuery, LogsCase, Meets, MeetsMark, commit_fault, create_fault, fails};
 ghost use Rattle.lv_replay.specs.Runs.{mark_written};
 ghost use Rattle.lv_engine.specs.Kept.{IsSame, Stands, StandsForSome, length_of};
@@ -269,8 +271,9 @@ impl<D: Disk> Engine<D> {
     }
 
     /// What the steps are computed from that a query of the session would force now, views in the order of their
-    /// numbers. A session that is not live would read the last commit. Cost: for each step a scan of the tables of its
-    /// view and a copy of the entries between its commits.
+    /// numbers: the net changes, and the rows that can join one, or the whole table of an alias that no chain of equations
+    /// ties to a change. A session that is not live would read the last commit. Cost: for each step the condensing of the
+    /// entries between its commits, and the rows that it reads, of which there are at most as many as the step costs.
     pub fn stale<L: Ledger>(
         &self,
         alloc: Global,
@@ -281,7 +284,9 @@ impl<D: Disk> Engine<D> {
         requires session { session < 17 }
         requires bound { IsBoundQuery self.now.store.tables self.now.store.views query.now }
         ensures inputs { (w : World) (settings : schema.Settings) → settings.combine ≡ self.now.store.settings.combine → Stands w self.now
-            → IfOk result (λ inputs. inputs ≡ map (input_between w.visible) (forced_by settings session query.now w)) }
+            → IfOk result (λ inputs. AllZip (IsInputBetween w.visible) (forced_by settings session query.now w) inputs) }
+        ensures most { (w : World) (settings : schema.Settings) → settings.combine ≡ self.now.store.settings.combine → Stands w self.now
+            → (n : ℕ) → AreCosts (IsCostBetween w.visible) (forced_by settings session query.now w) n → steps.new ≤ steps.old + n }
     {
         self.store.stale(alloc, session, query, steps)
     }
@@ -292,8 +297,8 @@ impl<D: Disk> Engine<D> {
     /// there are no offers, steps of one view with no live snapshot between them are taken as one, so that many changes of
     /// one row cost their condensing and no more. Want of memory leaves every view as it was.
     /// Cost: of a view that is up to date, on whose tables the transaction wrote nothing, one pass over its rows; else
-    /// that of its steps, or of the view by its definition over the transaction's own rows; and the join and the sort of
-    /// the answer.
+    /// that of its steps, which read what can join a changed row, or of the view by its definition over the transaction's
+    /// own rows; and the join and the sort of the answer.
     pub fn query<L: Ledger>(
         &mut self,
         alloc: Global,
@@ -312,6 +317,8 @@ impl<D: Disk> Engine<D> {
         ensures settings { self.new.store.settings ≡ self.old.store.settings }
         ensures journal { self.new.journal ≡ self.old.journal }
         ensures fresh { (w : World) → Stands w self.old → ReadsNoTable session query.now w → steps.new ≡ steps.old }
+        ensures most { (w : World) (settings : schema.Settings) → settings.combine ≡ self.old.store.settings.combine → Stands w self.old → ReadsViews session query.now w
+            → TakesSteps w (forced_by settings session query.now w) steps.old steps.new }
     {
         self.store.query(alloc, session, query, offers, steps)
     }
@@ -327,8 +334,8 @@ impl<D: Disk> Engine<D> {
     /// A worker, 1 to 8, that has no claim fetches a step: of the views that nobody has claimed and that have pending
     /// tasks the policy chooses one, and the next step of this view becomes the worker's claim. It answers a copy of what
     /// the step is computed from, none exactly where there is no such view. Want of memory changes nothing.
-    /// Cost: a look at each view, and for each alias of the chosen one a scan of its table and the condensing of the
-    /// entries between the step's commits.
+    /// Cost: a look at each view, for each alias of the chosen one the condensing of the entries between the step's commits,
+    /// and the rows that can join a changed one; it reads at most what the step costs, and nothing where it answers none.
     pub fn fetch<L: Ledger>(
         &mut self,
         alloc: Global,
@@ -340,6 +347,8 @@ impl<D: Disk> Engine<D> {
         requires free { claim_kept self.old.store.upkeep worker ≡ None }
         ensures done { (w : World) (settings : schema.Settings) → settings.combine ≡ self.old.store.settings.combine → settings.policy ≡ picker.now.kind → Stands w self.old
             → IfOk result (λ input. GivesFetch w.visible (maintained (fetching settings worker w) w) input self.new) }
+        ensures most { (w : World) (settings : schema.Settings) → settings.combine ≡ self.old.store.settings.combine → settings.policy ≡ picker.now.kind → Stands w self.old
+            → TakesGiven w.visible (fetching settings worker w).0 steps.old steps.new }
         ensures refused { OnErr result (self.new ≡ self.old) }
         ensures others { self.new ≡ record self.old { store = record self.old.store { upkeep = self.new.store.upkeep } } }
     {
@@ -350,7 +359,7 @@ impl<D: Disk> Engine<D> {
     /// the view has moved on, nothing is installed. The claim ends in both cases. The offer is used where its input is
     /// the step's own; else the step is computed here, so the answer does not depend on it. Want of memory changes
     /// nothing. Cost: that of the step's input, of its difference where it is computed here, and of the install, which is
-    /// linear in the rows that change.
+    /// linear in the rows that change. It reads at most what the step costs, and nothing where the view has moved on.
     pub fn install<L: Ledger>(
         &mut self,
         alloc: Global,
@@ -361,6 +370,7 @@ impl<D: Disk> Engine<D> {
         requires worker { worker < 9 }
         requires claimed { is_some (claim_kept self.old.store.upkeep worker) ≡ true }
         ensures done { (w : World) → Stands w self.old → IfOk result (λ answer. GivesInstall (maintained (installing worker w.upkeep) w) answer self.new) }
+        ensures most { (w : World) → Stands w self.old → TakesInstalled w.visible (installing worker w.upkeep).0 steps.old steps.new }
         ensures refused { OnErr result (self.new ≡ self.old) }
         ensures others { self.new ≡ record self.old { store = record self.old.store { upkeep = self.new.store.upkeep; rows = self.new.store.rows } } }
     {

@@ -1,11 +1,12 @@
 -- The steps that a query forces are those of the world, and can be taken.
-use Rattle.std.proofs.Common.{◌≡◌, ℕ, zero, suc, ◌-◌, ◌<◌, ◌≤◌, List, [], ◌∷◌, ◌++◌, map, take, length, Option, Some, None, refl, sym, ap, ap₂, ◌∙◌, subst, arith}
+use Rattle.std.proofs.Common.{◌≡◌, ℕ, zero, suc, ◌-◌, ◌<◌, ◌≤◌, List, [], ◌∷◌, ◌++◌, take, length, Option, Some, None, refl, sym, ap, ap₂, ◌∙◌, subst, arith}
 use Rattle.std.specs.Prelude.{slice_index_or, unwrap_or, ◌⊎◌}
 use Rattle.std.specs.List.{AllByRecursion, AllZip, filter_map}
 use Rattle.std.proofs.lemmas.Cmp.{nat_cmp_total}
 use mathlib.Core.Logic.{inl, inr}
 use Rattle.lv_schema.specs.declared.forced.Forced.{Forced}
 use Rattle.lv_schema.specs.declared.open.Open.{Open}
+use Rattle.lv_schema.specs.declared.part.Part.{Part}
 use Rattle.lv_schema.specs.declared.query.Query.{Query}
 use Rattle.lv_schema.specs.declared.table.TableDef.{TableDef}
 use Rattle.lv_schema.specs.declared.view.ViewDef.{ViewDef}
@@ -22,6 +23,8 @@ use Rattle.lv_schema.proofs.Apart.{all_weaker}
 use Rattle.lv_schema.proofs.JobParts.{parts_are}
 use Rattle.lv_schema.proofs.OnceLists.{once_up}
 use Rattle.lv_schema.proofs.ServedQueries.{kept_point}
+use Rattle.lv_base.proofs.Told.{told_tables}
+use Rattle.lv_maint.specs.Inputs.{Input}
 use Rattle.lv_upkeep.specs.Kept.{forced_in}
 use Rattle.lv_stands.specs.Moves.{StepsFollow, inside_kept, step_changes}
 use Rattle.lv_stands.proofs.Carried.{step_steady}
@@ -30,8 +33,9 @@ use Rattle.lv_stands.proofs.Inputs.{inputs_are_told}
 use Rattle.lv_stands.proofs.Runs.{forced_follow}
 use Rattle.lv_stands.proofs.Upkeeps.{forced_are}
 use Rattle.lv_store.specs.declared.store.Store.{Store}
-use Rattle.lv_store.specs.Answering.{input_between}
-use Rattle.lv_store.specs.Querying.{CanCompute, changes_in, input_in, parts_in, snapshot_in, steps_in}
+use Rattle.lv_store.specs.Answering.{IsCostBetween, IsInputBetween}
+use Rattle.lv_store.specs.Inputs.{AreCosts, IsCostOf, IsInputOf}
+use Rattle.lv_store.specs.Querying.{CanCompute, IsCostIn, IsInputIn, changes_in, parts_in, snapshot_in, steps_in}
 use Rattle.lv_store.specs.Kept.{Stands, kept, store_of}
 use Rattle.lv_store.proofs.OwnReads.{schema_sound, snapshot_is}
 use Rattle.lv_store.proofs.Views.{views_in_use}
@@ -61,10 +65,6 @@ each_kept (f ∷ fs) w steady follow =
     all_same [] a = tt
     all_same (g ∷ gs) a = (record { step = a.0.step; kept = a.0.kept }, all_same gs a.1)
 
-map_alike : {X Y : Type 0} (f g : X → Y) (xs : List X) → AllByRecursion (λ x. f x ≡ g x) xs → map f xs ≡ map g xs
-map_alike f g [] a = refl
-map_alike f g (x ∷ xs) a = ap₂ (λ y ys. y ∷ ys) a.0 (map_alike f g xs a.1)
-
 -- where nothing is pending, nothing is forced
 none_from : (settings : Settings) (s : Visible) (v m turns lo : ℕ) → pending s (view_at s.views v) lo m ≡ [] → forced_within settings s v m turns lo ≡ []
 none_from settings s v m zero lo e = refl
@@ -80,8 +80,19 @@ module _ (p : Store) (w : World) (is : Stands w (store_of p)) where
   parts_told f can = (inputs_are_told w (kept w.upkeep.journal (store_of p)) f is can.step can.kept).0
 
   -- what a step is computed from, and the difference that it gives, are those of the world
-  pub input_told : (f : Forced) → IsKeptStep w f → input_in p f ≡ input_between w.visible f
-  input_told f can = λ i. record { def = view_at (is.views_are i) f.view; lo = f.lo; hi = f.hi; parts = parts_told f can i }
+  pub input_told : (f : Forced) → IsKeptStep w f → (input : Input) → IsInputIn p f input → IsInputBetween w.visible f input
+  input_told f can input h =
+      subst (λ (ps : List Part). IsInputOf (view_at w.visible.views f.view) f ps input) (parts_told f can)
+      (subst (λ (vs : List ViewDef). IsInputOf (view_at vs f.view) f (parts_in p f) input) is.views_are h)
+
+  pub cost_told : (f : Forced) → IsKeptStep w f → (n : ℕ) → IsCostBetween w.visible f n → IsCostIn p f n
+  cost_told f can n h =
+      subst (λ (vs : List ViewDef). IsCostOf (view_at vs f.view) (parts_in p f) n) (sym is.views_are)
+      (subst (λ (ps : List Part). IsCostOf (view_at w.visible.views f.view) ps n) (sym (parts_told f can)) h)
+
+  pub costs_told : (fs : List Forced) → AllByRecursion (IsKeptStep w) fs → (n : ℕ) → AreCosts (IsCostBetween w.visible) fs n → AreCosts (IsCostIn p) fs n
+  costs_told [] all n h = h
+  costs_told (f ∷ fs) all n h = (h.0, h.1, cost_told f all.0 h.0 h.2, costs_told fs all.1 h.1 h.3, h.4)
 
   pub changes_told : (f : Forced) → IsKeptStep w f → changes_in p f ≡ step_changes w.visible f
   changes_told f can =
@@ -96,19 +107,15 @@ module _ (p : Store) (w : World) (is : Stands w (store_of p)) where
       record {
         in_use = lt;
         kept = omega (arith, is.base_stands.pruned_is, can.kept);
-        fit = (
-          p.schema.tables,
-          (
-            take f.view p.schema.views,
-            record {
-              bound = (schema_sound p w is).each_view f.view lt;
-              each =
-                  subst (AllZip (λ t q. IsPart (table_at p.schema.tables t) q) (view_at p.schema.views f.view).tables) (sym (parts_told f can))
-                  (subst (λ (vs : List ViewDef). AllZip (λ t q. IsPart (table_at p.schema.tables t) q) (view_at vs f.view).tables (parts_between w.visible (view_at w.visible.views f.view) f.lo f.hi)) (sym is.views_are)
-                  (subst (λ (ts : List TableDef). AllZip (λ t q. IsPart (table_at ts t) q) (view_at w.visible.views f.view).tables (parts_between w.visible (view_at w.visible.views f.view) f.lo f.hi)) (sym is.tables_are) fits));
-            },
-          ),
-        );
+        views = take f.view p.schema.views;
+        fit = record {
+          bound = (schema_sound p w is).each_view f.view lt;
+          each =
+              subst (AllZip (λ t q. IsPart (table_at p.schema.tables t) q) (view_at p.schema.views f.view).tables) (sym (parts_told f can))
+              (subst (λ (vs : List ViewDef). AllZip (λ t q. IsPart (table_at p.schema.tables t) q) (view_at vs f.view).tables (parts_between w.visible (view_at w.visible.views f.view) f.lo f.hi)) (sym is.views_are)
+              (subst (λ (ts : List TableDef). AllZip (λ t q. IsPart (table_at ts t) q) (view_at w.visible.views f.view).tables (parts_between w.visible (view_at w.visible.views f.view) f.lo f.hi)) (sym is.tables_are) fits));
+        };
+        tables_are = told_tables w.visible w.upkeep.pruned p.base is.base_stands ∙ sym is.tables_are;
       }
 
   -- the same of steps that follow each other
@@ -125,8 +132,17 @@ module _ (p : Store) (w : World) (is : Stands w (store_of p)) where
     pub changes_all_told : AllByRecursion (λ f. changes_in p f ≡ step_changes w.visible f) fs
     changes_all_told = all_weaker (IsKeptStep w) (λ f. changes_in p f ≡ step_changes w.visible f) changes_told fs steps_kept
 
-    inputs_all_told : map (input_in p) fs ≡ map (input_between w.visible) fs
-    inputs_all_told = map_alike (input_in p) (input_between w.visible) fs (all_weaker (IsKeptStep w) (λ f. input_in p f ≡ input_between w.visible f) input_told fs steps_kept)
+    pub costs_all_told : (n : ℕ) → AreCosts (IsCostBetween w.visible) fs n → AreCosts (IsCostIn p) fs n
+    costs_all_told = costs_told fs steps_kept
+
+    inputs_all_told : (inputs : List Input) → AllZip (IsInputIn p) fs inputs → AllZip (IsInputBetween w.visible) fs inputs
+    inputs_all_told inputs h = zip_told fs steps_kept inputs h
+      where
+        zip_told : (gs : List Forced) → AllByRecursion (IsKeptStep w) gs → (inputs : List Input) → AllZip (IsInputIn p) gs inputs → AllZip (IsInputBetween w.visible) gs inputs
+        zip_told [] all [] h = tt
+        zip_told [] all (i ∷ inputs) h = absurd h
+        zip_told (g ∷ gs) all [] h = absurd h
+        zip_told (g ∷ gs) all (i ∷ inputs) h = (input_told g all.0 i h.0, zip_told gs all.1 inputs h.1)
 
   module _ (session : ℕ) (query : Query) (bound : IsBoundQuery p.schema.tables p.schema.views query) where
     pub views_below : AllByRecursion (λ v. v < length w.visible.views) (views_of query)
@@ -147,8 +163,11 @@ module _ (p : Store) (w : World) (is : Stands w (store_of p)) where
         subst (StepsFollow w) (sym (steps_are with_combine refl))
         (forced_follow with_combine w (views_of query) (transaction session w.visible).snapshot is.steady (once_up nat_cmp_total (filter_map view_number query.rels)) views_below)
 
-    pub inputs_told : (settings : Settings) → settings.combine ≡ p.settings.combine → map (input_in p) (steps_in p session query) ≡ map (input_between w.visible) (forced_by settings session query w)
-    inputs_told settings same = inputs_all_told (steps_in p session query) steps_follow ∙ ap (map (input_between w.visible)) (steps_are settings same)
+    pub inputs_told : (settings : Settings) → settings.combine ≡ p.settings.combine → (inputs : List Input) → AllZip (IsInputIn p) (steps_in p session query) inputs → AllZip (IsInputBetween w.visible) (forced_by settings session query w) inputs
+    inputs_told settings same inputs h = subst (λ fs. AllZip (IsInputBetween w.visible) fs inputs) (steps_are settings same) (inputs_all_told (steps_in p session query) steps_follow inputs h)
+
+    pub forced_costs : (settings : Settings) → settings.combine ≡ p.settings.combine → (n : ℕ) → AreCosts (IsCostBetween w.visible) (forced_by settings session query w) n → AreCosts (IsCostIn p) (steps_in p session query) n
+    forced_costs settings same n h = costs_all_told (steps_in p session query) steps_follow n (subst (λ fs. AreCosts (IsCostBetween w.visible) fs n) (sym (steps_are settings same)) h)
 
     -- a query whose views are fresh forces nothing
     pub fresh_forces_none : AreFresh w (views_of query) (transaction session w.visible).snapshot → steps_in p session query ≡ []

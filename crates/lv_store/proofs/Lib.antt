@@ -17,3 +17,5 @@ pub mod Steps
 pub mod Views
 pub mod WorkerSteps
 pub mod Written
+pub mod SmallInputs
+pub mod Results

@@ -12,7 +12,7 @@ use Rattle.lv_schema.specs.Answers.{answer_over}
 use Rattle.lv_schema.specs.Bound.{IsBoundQuery, rel_in_use}
 use Rattle.lv_schema.specs.Greatest.{Among}
 use Rattle.lv_schema.specs.Keys.{write_none}
-use Rattle.lv_schema.specs.UpkeepCases.{views_of, with_steps}
+use Rattle.lv_schema.specs.UpkeepCases.{forced_by, views_of, with_steps}
 use Rattle.lv_schema.specs.WholeWorld.{querying}
 use Rattle.lv_schema.specs.World.{Settings, Upkeep, World, table_at, transaction, view_at}
 use Rattle.lv_overlay.specs.Puts.{StandUnder}
@@ -24,10 +24,10 @@ use Rattle.lv_stands.specs.Stands.{StandsFor}
 use Rattle.lv_stands.proofs.Runs.{forced_reads, steps_stand}
 use Rattle.lv_store.specs.declared.answer.Answer.{Answer}
 use Rattle.lv_store.specs.declared.store.Store.{Store}
-use Rattle.lv_store.specs.Answering.{GivesQuery, ReadsNoTable}
-use Rattle.lv_store.specs.Querying.{CanInstallAll, InPlaceOf, StepsInstall, changes_in, reads_kept, rel_rows_in, steps_in, upkeep_after}
+use Rattle.lv_store.specs.Answering.{GivesQuery, ReadsNoTable, ReadsViews, TakesSteps}
+use Rattle.lv_store.specs.Querying.{CanInstallAll, InPlaceOf, StepsInstall, TakesInPlace, changes_in, reads_kept, rel_rows_in, steps_in, upkeep_after}
 use Rattle.lv_store.specs.Kept.{IsStore, StoreKept, Stands, is_used, kept, rows_in, rows_of, store_of}
-use Rattle.lv_store.proofs.Forcing.{changes_all_told, fresh_forces_none, read_at, steps_are, steps_in_use, with_combine}
+use Rattle.lv_store.proofs.Forcing.{changes_all_told, costs_all_told, fresh_forces_none, read_at, steps_are, steps_follow, steps_in_use, with_combine}
 use Rattle.lv_store.proofs.OwnReads.{rows_long, snapshot_below, transaction_stands}
 use Rattle.lv_store.proofs.Rels.{Shows, answer_is, reads_kept_all}
 use Rattle.lv_store.proofs.Steps.{Know, can_install_all, rows_at, steps_run, still_know}
@@ -51,6 +51,28 @@ module _ (p : Store) (session : ℕ) (query : Query) (bound : IsBoundQuery p.sch
         (views_each (λ v. write_none (transaction session w.visible).actions (view_at w.visible.views v).tables ≡ true) query.rels
         (each_passes (λ v. write_none (transaction session w.visible).actions (view_at w.visible.views v).tables) (views_of query) none.unwritten)),
   )
+
+  -- where no table is named, only what is kept is read beside the steps
+  pub reads_views : (w : World) → Stands w (store_of p) → IsLive p.txns session → ReadsViews session query w → list_all (reads_kept p session) query.rels ≡ true
+  reads_views w is live none =
+      reads_kept_all p w is session live query.rels none.views
+      (views_each (λ v. write_none (transaction session w.visible).actions (view_at w.visible.views v).tables ≡ true) query.rels
+      (each_passes (λ v. write_none (transaction session w.visible).actions (view_at w.visible.views v).tables) (views_of query) none.unwritten))
+
+  -- ---- how much is read for the steps
+  pub takes_nothing : (w : World) → Stands w (store_of p) → (old : ℕ) → TakesInPlace p w (steps_in p session query) old old
+  takes_nothing w is old = record {
+    taken = steps_in p session query;
+    place = record { follow = steps_follow p w is session query bound; same = refl };
+    most = λ n c. omega arith;
+  }
+
+  pub takes_told : (w : World) → Stands w (store_of p) → (settings : Settings) → settings.combine ≡ p.settings.combine → (old new : ℕ) → TakesInPlace p w (steps_in p session query) old new → TakesSteps w (forced_by settings session query w) old new
+  takes_told w is settings same old new t = record {
+    taken = t.taken;
+    place = subst (λ fs. InPlaceOf w fs t.taken) (steps_are p w is session query bound settings same) t.place;
+    most = λ n c. t.most n (costs_all_told p w is t.taken t.place.follow n c);
+  }
 
   -- each step of those that are taken is of a view in use, and can be installed
   pub steps_below : (w : World) → Stands w (store_of p) → (taken : List Forced) → StepsFollow w taken → (n : ℕ) → length p.schema.views ≤ n → AllByRecursion (λ f. f.view < n) taken

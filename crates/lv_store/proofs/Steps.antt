@@ -22,7 +22,7 @@ use Rattle.lv_stands.proofs.Installs.{step_installs}
 use Rattle.lv_stands.proofs.Steps.{step_stands}
 use Rattle.lv_maint.specs.Inputs.{Input}
 use Rattle.lv_store.specs.declared.store.Store.{Store}
-use Rattle.lv_store.specs.Querying.{CanInstallAll, RowsInstall, StepInstalls, StepsInstall, changes_in, input_in, installed, upkeep_after}
+use Rattle.lv_store.specs.Querying.{CanInstallAll, RowsInstall, StepInstalls, StepsInstall, IsInputIn, changes_in, installed, upkeep_after}
 use Rattle.lv_store.specs.Kept.{no_rows, rows_in, rows_of}
 
 -- ---- rows of views where some have a new value
@@ -82,8 +82,8 @@ installed_last (b ∷ ahead) a [] lt = absurd (omega (arith, lt))
 installed_last (b ∷ ahead) a (r ∷ rows) lt = ap (λ l. unwrap_or b r ∷ l) (installed_last ahead a rows (omega (arith, lt)))
 
 -- the difference that an input gives
-pub gives_changes : (p : Store) (f : Forced) (input : Input) (changes : List SignedRow) → changes ≡ difference input.def (old_sides input.parts) (new_sides input.parts) → input ≡ input_in p f → changes ≡ changes_in p f
-gives_changes p f input changes is same = is ∙ ap (λ (i : Input). difference i.def (old_sides i.parts) (new_sides i.parts)) same
+pub gives_changes : (p : Store) (f : Forced) (input : Input) (changes : List SignedRow) → changes ≡ difference input.def (old_sides input.parts) (new_sides input.parts) → IsInputIn p f input → changes ≡ changes_in p f
+gives_changes p f input changes is made = is ∙ made.difference_is
 
 -- whether a difference can be installed does not depend on the room
 pub any_room : (a b : ViewKept) (hi : ℕ) (list : List SignedRow) → b ≡ record a { spare = b.spare } → CanInstall a hi list → CanInstall b hi list

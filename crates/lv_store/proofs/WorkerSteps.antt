@@ -1,5 +1,5 @@
 -- What workers do with the parts: the step that one fetches, and what becomes of it.
-use Rattle.std.proofs.Common.{◌≡◌, ℕ, zero, suc, ◌<◌, ◌≤◌, Bool, true, false, cond, not, List, [], ◌∷◌, map, length, Option, Some, None, Result, Ok, Err, refl, sym, ap, ◌∙◌, subst, arith}
+use Rattle.std.proofs.Common.{◌≡◌, ℕ, zero, suc, ◌+◌, ◌<◌, ◌≤◌, Bool, true, false, cond, not, List, [], ◌∷◌, map, length, Option, Some, None, Result, Ok, Err, refl, sym, ap, ◌∙◌, subst, arith}
 use Rattle.std.specs.Prelude.{OnOk, ◌==◌, slice_index, slice_index_or, slice_set}
 use Rattle.std.specs.List.{cons_option, filter, filter_map}
 use Rattle.std.proofs.lemmas.Bool.Decides.{nat_tests}
@@ -39,11 +39,10 @@ use Rattle.lv_stands.proofs.Workers as laws
 use Rattle.lv_base.specs.Bases.{BaseRoom}
 use Rattle.lv_store.specs.declared.installed.Installed.TheVariants as answer
 use Rattle.lv_store.specs.declared.store.Store.{Store}
-use Rattle.lv_store.specs.Answering.{input_between}
-use Rattle.lv_store.specs.Maintaining.{GivesFetch, GivesInstall, RoomChanges, given_input, next_among, next_in}
-use Rattle.lv_store.specs.Querying.{RowsInstall, ViewInstalled, changes_in, input_in}
+use Rattle.lv_store.specs.Maintaining.{GivesFetch, GivesInstall, IsGiven, RoomChanges, TakesGiven, TakesInstalled, next_among, next_in}
+use Rattle.lv_store.specs.Querying.{IsCostIn, IsInputIn, RowsInstall, ViewInstalled, changes_in}
 use Rattle.lv_store.specs.Kept.{IsStore, Stands, kept, no_rows, rows_in, rows_of, store_of}
-use Rattle.lv_store.proofs.Forcing.{IsKeptStep, changes_told, input_told}
+use Rattle.lv_store.proofs.Forcing.{IsKeptStep, changes_told, cost_told, input_told}
 use Rattle.lv_store.proofs.OwnReads.{points_long, rows_long, schema_sound}
 use Rattle.lv_store.proofs.Standing.{any_journal, set_there}
 use Rattle.lv_store.proofs.Steps.{Know, can_install_all, each_set, rows_at, to_installs}
@@ -99,6 +98,12 @@ module _ (p : Store) (w : World) (is : Stands w (store_of p)) (worker : ℕ) (f 
       (sym (becomes worker w.upkeep f false claim_told (other_test (point w.upkeep f.view) f.lo (λ e. other (told ∙ e)))))
       (record { answer_is = ap (moved f) told; stands = released_stands p worker u set w is })
 
+  pub takes_moved : (at : ℕ) → at ≡ slice_index p.upkeep.kept.points f.view → (at ≡ f.lo → ⊥) → (old new : ℕ) → new ≡ old → TakesInstalled w.visible (installing worker w.upkeep).0 old new
+  takes_moved at here other old new e =
+      let told : at ≡ point w.upkeep f.view = here ∙ point_told in
+      subst (λ (c : Installed × Upkeep). TakesInstalled w.visible c.0 old new)
+      (sym (becomes worker w.upkeep f false claim_told (other_test (point w.upkeep f.view) f.lo (λ e. other (told ∙ e))))) e
+
   -- it still stands where the step begins
   module _ (at : slice_index p.upkeep.kept.points f.view ≡ f.lo) where
     begins : point w.upkeep f.view ≡ f.lo
@@ -106,6 +111,12 @@ module _ (p : Store) (w : World) (is : Stands w (store_of p)) (worker : ℕ) (f 
 
     pub claim_kept_step : IsKeptStep w f
     claim_kept_step = record { step = claimed.step; kept = omega (arith, begins, kept_point w f.view is.steady claimed.step.in_use) }
+
+    pub takes_installed : (old new : ℕ) → ((n : ℕ) → IsCostIn p f n → new ≤ old + n) → TakesInstalled w.visible (installing worker w.upkeep).0 old new
+    takes_installed old new most =
+        subst (λ (c : Installed × Upkeep). TakesInstalled w.visible c.0 old new)
+        (sym (becomes worker w.upkeep f true claim_told (same_test (point w.upkeep f.view) f.lo begins)))
+        (λ n c. most n (cost_told p w is f claim_kept_step n c))
 
     module _ (know : Know p.schema.views p.rows.list) where
       pub claim_installs : (f.view < length p.rows.list) × CanInstall (rows_in p.rows.list f.view) f.hi (changes_in p f)
@@ -253,21 +264,28 @@ module _ (p : Store) (w : World) (is : Stands w (store_of p)) where
         (fetching_told settings worker same free ∙ ap (λ k. kept_fetched (next_in k p) worker e) policy ∙ ap (λ (y : Option Forced). kept_fetched y worker e) next)
         (fetch_stands settings worker w e is)
 
+    -- what it reads
+    pub takes_none : (old new : ℕ) → next_in kind p ≡ None → new ≡ old → TakesGiven w.visible (fetching settings worker w).0 old new
+    takes_none old new next e = subst (λ (x : Fetched). TakesGiven w.visible x old new) (sym (fits None next).0) e
+
+    pub takes_step : (f : Forced) (old new : ℕ) → next_in kind p ≡ Some f → ((n : ℕ) → IsCostIn p f n → new ≤ old + n) → TakesGiven w.visible (fetching settings worker w).0 old new
+    takes_step f old new next most = subst (λ (x : Fetched). TakesGiven w.visible x old new) (sym (fits (Some f) next).0) (λ n c. most n (cost_told p w is f (next_is_kept kind f next) n c))
+
     pub gives_none : next_in kind p ≡ None → GivesFetch w.visible (maintained (fetching settings worker w) w) None (store_of p)
     gives_none next =
         let h = fits None next in
         record {
-          input_is = subst (λ (x : Fetched). None ≡ given_input w.visible x) (sym h.0) refl;
+          input_is = subst (λ (x : Fetched). IsGiven w.visible x None) (sym h.0) refl;
           stands = any_journal (with_upkeep (fetching settings worker w).1 w) w.upkeep.journal (store_of p) h.1;
         }
 
-    pub gives_step : (f : Forced) (input : Input) (u : UpkeepKept) → next_in kind p ≡ Some f → input ≡ input_in p f → u ≡ upkeep_claimed worker (Some f) p.upkeep.kept
+    pub gives_step : (f : Forced) (input : Input) (u : UpkeepKept) → next_in kind p ≡ Some f → IsInputIn p f input → u ≡ upkeep_claimed worker (Some f) p.upkeep.kept
         → GivesFetch w.visible (maintained (fetching settings worker w) w) (Some input) (record (store_of p) { upkeep = u })
     gives_step f input u next made set =
         let h = fits (Some f) next in
         let next_world : World = with_upkeep (fetching settings worker w).1 w in
         record {
-          input_is = ap Some (made ∙ input_told p w is f (next_is_kept kind f next)) ∙ subst (λ (x : Fetched). Some (input_between w.visible f) ≡ given_input w.visible x) (sym h.0) refl;
+          input_is = subst (λ (x : Fetched). IsGiven w.visible x (Some input)) (sym h.0) (input, refl, input_told p w is f (next_is_kept kind f next) input made);
           stands =
               subst (λ (k : UpkeepKept). Stands next_world (record (store_of p) { upkeep = k })) (sym set)
               (any_journal next_world w.upkeep.journal (record (store_of p) { upkeep = upkeep_claimed worker (Some f) p.upkeep.kept }) h.1);

@@ -1,3 +1,4 @@
+pub mod Inputs
 pub mod Answering
 pub mod Committing
 pub mod MadeViews

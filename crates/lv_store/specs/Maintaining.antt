@@ -1,10 +1,10 @@
 -- What the calls of workers and clean-ups say of the plain machine, in each world that the engine stood for.
-use Rattle.std.specs.Prelude.{◌≡◌, ℕ, min, List, [], ◌∷◌, slice_set, Option, Some, None, IsTrue}
+use Rattle.std.specs.Prelude.{◌≡◌, ℕ, ◌+◌, ◌≤◌, min, List, [], ◌∷◌, slice_set, Option, Some, None, IsTrue}
 use Rattle.std.specs.List.{AllByRecursion}
 use Rattle.lv_schema.specs.declared.forced.Forced.{Forced}
 use Rattle.lv_schema.specs.declared.pending.Pending.{Pending}
 use Rattle.lv_schema.specs.StepPlans.{is_inside}
-use Rattle.lv_schema.specs.UpkeepCases.{Fetched, busy, idle, fetched, Installed, installed, moved}
+use Rattle.lv_schema.specs.UpkeepCases.{Fetched, busy, idle, fetched, Installed, empty, installed, moved}
 use Rattle.lv_schema.specs.UpkeepCases as schema
 use Rattle.lv_schema.specs.Versions.{ends_after}
 use Rattle.lv_schema.specs.WholeWorld.{Done}
@@ -19,17 +19,23 @@ use Rattle.lv_store.specs.declared.cleaned.Cleaned.{Cleaned}
 use Rattle.lv_store.specs.declared.installed.Installed.{Installed as InstallAnswer}
 use Rattle.lv_store.specs.declared.installed.Installed.TheVariants as answer
 use Rattle.lv_store.specs.declared.store.Store.{Store}
-use Rattle.lv_store.specs.Answering.{input_between}
+use Rattle.lv_store.specs.Answering.{IsCostBetween, IsInputBetween}
 use Rattle.lv_store.specs.Kept.{StoreKept, Stands, kept, rows_in, rows_of, store_of}
 
 -- what a worker is given: what its step is computed from, if it is given one
-abbrev pub given_input : Visible → Fetched → Option Input
-given_input s busy = None
-given_input s idle = None
-given_input s (fetched f) = Some (input_between s f)
+abbrev pub IsGiven : Visible → Fetched → Option Input → Type 0
+IsGiven s busy given = given ≡ None
+IsGiven s idle given = given ≡ None
+IsGiven s (fetched f) given = (input : Input) × (given ≡ Some input) × IsInputBetween s f input
+
+-- how much is read for it: at most what its step costs
+abbrev pub TakesGiven : Visible → Fetched → ℕ → ℕ → Type 0
+TakesGiven s busy old new = new ≡ old
+TakesGiven s idle old new = new ≡ old
+TakesGiven s (fetched f) old new = (n : ℕ) → IsCostBetween s f n → new ≤ old + n
 
 pub record GivesFetch (s : Visible) (done : Done Fetched) (input : Option Input) (new : StoreKept) : Type 0 where
-  pub input_is : input ≡ given_input s done.answer
+  pub input_is : IsGiven s done.answer input
   pub stands : Stands done.next new
 
 -- what became of a step that was claimed
@@ -40,6 +46,12 @@ told (answer.Moved view lo hi point) = moved (record { view = view; lo = lo; hi 
 pub record GivesInstall (done : Done Installed) (a : InstallAnswer) (new : StoreKept) : Type 0 where
   pub answer_is : told a ≡ done.answer
   pub stands : Stands done.next new
+
+-- how much an install reads: at most what its step costs, and nothing where the view has moved on
+abbrev pub TakesInstalled : Visible → Installed → ℕ → ℕ → Type 0
+TakesInstalled s empty old new = new ≡ old
+TakesInstalled s (installed f) old new = (n : ℕ) → IsCostBetween s f n → new ≤ old + n
+TakesInstalled s (moved f point) old new = new ≡ old
 
 -- what a clean-up shows
 abbrev pub shown_by : Cleaned → schema.Cleaned

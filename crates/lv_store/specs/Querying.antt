@@ -1,5 +1,5 @@
 -- Queries: what a transaction reads, and the steps that bring views up to its snapshot, told from what is kept.
-use Rattle.std.specs.Prelude.{◌≡◌, ℕ, ◌<◌, ◌≤◌, Bool, false, not, if◌then◌else◌, List, [], ◌∷◌, length, map, slice_set, Option, unwrap_or, option_map}
+use Rattle.std.specs.Prelude.{◌≡◌, ℕ, ◌+◌, ◌<◌, ◌≤◌, Bool, false, not, if◌then◌else◌, List, [], ◌∷◌, length, map, slice_set, Option, unwrap_or, option_map}
 use Rattle.std.specs.List.{list_any}
 use Rattle.lv_values.specs.declared.value.Value.{Value}
 use Rattle.lv_schema.specs.declared.forced.Forced.{Forced}
@@ -8,6 +8,7 @@ use Rattle.lv_schema.specs.declared.query.Query.{Query}
 use Rattle.lv_schema.specs.declared.query.Rel.{Rel}
 use Rattle.lv_schema.specs.declared.query.Rel.TheVariants.{Table, View}
 use Rattle.lv_schema.specs.declared.signed.SignedRow.{SignedRow}
+use Rattle.lv_schema.specs.declared.view.ViewDef.{ViewDef}
 use Rattle.lv_schema.specs.Applicable.{with_changes}
 use Rattle.lv_schema.specs.Differences.{difference}
 use Rattle.lv_schema.specs.Groups.{view_rows_over}
@@ -16,7 +17,7 @@ use Rattle.lv_schema.specs.Keys.{writes_table}
 use Rattle.lv_schema.specs.StepPlans.{is_inside}
 use Rattle.lv_schema.specs.UpkeepCases.{views_of, with_steps}
 use Rattle.lv_schema.specs.World.{World, table_at, view_at}
-use Rattle.lv_maint.specs.Inputs.{Fit, Input}
+use Rattle.lv_maint.specs.Inputs.{FitOver, Input}
 use Rattle.lv_overlay.specs.Puts.{rows_over}
 use Rattle.lv_txn.specs.Kept.{live_kept, transaction_at, transaction_of}
 use Rattle.lv_upkeep.specs.Kept.{UpkeepKept, forced_in}
@@ -25,8 +26,9 @@ use Rattle.lv_viewrows.specs.Changed.{CanInstall, groups_with}
 use Rattle.lv_viewrows.specs.Kept.{ViewKept, groups_at, shown}
 use Rattle.lv_stands.specs.Kept as stands
 use Rattle.lv_stands.specs.Moves.{StepsFollow, part_in}
-use Rattle.lv_base.specs.Bases.{base_of, table_in}
+use Rattle.lv_base.specs.Bases.{base_of, defs_of, table_in}
 use Rattle.lv_store.specs.declared.store.Store.{Store}
+use Rattle.lv_store.specs.Inputs.{AreCosts, IsCostOf, IsInputOf}
 use Rattle.lv_store.specs.Kept.{rows_in}
 
 -- ---- what a session reads
@@ -74,17 +76,29 @@ pub record InPlaceOf (w : World) (steps taken : List Forced) : Type 0 where
 abbrev pub parts_in : Store → Forced → List Part
 parts_in p f = map (part_in p.schema.tables (base_of p.base) f.lo f.hi) (view_at p.schema.views f.view).tables
 
-abbrev pub input_in : Store → Forced → Input
-input_in p f = record { def = view_at p.schema.views f.view; lo = f.lo; hi = f.hi; parts = parts_in p f }
+abbrev pub IsInputIn : Store → Forced → Input → Type 0
+IsInputIn p f input = IsInputOf (view_at p.schema.views f.view) f (parts_in p f) input
 
 abbrev pub changes_in : Store → Forced → List SignedRow
 changes_in p f = difference (view_at p.schema.views f.view) (old_sides (parts_in p f)) (new_sides (parts_in p f))
+
+-- what it costs to read that
+abbrev pub IsCostIn : Store → Forced → ℕ → Type 0
+IsCostIn p f n = IsCostOf (view_at p.schema.views f.view) (parts_in p f) n
 
 -- a step whose input is kept
 pub record CanCompute (p : Store) (f : Forced) : Type 0 where
   pub in_use : f.view < length p.schema.views
   pub kept : p.base.pruned ≤ f.lo
-  pub fit : Fit (view_at p.schema.views f.view) (parts_in p f)
+  pub views : List ViewDef
+  pub fit : FitOver p.schema.tables views (view_at p.schema.views f.view) (parts_in p f)
+  pub tables_are : defs_of p.base ≡ p.schema.tables
+
+-- at most the costs of steps that are taken in place of others
+pub record TakesInPlace (p : Store) (w : World) (steps : List Forced) (old new : ℕ) : Type 0 where
+  pub taken : List Forced
+  pub place : InPlaceOf w steps taken
+  pub most : (n : ℕ) → AreCosts (IsCostIn p) taken n → new ≤ old + n
 
 -- ---- what steps make of the rows of views
 -- the rows of a view take a difference

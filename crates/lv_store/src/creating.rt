@@ -12,6 +12,7 @@ ghost use Rattle.lv_store.specs.Kept.{IsStore, Stands, store_of};
 
 use crate::making::{created_at, last_parts, made_view};
 use crate::store::Store;
+use lv_near::index_links;
 use lv_schema::{TableDef, ViewDef, view_rows_are_distinct};
 use lv_stands::{groups_can_be_kept, what_is_made_stands};
 use lv_values::{Copying, NoMemory, Steps, Text};
@@ -104,8 +105,9 @@ impl Store {
         self.rows.push(rows);
     }
 
-    /// The first half of CREATE VIEW: the view is evaluated at the last commit, and all memory is taken. What is kept stays
-    /// as it was. Cost: that of the join, and of a scan of its tables.
+    /// The first half of CREATE VIEW: the view is evaluated at the last commit, its tables get the indexes in which its
+    /// steps look rows up, and all memory is taken. What is kept stays as it was. Cost: that of the join, of a scan of its
+    /// tables, and for each index that is new a binary search for each row version.
     pub fn prepare_view<L: Ledger>(
         &mut self,
         alloc: Global,
@@ -121,6 +123,7 @@ impl Store {
         ensures whole { IsStore self.new }
     {
         let def = created_at(def, self.base.last());
+        index_links(alloc, &mut self.base, &def)?;
         self.reserve_view(alloc, &def.name)?;
         let rows = self.evaluated(alloc, &def, steps)?;
         Ok(ReadyView { def, rows })

@@ -1,10 +1,10 @@
 //! A step of a view is installed in place: its difference goes into what is kept of the view, without a copy of it.
-ghost use Rattle.std.specs.Prelude.{◌≡◌, ◌<◌, length, IfOk, OnErr, OnOk};
+ghost use Rattle.std.specs.Prelude.{◌≡◌, ◌<◌, ◌≤◌, ◌+◌, ℕ, length, IfOk, OnErr, OnOk};
 ghost use Rattle.lv_schema.specs.Differences.{difference};
 ghost use Rattle.lv_schema.specs.Jobs.{new_sides, old_sides};
 ghost use Rattle.lv_viewrows.specs.Changed.{CanInstall};
 ghost use Rattle.lv_store.specs.Maintaining.{RoomChanges};
-ghost use Rattle.lv_store.specs.Querying.{CanCompute, ViewInstalled, changes_in};
+ghost use Rattle.lv_store.specs.Querying.{CanCompute, IsCostIn, ViewInstalled, changes_in};
 ghost use Rattle.lv_store.specs.Kept.{IsStore, rows_in};
 
 use crate::stepping::install;
@@ -69,7 +69,8 @@ impl Store {
     ) -> Result<Signed, NoMemory>
         requires whole { IsStore self.now }
         requires can { CanCompute self.now step }
-        ensures { IfOk result (λ changes. changes ≡ changes_in self.now step) }
+        ensures changes { IfOk result (λ changes. changes ≡ changes_in self.now step) }
+        ensures most { (n : ℕ) → IsCostIn self.now step n → steps.new ≤ steps.old + n }
     {
         let input = self.input(alloc, step, steps)?;
         changes_of(alloc, input, offer)

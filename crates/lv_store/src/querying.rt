@@ -1,6 +1,6 @@
 //! Queries.
-ghost use Rattle.std.specs.Prelude.{◌≡◌, ◌<◌, true, [], length, map, nat_lt, IfOk, OnErr};
-ghost use Rattle.std.specs.List.{list_all};
+ghost use Rattle.std.specs.Prelude.{◌≡◌, ◌<◌, ◌≤◌, ◌+◌, ℕ, true, [], length, map, nat_lt, IfOk, OnErr};
+ghost use Rattle.std.specs.List.{list_all, AllZip};
 ghost use Rattle.lv_schema.specs.declared.forced.Forced.{Forced};
 ghost use Rattle.lv_schema.specs.Answers.{answer_over};
 ghost use Rattle.lv_schema.specs.Bound.{IsBoundQuery};
@@ -9,8 +9,9 @@ ghost use Rattle.lv_schema.specs.WholeWorld.{querying};
 ghost use Rattle.lv_schema.specs.World.{World};
 ghost use Rattle.lv_schema.specs.World as schema;
 ghost use Rattle.lv_txn.specs.Kept.{IsLive};
-ghost use Rattle.lv_store.specs.Answering.{GivesQuery, ReadsNoTable, input_between};
-ghost use Rattle.lv_store.specs.Querying.{InPlaceOf, StepsInstall, changes_in, installed, reads_kept, rel_rows_in, steps_in, upkeep_after};
+ghost use Rattle.lv_store.specs.Answering.{GivesQuery, IsCostBetween, IsInputBetween, ReadsNoTable, ReadsViews, TakesSteps};
+ghost use Rattle.lv_store.specs.Querying.{InPlaceOf, StepsInstall, TakesInPlace, changes_in, installed, reads_kept, rel_rows_in, steps_in, upkeep_after};
+ghost use Rattle.lv_store.specs.Inputs.{AreCosts};
 ghost use Rattle.lv_store.specs.Kept.{IsStore, Stands, rows_of, store_of};
 
 use crate::answer::Answer;
@@ -50,6 +51,7 @@ impl Store {
         ensures steps { IfOk result (λ found. StepsInstall (changes_in self.now) found.taken self.now.rows.list (installed found.ahead self.now.rows.list)) }
         ensures rows { IfOk result (λ found. found.rows ≡ answer_over query.now (map (rel_rows_in self.now session (installed found.ahead self.now.rows.list)) query.now.rels)) }
         ensures cost { steps_in self.now session query.now ≡ [] → list_all (reads_kept self.now session) query.now.rels ≡ true → steps.new ≡ steps.old }
+        ensures most { list_all (reads_kept self.now session) query.now.rels ≡ true → (w : World) → Stands w (store_of self.now) → TakesInPlace self.now w (steps_in self.now session query.now) steps.old steps.new }
     {
         let forced = self.forced(alloc, session, query)?;
         let taken = self.to_take(alloc, &forced, &offers)?;
@@ -77,7 +79,8 @@ impl Store {
         advance_each(taken, &mut self.upkeep);
     }
 
-    /// What the steps are computed from that a query would force now.
+    /// What the steps are computed from that a query would force now. It reads at most what these steps cost, also for
+    /// want of memory.
     pub fn stale<L: Ledger>(
         &self,
         alloc: Global,
@@ -89,13 +92,17 @@ impl Store {
         requires session { session < 17 }
         requires bound { IsBoundQuery (store_of self.now).tables (store_of self.now).views query.now }
         ensures inputs { (w : World) (settings : schema.Settings) → settings.combine ≡ (store_of self.now).settings.combine → Stands w (store_of self.now)
-            → IfOk result (λ inputs. inputs ≡ map (input_between w.visible) (forced_by settings session query.now w)) }
+            → IfOk result (λ inputs. AllZip (IsInputBetween w.visible) (forced_by settings session query.now w) inputs) }
+        ensures most { (w : World) (settings : schema.Settings) → settings.combine ≡ (store_of self.now).settings.combine → Stands w (store_of self.now)
+            → (n : ℕ) → AreCosts (IsCostBetween w.visible) (forced_by settings session query.now w) n → steps.new ≤ steps.old + n }
     {
         let forced = self.forced(alloc, session, query)?;
         self.inputs(alloc, forced.as_slice(), steps)
     }
 
-    /// A query of a session that is live.
+    /// A query of a session that is live. Cost: that of the steps that are taken for those that it forces, and of its
+    /// answer. Where it names no table and the transaction wrote none of its views' tables, it reads at most what the
+    /// steps cost that are taken, also for want of memory.
     pub fn query<L: Ledger>(
         &mut self,
         alloc: Global,
@@ -114,6 +121,8 @@ impl Store {
         ensures sessions { (store_of self.new).sessions ≡ (store_of self.old).sessions }
         ensures settings { (store_of self.new).settings ≡ (store_of self.old).settings }
         ensures fresh { (w : World) → Stands w (store_of self.old) → ReadsNoTable session query.now w → steps.new ≡ steps.old }
+        ensures most { (w : World) (settings : schema.Settings) → settings.combine ≡ (store_of self.old).settings.combine → Stands w (store_of self.old) → ReadsViews session query.now w
+            → TakesSteps w (forced_by settings session query.now w) steps.old steps.new }
         ensures whole { IsStore self.new }
     {
         let found = self.find(alloc, session, query, offers, steps)?;

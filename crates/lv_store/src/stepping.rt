@@ -1,12 +1,13 @@
 //! Steps of views, which are installed ahead in copies of what is kept of the views.
-ghost use Rattle.std.specs.Prelude.{◌≡◌, ◌<◌, true, [], None, length, nat_lt, slice_set, replicate, slice_index_or, IfOk, IfSome, OnErr, OnOk};
+ghost use Rattle.std.specs.Prelude.{◌≡◌, ◌<◌, ◌≤◌, ◌+◌, ℕ, true, [], None, length, nat_lt, slice_set, replicate, slice_index_or, IfOk, IfSome, OnErr, OnOk};
 ghost use Rattle.std.specs.List.{AllByRecursion, list_all};
 ghost use Rattle.lv_schema.specs.declared.forced.Forced.{Forced};
 ghost use Rattle.lv_schema.specs.Differences.{difference};
 ghost use Rattle.lv_maint.specs.Inputs.{Outcome};
 ghost use Rattle.lv_schema.specs.Jobs.{new_sides, old_sides};
 ghost use Rattle.lv_viewrows.specs.Changed.{CanInstall};
-ghost use Rattle.lv_store.specs.Querying.{CanCompute, CanInstallAll, RowsInstall, StepInstalls, StepsInstall, changes_in, installed, upkeep_after};
+ghost use Rattle.lv_store.specs.Inputs.{AreCosts};
+ghost use Rattle.lv_store.specs.Querying.{CanCompute, CanInstallAll, IsCostIn, RowsInstall, StepInstalls, StepsInstall, changes_in, installed, upkeep_after};
 ghost use Rattle.lv_store.specs.Kept.{IsStore, rows_in};
 
 use crate::store::Store;
@@ -104,6 +105,7 @@ impl Store {
         requires install { CanInstall (rows_in (installed ahead.old self.now.rows.list) step.view) step.hi (changes_in self.now step) }
         ensures all { OnOk result (length ahead.new ≡ length ahead.old) }
         ensures step { OnOk result (StepInstalls (changes_in self.now) step (installed ahead.old self.now.rows.list) (installed ahead.new self.now.rows.list)) }
+        ensures most { (n : ℕ) → IsCostIn self.now step n → steps.new ≤ steps.old + n }
     {
         let input = self.input(alloc, step, steps)?;
         let changes = changes_of(alloc, input, offers)?;
@@ -127,6 +129,7 @@ impl Store {
         ensures all { IfOk result (λ ahead. length ahead ≡ length self.now.rows.list) }
         ensures steps { IfOk result (λ ahead. StepsInstall (changes_in self.now) forced.now self.now.rows.list (installed ahead self.now.rows.list)) }
         ensures cost { forced.now ≡ [] → steps.new ≡ steps.old }
+        ensures most { (n : ℕ) → AreCosts (IsCostIn self.now) forced.now n → steps.new ≤ steps.old + n }
     {
         let mut ahead = none_ahead(alloc, self.rows.len())?;
         for step in forced {

@@ -6,7 +6,7 @@ ghost use Rattle.lv_schema.specs.WholeWorld.{maintained, with_upkeep};
 ghost use Rattle.lv_schema.specs.World.{World};
 ghost use Rattle.lv_schema.specs.World as schema;
 ghost use Rattle.lv_upkeep.specs.Kept.{claim_kept};
-ghost use Rattle.lv_store.specs.Maintaining.{GivesFetch, GivesInstall, next_in};
+ghost use Rattle.lv_store.specs.Maintaining.{GivesFetch, GivesInstall, TakesGiven, TakesInstalled, next_in};
 ghost use Rattle.lv_store.specs.Kept.{IsStore, Stands, store_of};
 
 use crate::installed::Installed;
@@ -47,7 +47,8 @@ impl Store {
         )
     }
 
-    /// A worker fetches a step.
+    /// A worker fetches a step. Cost: that of choosing it and of its input. It reads nothing where it answers none, and else
+    /// at most what the step costs, also for want of memory.
     pub fn fetch<L: Ledger>(
         &mut self,
         alloc: Global,
@@ -60,6 +61,8 @@ impl Store {
         requires free { claim_kept (store_of self.old).upkeep worker ≡ None }
         ensures done { (w : World) (settings : schema.Settings) → settings.combine ≡ (store_of self.old).settings.combine → settings.policy ≡ picker.now.kind → Stands w (store_of self.old)
             → IfOk result (λ input. GivesFetch w.visible (maintained (fetching settings worker w) w) input (store_of self.new)) }
+        ensures most { (w : World) (settings : schema.Settings) → settings.combine ≡ (store_of self.old).settings.combine → settings.policy ≡ picker.now.kind → Stands w (store_of self.old)
+            → TakesGiven w.visible (fetching settings worker w).0 steps.old steps.new }
         ensures refused { OnErr result (store_of self.new ≡ store_of self.old) }
         ensures others { store_of self.new ≡ record (store_of self.old) { upkeep = (store_of self.new).upkeep } }
         ensures whole { IsStore self.new }
@@ -72,7 +75,9 @@ impl Store {
         Ok(Some(input))
     }
 
-    /// A worker installs its step.
+    /// A worker installs its step. Cost: that of the step's input, of its difference where there is no offer for that
+    /// input, and of the install. It reads nothing where the view has moved on, and else at most what the step costs, also
+    /// for want of memory.
     pub fn install<L: Ledger>(
         &mut self,
         alloc: Global,
@@ -84,6 +89,7 @@ impl Store {
         requires worker { worker < 9 }
         requires claimed { is_some (claim_kept (store_of self.old).upkeep worker) ≡ true }
         ensures done { (w : World) → Stands w (store_of self.old) → IfOk result (λ answer. GivesInstall (maintained (installing worker w.upkeep) w) answer (store_of self.new)) }
+        ensures most { (w : World) → Stands w (store_of self.old) → TakesInstalled w.visible (installing worker w.upkeep).0 steps.old steps.new }
         ensures refused { OnErr result (store_of self.new ≡ store_of self.old) }
         ensures others { store_of self.new ≡ record (store_of self.old) { upkeep = (store_of self.new).upkeep; rows = (store_of self.new).rows } }
         ensures whole { IsStore self.new }

@@ -1,7 +1,8 @@
-use Rattle.std.proofs.Common.{◌≡◌, None, Some, refl, sym, ◌∙◌}
+use Rattle.std.proofs.Common.{◌≡◌, None, Some, refl, sym, ◌∙◌, subst}
+use Rattle.lv_store.specs.Answering.{IsInputBetween}
 use Rattle.lv_schema.specs.UpkeepCases.{fetching}
 use Rattle.lv_plain.specs.declared.event.Event.TheVariants.{Fetch as fetch_of}
-use Rattle.lv_store.specs.Maintaining.{given_input}
+use Rattle.lv_store.specs.Maintaining.{IsGiven}
 use Rattle.lv_core.specs.Run.{Gave, rules_of, state_of, view_of}
 use Rattle.lv_core.proofs.Fetching.{given_none, given_step}
 use Rattle.lv_core.proofs.Happened.{roomy}
@@ -35,7 +36,7 @@ invariant_of-self-2 g c =
       faults_are = c.self.invariant.faults_are;
     }
 
-input_told : (g : _) (c : goal.After-push g) → let v = c.args.self.now in c.in_ok-entry.field-0.input ≡ given_input (state_of v).world.visible (fetching v.settings c.args.worker (state_of v).world).0
+input_told : (g : _) (c : goal.After-push g) → let v = c.args.self.now in IsGiven (state_of v).world.visible (fetching v.settings c.args.worker (state_of v).world).0 c.in_ok-entry.field-0.input
 input_told g c =
     let r = c.self.inside in
     let v = c.args.self.now in
@@ -47,9 +48,9 @@ input_is g c = let part = c.in_ok-entry.input-is in let is = c.in-Some.is in cc
 pub returns-clause-fetched : goal.returns-clause-fetched
 returns-clause-fetched g c = λ input e.
     let v = c.args.self.now in
-    let told = given_step (state_of v).world.visible (fetching v.settings c.args.worker (state_of v).world).0 c.in-Some.input (sym (input_is g c) ∙ input_told g c) in
+    let told = given_step (state_of v).world.visible (fetching v.settings c.args.worker (state_of v).world).0 c.in-Some.input (subst (IsGiven (state_of v).world.visible (fetching v.settings c.args.worker (state_of v).world).0) (input_is g c) (input_told g c)) in
     let same : c.in-Some.input ≡ input = cc in
-    record { gave = gave_fetch g c; step = told.0; fetches = told.1; input_is = sym same ∙ told.2 }
+    record { gave = gave_fetch g c; step = told.0; fetches = told.1; input_is = subst (IsInputBetween (state_of v).world.visible told.0) same told.2 }
 
 pub returns-clause-none : goal.returns-clause-none
 returns-clause-none g c =

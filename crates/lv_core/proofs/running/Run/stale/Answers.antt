@@ -3,7 +3,9 @@ use Rattle.std.specs.Prelude.{IfOk}
 use Rattle.lv_plain.specs.Machine.{steps_of}
 use Rattle.lv_plain.specs.Turns.{bound_line}
 use Rattle.lv_bind.specs.Reads.{reads}
-use Rattle.lv_store.specs.Answering.{input_between}
+use Rattle.std.specs.List.{AllZip}
+use Rattle.lv_store.specs.Answering.{IsCostBetween, IsInputBetween}
+use Rattle.lv_store.specs.Inputs.{AreCosts}
 use Rattle.lv_core.specs.Run.{next_steps, state_of, view_of}
 use Rattle.lv_core.proofs.Turns.{next_line_is, place_held}
 use Rattle.lv_core.proofs.running.Run.stale.Goals as goal
@@ -20,7 +22,11 @@ returns g c =
     let w = (state_of v).world in
     let line = next_line_is r.program r.places c.as_slice.result.now c.args.session c.place_of-place.result c.line_left-line.result.now c.as_slice.ensures c.place_of-place.ensures c.line_left-line.ensures.line in
     record {
-      inputs = subst (λ x. IfOk c.stale_line.result (λ inputs. inputs ≡ map (input_between (state_of x).world.visible) (next_steps x c.args.session))) c.self.view_is
-          (subst (λ (l : List ℕ). IfOk c.stale_line.result (λ inputs. inputs ≡ map (input_between w.visible) (steps_of v.settings c.args.session (bound_line reads c.args.session l w.visible) w))) line
-          (c.stale_line.ensures w v.settings refl c.self.invariant.roomy.run.stands));
+      inputs = subst (λ x. IfOk c.stale_line.result (λ inputs. AllZip (IsInputBetween (state_of x).world.visible) (next_steps x c.args.session) inputs)) c.self.view_is
+          (subst (λ (l : List ℕ). IfOk c.stale_line.result (λ inputs. AllZip (IsInputBetween w.visible) (steps_of v.settings c.args.session (bound_line reads c.args.session l w.visible) w) inputs)) line
+          (c.stale_line.ensures.inputs w v.settings refl c.self.invariant.roomy.run.stands));
+      most = λ n costs.
+          c.stale_line.ensures.most w v.settings refl c.self.invariant.roomy.run.stands n
+          (subst (λ (l : List ℕ). AreCosts (IsCostBetween w.visible) (steps_of v.settings c.args.session (bound_line reads c.args.session l w.visible) w) n) (sym line)
+          (subst (λ x. AreCosts (IsCostBetween (state_of x).world.visible) (next_steps x c.args.session) n) (sym c.self.view_is) costs));
     }

@@ -1,6 +1,6 @@
 use Rattle.lv_schema.specs.World.{Settings}
 use Rattle.lv_store.proofs.Forcing.{can_compute}
-use Rattle.lv_store.proofs.WorkerSteps.{gives_none, gives_step, next_is_kept, still_whole}
+use Rattle.lv_store.proofs.WorkerSteps.{gives_none, gives_step, next_is_kept, still_whole, takes_step}
 use Rattle.std.proofs.Common.{refl, sym, ◌∙◌}
 use Rattle.lv_store.proofs.store.Store.fetch.Goals as goal
 
@@ -17,7 +17,7 @@ returns-in_default-clause-done g c = λ w settings same policy is.
 pub returns-clause-done : goal.returns-clause-done
 returns-clause-done g c = λ w settings same policy is.
     gives_step c.args.self.now w is settings c.args.worker c.args.picker.now.kind same policy c.requires.free c.in-Some.step c.in_ok-input.input c.set_claim.new.self.kept
-    (sym c.in_ok-step.ensures ∙ c.in-Some.is) c.in_ok-input.ensures c.set_claim.ensures.claimed
+    (sym c.in_ok-step.ensures ∙ c.in-Some.is) c.in_ok-input.ensures.input c.set_claim.ensures.claimed
 
 pub returns-clause-whole : goal.returns-clause-whole
 returns-clause-whole g c =
@@ -27,4 +27,12 @@ returns-clause-whole g c =
     let settings : Settings = record { combine = p.settings.combine; limit = 0; policy = c.args.picker.now.kind } in
     still_whole p p.base c.set_claim.new.self p.rows whole whole.defs _
     (gives_step p w whole.stands settings c.args.worker c.args.picker.now.kind refl refl c.requires.free c.in-Some.step c.in_ok-input.input c.set_claim.new.self.kept
-    (sym c.in_ok-step.ensures ∙ c.in-Some.is) c.in_ok-input.ensures c.set_claim.ensures.claimed).stands
+    (sym c.in_ok-step.ensures ∙ c.in-Some.is) c.in_ok-input.ensures.input c.set_claim.ensures.claimed).stands
+
+pub returns-in_err-input-clause-most : goal.returns-in_err-input-clause-most
+returns-in_err-input-clause-most g c = λ w settings same policy is.
+    takes_step c.args.self.now w is settings c.args.worker c.args.picker.now.kind same policy c.requires.free c.in-Some.step c.args.steps.now c.input.new.steps (sym c.in_ok-step.ensures ∙ c.in-Some.is) c.in_err-input.ensures.most
+
+pub returns-clause-most : goal.returns-clause-most
+returns-clause-most g c = λ w settings same policy is.
+    takes_step c.args.self.now w is settings c.args.worker c.args.picker.now.kind same policy c.requires.free c.in-Some.step c.args.steps.now c.input.new.steps (sym c.in_ok-step.ensures ∙ c.in-Some.is) c.in_ok-input.ensures.most

@@ -1,17 +1,17 @@
-use Rattle.std.proofs.Common.{◌≡◌, map, sym, ap, ◌∙◌, subst}
-use Rattle.lv_schema.specs.declared.view.ViewDef.{ViewDef}
-use Rattle.lv_schema.specs.World.{view_at}
-use Rattle.lv_maint.specs.Inputs.{Fit}
-use Rattle.lv_stands.specs.Moves.{part_in}
-use Rattle.lv_base.specs.Bases.{base_of}
-use Rattle.lv_store.specs.Querying.{parts_in}
+use Rattle.lv_store.proofs.SmallInputs.{can_read, fit_over, input_is, most_is}
+use Rattle.lv_store.proofs.Results.{ok_both}
 use Rattle.lv_store.proofs.store.Store.input.Goals as goal
 
-pub new-requires : goal.new-requires
-new-requires g c =
-    let p = c.args.self.now in
-    let step = c.args.step in
-    let def_is : c.in_ok-copy.field-0 ≡ view_at p.schema.views step.view = c.in_ok-copy.ensures ∙ c.view-def.ensures in
-    let parts_are : c.in_ok-parts.parts ≡ parts_in p step =
-    c.in_ok-parts.ensures ∙ ap (map (part_in p.schema.tables (base_of p.base) step.lo step.hi)) (c.as_slice.ensures ∙ ap (λ (d : ViewDef). d.tables) c.view-def.ensures) in
-    subst (Fit c.in_ok-copy.field-0) (sym parts_are) (subst (λ (d : ViewDef). Fit d (parts_in p step)) (sym def_is) c.requires.can.fit)
+pub step_input-requires-clause-can : goal.step_input-requires-clause-can
+step_input-requires-clause-can g c = can_read c.args.self.now c.args.step c.requires.can c.view-def.result.now c.view-def.ensures
+
+pub step_input-requires-clause-fit : goal.step_input-requires-clause-fit
+step_input-requires-clause-fit g c = fit_over c.args.self.now c.args.step c.requires.can c.view-def.result.now c.view-def.ensures
+
+pub returns-clause-input : goal.returns-clause-input
+returns-clause-input g c =
+    ok_both c.step_input.result _ _ _ (λ input small same. input_is c.args.self.now c.args.step c.requires.can c.view-def.result.now c.view-def.ensures input small same) c.step_input.ensures.input c.step_input.ensures.same
+
+pub returns-clause-most : goal.returns-clause-most
+returns-clause-most g c = λ n cost.
+    most_is c.args.self.now c.args.step c.requires.can c.view-def.result.now c.view-def.ensures n cost c.step_input.result c.args.steps.now c.step_input.new.steps c.step_input.ensures.cost c.step_input.ensures.most

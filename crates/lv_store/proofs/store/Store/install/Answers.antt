@@ -6,7 +6,7 @@ use Rattle.lv_viewrows.specs.Changed.{CanInstall}
 use Rattle.lv_store.specs.Kept.{Stands, rows_in, store_of}
 use Rattle.lv_store.proofs.Forcing.{can_compute}
 use Rattle.lv_store.proofs.OwnReads.{points_long, rows_long}
-use Rattle.lv_store.proofs.WorkerSteps.{claim_in_use, claim_installs, claim_kept_step, gives_installed, gives_moved, installed_know, released_stands, same_know, same_rows, still_whole}
+use Rattle.lv_store.proofs.WorkerSteps.{claim_in_use, claim_installs, claim_kept_step, gives_installed, gives_moved, installed_know, released_stands, same_know, same_rows, still_whole, takes_installed}
 use Rattle.lv_store.proofs.store.Store.install.Goals as goal
 
 on_err : {A E P : Type 0} (r : Result A E) → P → OnErr r P
@@ -50,7 +50,7 @@ install_in-requires-clause-can g c =
     let f = c.unwrap-view.result in
     let claim : claim_kept p.upkeep.kept c.args.worker ≡ Some f = sym c.claim.ensures ∙ c.unwrap-view.ensures in
     let at : slice_index p.upkeep.kept.points f.view ≡ f.lo = sym c.point-point.ensures ∙ c.if-point-lo.false in
-    subst (CanInstall (rows_in p.rows.list f.view) f.hi) (sym c.in_ok-changes.ensures) (claim_installs p whole.world whole.stands c.args.worker f claim at whole.defs).1
+    subst (CanInstall (rows_in p.rows.list f.view) f.hi) (sym c.in_ok-changes.ensures.changes) (claim_installs p whole.world whole.stands c.args.worker f claim at whole.defs).1
 
 pub returns-in_err-install_in-clause-refused : goal.returns-in_err-install_in-clause-refused
 returns-in_err-install_in-clause-refused g c =
@@ -77,7 +77,7 @@ returns-clause-done g c = λ w is.
     let f = c.unwrap-view.result in
     let claim : claim_kept p.upkeep.kept c.args.worker ≡ Some f = sym c.claim.ensures ∙ c.unwrap-view.ensures in
     let at : slice_index p.upkeep.kept.points f.view ≡ f.lo = sym c.point-point.ensures ∙ c.if-point-lo.false in
-    gives_installed p w is c.args.worker f claim at whole.defs c.in_ok-changes.changes c.in_ok-changes.ensures c.install_in.new.rows.list c.in_ok-install_in.ensures.done c.end_claim-2.new.self.kept
+    gives_installed p w is c.args.worker f claim at whole.defs c.in_ok-changes.changes c.in_ok-changes.ensures.changes c.install_in.new.rows.list c.in_ok-install_in.ensures.done c.end_claim-2.new.self.kept
     (c.end_claim-2.ensures.claimed ∙ ap (upkeep_claimed c.args.worker None) c.advance.ensures.moved)
 
 pub returns-clause-whole : goal.returns-clause-whole
@@ -92,5 +92,29 @@ returns-clause-whole g c =
     let set = c.end_claim-2.ensures.claimed ∙ ap (upkeep_claimed c.args.worker None) c.advance.ensures.moved in
     let new = c.install_in.new.rows in
     let done = c.in_ok-install_in.ensures.done in
-    still_whole p p.base c.end_claim-2.new.self new whole (installed_know p w is c.args.worker f claim at whole.defs c.in_ok-changes.changes c.in_ok-changes.ensures new.list done c.end_claim-2.new.self.kept set) _
-    (gives_installed p w is c.args.worker f claim at whole.defs c.in_ok-changes.changes c.in_ok-changes.ensures new.list done c.end_claim-2.new.self.kept set).stands
+    still_whole p p.base c.end_claim-2.new.self new whole (installed_know p w is c.args.worker f claim at whole.defs c.in_ok-changes.changes c.in_ok-changes.ensures.changes new.list done c.end_claim-2.new.self.kept set) _
+    (gives_installed p w is c.args.worker f claim at whole.defs c.in_ok-changes.changes c.in_ok-changes.ensures.changes new.list done c.end_claim-2.new.self.kept set).stands
+
+pub returns-in_err-changes-clause-most : goal.returns-in_err-changes-clause-most
+returns-in_err-changes-clause-most g c = λ w is.
+    let p = c.args.self.now in
+    let f = c.unwrap-view.result in
+    let claim : claim_kept p.upkeep.kept c.args.worker ≡ Some f = sym c.claim.ensures ∙ c.unwrap-view.ensures in
+    let at : slice_index p.upkeep.kept.points f.view ≡ f.lo = sym c.point-point.ensures ∙ c.if-point-lo.false in
+    takes_installed p w is c.args.worker f claim at c.args.steps.now c.step_changes.new.steps c.in_err-changes.ensures.most
+
+pub returns-in_err-install_in-clause-most : goal.returns-in_err-install_in-clause-most
+returns-in_err-install_in-clause-most g c = λ w is.
+    let p = c.args.self.now in
+    let f = c.unwrap-view.result in
+    let claim : claim_kept p.upkeep.kept c.args.worker ≡ Some f = sym c.claim.ensures ∙ c.unwrap-view.ensures in
+    let at : slice_index p.upkeep.kept.points f.view ≡ f.lo = sym c.point-point.ensures ∙ c.if-point-lo.false in
+    takes_installed p w is c.args.worker f claim at c.args.steps.now c.step_changes.new.steps c.in_ok-changes.ensures.most
+
+pub returns-clause-most : goal.returns-clause-most
+returns-clause-most g c = λ w is.
+    let p = c.args.self.now in
+    let f = c.unwrap-view.result in
+    let claim : claim_kept p.upkeep.kept c.args.worker ≡ Some f = sym c.claim.ensures ∙ c.unwrap-view.ensures in
+    let at : slice_index p.upkeep.kept.points f.view ≡ f.lo = sym c.point-point.ensures ∙ c.if-point-lo.false in
+    takes_installed p w is c.args.worker f claim at c.args.steps.now c.step_changes.new.steps c.in_ok-changes.ensures.most

@@ -6,7 +6,7 @@ use Rattle.lv_schema.specs.World.{World}
 use Rattle.lv_store.specs.Querying.{InPlaceOf, installed, steps_in}
 use Rattle.lv_store.specs.Kept.{Stands, store_of}
 use Rattle.lv_store.proofs.OwnReads.{points_long}
-use Rattle.lv_store.proofs.Queries.{after_is, all_below, gives, reads_nothing, steps_below, still_engine}
+use Rattle.lv_store.proofs.Queries.{after_is, all_below, gives, reads_nothing, reads_views, steps_below, still_engine, takes_told}
 use Rattle.lv_store.proofs.store.Store.query.Goals as goal
 
 pub returns-in_err-found-clause-fresh : goal.returns-in_err-found-clause-fresh
@@ -58,3 +58,21 @@ returns-clause-whole g c =
     let place : (w : World) → Stands w (store_of p) → InPlaceOf w (steps_in p session query) found.taken = λ w is. subst (λ steps. InPlaceOf w steps found.taken) told.forced (told.taken w is) in
     still_engine p session query bound found.taken place c.requires.live whole.defs last told.steps c.take_steps.new.self whole done.settings done.schema done.txns done.rows
     (after_is p session query bound found.taken place c.requires.live whole.defs last told.steps c.as_slice.result.now (store_of c.take_steps.new.self) c.as_slice.ensures done.store)
+
+pub returns-in_err-found-clause-most : goal.returns-in_err-found-clause-most
+returns-in_err-found-clause-most g c = λ w settings same is views.
+    let p = c.args.self.now in
+    let session = c.args.session in
+    let query = c.args.query.now in
+    let bound = c.requires.bound in
+    takes_told p session query bound w is settings same c.args.steps.now c.find.new.steps
+    (c.find.ensures.most (reads_views p session query bound w is c.requires.live views) w is)
+
+pub returns-clause-most : goal.returns-clause-most
+returns-clause-most g c = λ w settings same is views.
+    let p = c.args.self.now in
+    let session = c.args.session in
+    let query = c.args.query.now in
+    let bound = c.requires.bound in
+    takes_told p session query bound w is settings same c.args.steps.now c.find.new.steps
+    (c.find.ensures.most (reads_views p session query bound w is c.requires.live views) w is)

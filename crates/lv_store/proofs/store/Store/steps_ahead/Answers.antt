@@ -2,7 +2,8 @@ use Rattle.std.proofs.Common.{◌≡◌, List, length, refl, sym, ap, ◌∙◌,
 use Rattle.std.specs.Prelude.{Option, None, replicate}
 use Rattle.std.proofs.lemmas.List.{length-replicate}
 use Rattle.lv_viewrows.specs.Kept.{ViewKept}
-use Rattle.lv_store.specs.Querying.{CanCompute, CanInstallAll, StepsInstall, changes_in, installed}
+use Rattle.lv_store.specs.Querying.{CanCompute, CanInstallAll, IsCostIn, StepsInstall, changes_in, installed}
+use Rattle.lv_store.proofs.SmallInputs.{fails_left, goes_left, starts_left}
 use Rattle.lv_store.proofs.Steps.{each_at, installed_none, next_done, next_left}
 use Rattle.lv_store.proofs.store.Store.steps_ahead.Goals as goal
 
@@ -16,6 +17,7 @@ loop-step-init g c =
       left = subst (CanInstallAll (changes_in p) c.args.forced.now) (sym same) c.requires.install;
       done = λ last h. subst (λ rows. StepsInstall (changes_in p) c.args.forced.now rows last) same h;
       cost = λ e. refl;
+      costs = starts_left (IsCostIn p) c.args.steps.now c.args.forced.now;
     }
 
 pub step_ahead-requires-clause-can : goal.step_ahead-requires-clause-can
@@ -35,4 +37,9 @@ loop-step-preserved g c =
       left = next_left (changes_in p) c.args.forced.now old next i (record { view = 0; lo = 0; hi = 0 }) (omega (arith, lt)) kept.left step;
       done = λ last more. next_done (changes_in p) c.args.forced.now old next p.rows.list last i (record { view = 0; lo = 0; hi = 0 }) (omega (arith, lt)) (kept.done last) step more;
       cost = λ e. absurd (omega (arith, lt, ap length e));
+      costs = goes_left (IsCostIn p) c.args.steps.now c.loop-step.steps c.step_ahead.new.steps c.args.forced.now i (record { view = 0; lo = 0; hi = 0 }) (omega (arith, lt)) c.in_ok-step_ahead.ensures.most kept.costs;
     }
+
+pub returns-in_err-step_ahead-clause-most : goal.returns-in_err-step_ahead-clause-most
+returns-in_err-step_ahead-clause-most g c = λ n costs.
+    fails_left (IsCostIn c.args.self.now) c.args.steps.now c.loop-step.steps c.step_ahead.new.steps c.args.forced.now c.loop-step.step-index (record { view = 0; lo = 0; hi = 0 }) (omega (arith, c.loop-step-test.true)) c.in_err-step_ahead.ensures.most c.loop-step.invariant.costs n costs
