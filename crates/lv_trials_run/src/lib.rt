@@ -5,8 +5,6 @@
 #[cfg(test)]
 mod causes;
 #[cfg(test)]
-mod cores;
-#[cfg(test)]
 mod damage;
 #[cfg(test)]
 mod failing;

@@ -1,8 +1,8 @@
 use Rattle.std.proofs.Common.{List}
 use Rattle.lv_core.specs.Run.{IsOpenedBy}
 use Rattle.lv_schema.specs.declared.rec.Rec.{Rec}
-use Rattle.lv_trials_run.proofs.Opened.{opened_by}
-use Rattle.lv_trials_run.proofs.cores.open_core.Goals as goal
+use Rattle.lv_trials_core.proofs.Opened.{opened_by}
+use Rattle.lv_trials_core.proofs.giving_up.open_core.Goals as goal
 
 pub new-requires-clause-records : goal.new-requires-clause-records
 new-requires-clause-records g c lifetimes outlive =
