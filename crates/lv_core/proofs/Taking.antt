@@ -1,6 +1,5 @@
 -- What is read for a worker's step, where nothing is read.
-use Rattle.std.proofs.Common.{◌≡◌, ℕ, refl, arith}
-use Rattle.std.specs.Prelude.{◌+◌, ◌≤◌}
+use Rattle.std.proofs.Common.{ℕ, refl, arith}
 use Rattle.lv_schema.specs.UpkeepCases.{Fetched, busy, idle, fetched, Installed, empty, installed, moved}
 use Rattle.lv_schema.specs.World.{Visible}
 use Rattle.lv_store.specs.Maintaining.{TakesGiven, TakesInstalled}

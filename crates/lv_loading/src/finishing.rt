@@ -5,6 +5,7 @@ ghost use Rattle.lv_loading.specs.Taking.{IsWhole};
 
 use crate::making::{made_view, parts_at};
 use crate::parts::Parts;
+use lv_near::index_links;
 use lv_values::{Copying, NoMemory, Room, Steps};
 use lv_viewrows::ViewRows;
 use std::alloc::Global;
@@ -28,6 +29,18 @@ impl Parts {
         let parts = parts_at(alloc, &self.base, commit, def.tables.as_slice(), steps)?;
         let copied = def.copy(alloc)?;
         made_view(alloc, copied, commit, parts.as_slice())
+    }
+
+    /// Adds the indexes in which steps of the views look rows up. What is kept does not change, also for want of memory.
+    /// Cost: for each that is new a binary search and a move of small numbers for each version.
+    pub(crate) fn index_all(&mut self, alloc: Global) -> Result<(), NoMemory>
+        requires whole { IsWhole self.old }
+        ensures { self.new ≡ self.old }
+    {
+        for view in 0..self.schema.views() {
+            index_links(alloc, &mut self.base, self.schema.view(view))?;
+        }
+        Ok(())
     }
 
     /// All views by their definitions, each at the commit to which it is maintained.

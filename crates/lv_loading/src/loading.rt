@@ -67,13 +67,15 @@ impl Loading {
         self.parts.take(alloc, rec)
     }
 
-    /// Evaluates each view by its definition at the commit to which it is maintained. Cost: for each view that of its
-    /// join, and of a scan of its tables.
+    /// Evaluates each view by its definition at the commit to which it is maintained, and gives its tables the indexes in
+    /// which its steps look rows up. Cost: for each view that of its join, of a scan of its tables, and for each index that
+    /// is new a binary search for each row version.
     pub fn finish<L: Ledger>(self, alloc: Global, steps: &mut Steps<L>) -> Result<Loaded, NoMemory>
         ensures stands { (recs : List SomeRec) → Loads recs self → IfOk result (λ l. StandsFor (state_of recs) (loaded_kept (state_of recs).upkeep.journal l)) }
         ensures defs { IfOk result KnowViews }
     {
-        let Loading { parts } = self;
+        let Loading { mut parts } = self;
+        parts.index_all(alloc)?;
         let rows = parts.evaluate_all(alloc, steps)?;
         let Parts {
             schema,

@@ -1,4 +1,4 @@
-use Rattle.std.proofs.Common.{◌≡◌, List, [], sym, ◌∙◌, subst}
+use Rattle.std.proofs.Common.{List, [], sym, ◌∙◌, subst}
 use Rattle.std.specs.Prelude.{IfOk, Result}
 use Rattle.lv_schema.specs.declared.bound.Bound.{Bound}
 use Rattle.lv_schema.specs.declared.fault.Fault.{Fault}

@@ -31,3 +31,15 @@ returns-clause-input g c =
     let r = c.self.inside in
     let v = c.args.self.now in
     c.in_ok-given.ensures.input (rules_of v.settings v.program) (state_of v) (combine_held g.D.Disk.seen g.D.Disk.may_leave g.D.Disk.moment g.D.Disk.left_since g.D.Disk.failures r.policy r.program r.engine r.opening.engine.value r.places r.entries.list r.entries.spare v c.self.invariant.roomy c.self.view_is) c.requires.policy (stands_held g.D.Disk.seen g.D.Disk.may_leave g.D.Disk.moment g.D.Disk.left_since g.D.Disk.failures r.policy r.program r.engine r.opening.engine.value r.places r.entries.list r.entries.spare v c.self.invariant.roomy c.self.view_is)
+
+pub returns-in_err-given-clause-most : goal.returns-in_err-given-clause-most
+returns-in_err-given-clause-most g c =
+    let r = c.self.inside in
+    let v = c.args.self.now in
+    c.fetch.ensures.most (rules_of v.settings v.program) (state_of v) (combine_held g.D.Disk.seen g.D.Disk.may_leave g.D.Disk.moment g.D.Disk.left_since g.D.Disk.failures r.policy r.program r.engine r.opening.engine.value r.places r.entries.list r.entries.spare v c.self.invariant.roomy c.self.view_is) c.requires.policy (stands_held g.D.Disk.seen g.D.Disk.may_leave g.D.Disk.moment g.D.Disk.left_since g.D.Disk.failures r.policy r.program r.engine r.opening.engine.value r.places r.entries.list r.entries.spare v c.self.invariant.roomy c.self.view_is)
+
+pub returns-clause-most : goal.returns-clause-most
+returns-clause-most g c =
+    let r = c.self.inside in
+    let v = c.args.self.now in
+    c.fetch.ensures.most (rules_of v.settings v.program) (state_of v) (combine_held g.D.Disk.seen g.D.Disk.may_leave g.D.Disk.moment g.D.Disk.left_since g.D.Disk.failures r.policy r.program r.engine r.opening.engine.value r.places r.entries.list r.entries.spare v c.self.invariant.roomy c.self.view_is) c.requires.policy (stands_held g.D.Disk.seen g.D.Disk.may_leave g.D.Disk.moment g.D.Disk.left_since g.D.Disk.failures r.policy r.program r.engine r.opening.engine.value r.places r.entries.list r.entries.spare v c.self.invariant.roomy c.self.view_is)

@@ -3,6 +3,8 @@ use Rattle.lv_plain.specs.declared.event.Event.TheVariants.{Install as install_o
 use Rattle.lv_core.specs.Run.{Gave, rules_of, state_of, view_of}
 use Rattle.lv_core.proofs.Happened.{roomy}
 use Rattle.lv_core.proofs.Held.{gave, setup_held, stands_held}
+use Rattle.lv_schema.specs.UpkeepCases.{installing}
+use Rattle.lv_core.proofs.Taking.{nothing_installed}
 use Rattle.lv_core.proofs.running.Run.install.Goals as goal
 
 gave_install : (g : _) (c : goal.After-push g) → Gave g.D.Disk.seen g.D.Disk.may_leave g.D.Disk.moment g.D.Disk.left_since g.D.Disk.failures (install_of c.args.worker) c.args.self.now (view_of c.self.inside.policy c.self.inside.program c.install.new.engine c.self.inside.opening.engine.value c.self.inside.places c.push.new.self.list)
@@ -25,3 +27,18 @@ invariant_of-self-2 g c =
 
 pub returns-clause-done : goal.returns-clause-done
 returns-clause-done g c = gave_install g c
+
+pub returns-in_err-make_room-clause-most : goal.returns-in_err-make_room-clause-most
+returns-in_err-make_room-clause-most g c = let w = (state_of c.args.self.now).world in nothing_installed w.visible (installing c.args.worker w.upkeep).0 c.args.steps.now
+
+pub returns-in_err-entry-clause-most : goal.returns-in_err-entry-clause-most
+returns-in_err-entry-clause-most g c =
+    let r = c.self.inside in
+    let v = c.args.self.now in
+    c.install.ensures.most (state_of v) (stands_held g.D.Disk.seen g.D.Disk.may_leave g.D.Disk.moment g.D.Disk.left_since g.D.Disk.failures r.policy r.program r.engine r.opening.engine.value r.places r.entries.list r.entries.spare v c.self.invariant.roomy c.self.view_is)
+
+pub returns-clause-most : goal.returns-clause-most
+returns-clause-most g c =
+    let r = c.self.inside in
+    let v = c.args.self.now in
+    c.install.ensures.most (state_of v) (stands_held g.D.Disk.seen g.D.Disk.may_leave g.D.Disk.moment g.D.Disk.left_since g.D.Disk.failures r.policy r.program r.engine r.opening.engine.value r.places r.entries.list r.entries.spare v c.self.invariant.roomy c.self.view_is)

@@ -1,4 +1,4 @@
-use Rattle.std.proofs.Common.{◌≡◌, ◌<◌, ℕ, List, length, map, refl, sym, subst}
+use Rattle.std.proofs.Common.{◌<◌, ℕ, List, length, refl, sym, subst}
 use Rattle.std.specs.Prelude.{IfOk}
 use Rattle.lv_plain.specs.Machine.{steps_of}
 use Rattle.lv_plain.specs.Turns.{bound_line}
