@@ -12,7 +12,7 @@ use Rattle.lv_schema.specs.declared.signed.SignedRow.{SignedRow}
 use Rattle.lv_schema.specs.Applicable.{AreNetted}
 use Rattle.lv_schema.specs.Differences.{is_change}
 use Rattle.lv_schema.specs.Groups.{total}
-use Rattle.lv_schema.specs.SignedRows.{entries_of, netted, summed}
+use Rattle.lv_schema.specs.SignedRows.{entries_of, summed}
 use Rattle.lv_schema.proofs.Apart.{all_filter}
 use Rattle.lv_schema.proofs.ChangeLists.{quiet_alone, same_changes, sum_place, summed_covers}
 use Rattle.lv_schema.proofs.NetsLead.{passes, same_row}

@@ -31,7 +31,7 @@ own_entry s list = λ i. cond (row_itself s.row i) (s ∷ entries_of s.row list)
 other_entry : (q : List Value) (s : SignedRow) (list : List SignedRow) → row_eq q s.row ≡ false → entries_of q (s ∷ list) ≡ entries_of q list
 other_entry q s list h = λ i. cond (h i) (s ∷ entries_of q list) (entries_of q list)
 
-below_all : (q : List Value) (s : SignedRow) (list : List SignedRow) → row_cmp q s.row ≡ Less → AllByRecursion (λ (t : SignedRow). row_cmp s.row t.row ≡ Less) list → AllByRecursion (λ (t : SignedRow). row_cmp q t.row ≡ Less) (s ∷ list)
+pub below_all : (q : List Value) (s : SignedRow) (list : List SignedRow) → row_cmp q s.row ≡ Less → AllByRecursion (λ (t : SignedRow). row_cmp s.row t.row ≡ Less) list → AllByRecursion (λ (t : SignedRow). row_cmp q t.row ≡ Less) (s ∷ list)
 below_all q s list l a = (l, all_weaker (λ (t : SignedRow). row_cmp s.row t.row ≡ Less) (λ t. row_cmp q t.row ≡ Less) (λ t. row_total.trans q s.row t.row l) list a)
 
 not_one : (s : SignedRow) (list : List SignedRow) → [] ≡ s ∷ list → ⊥

@@ -24,7 +24,7 @@ use Rattle.lv_shelf.specs.Cuts.{Apart}
 use Rattle.lv_viewrows.specs.declared.version.GroupVersion.{GroupVersion}
 use Rattle.lv_viewrows.specs.Changed.{groups_with}
 use Rattle.lv_viewrows.specs.Kept.{groups_at, is_there, one_row, version_from}
-use Rattle.lv_viewrows.specs.Standing.{AreVersions, EndsAtMost, EndsBy, IsBy, IsCount, IsRow, MeetAll, Meets, Precedes, changed_all, current, ended, has_no_end, is_current, joined, meets_by, precedes_by, put, version_cmp}
+use Rattle.lv_viewrows.specs.Standing.{AreVersions, EndsAtMost, EndsBy, IsBy, IsCount, IsRow, MeetAll, Meets, Precedes, changed_all, current, ended, is_current, joined, meets_by, precedes_by, put, version_cmp}
 use Rattle.lv_viewrows.proofs.Changes.{RowsAscend, all_current, none_above, settled}
 use Rattle.lv_viewrows.proofs.Ending.{both, no_until}
 use Rattle.lv_viewrows.proofs.Entries.{AtMostOne, at_most_one, groups_with_is}
@@ -229,15 +229,6 @@ pruned_groups n number m vs a (inl le) =
 pruned_groups n number m vs a (inr le) =
     dropped_groups n (λ v. ends_after number v.until) vs
     (all_weaker (IsBy m) (λ v. ends_after number v.until ≡ false → is_there n v ≡ false) (λ v by h. and_false (nat_le v.from n) (ends_after n v.until) (last_over m n v.until le by.1 (not_none number v.until h))) vs a)
-
-has_end : (u : Option ℕ) → is_none u ≡ false → u ≡ None → ⊥
-has_end None h e = cc
-has_end (Some k) h e = cc
-
-pub open_groups : (n m : ℕ) (vs : List GroupVersion) → AllByRecursion (IsBy m) vs → m ≤ n → groups_at n (filter has_no_end vs) ≡ groups_at n vs
-open_groups n m vs a le =
-    dropped_groups n has_no_end vs
-    (all_weaker (IsBy m) (λ v. has_no_end v ≡ false → is_there n v ≡ false) (λ v by h. and_false (nat_le v.from n) (ends_after n v.until) (last_over m n v.until le by.1 (has_end v.until h))) vs a)
 
 pub some_kept : (view : ViewDef) (at : ℕ) (p : GroupVersion → Bool) (vs : List GroupVersion) → AreVersions view at vs → AreVersions view at (filter p vs)
 some_kept view at p vs held = record {

@@ -1,10 +1,10 @@
 -- An install that its conditions allow leaves what a view keeps in order, and the rows that it is to show.
-use Rattle.std.proofs.Common.{◌≡◌, ℕ, ◌≤◌, Bool, true, false, List, map, filter, length, Option, Some, None, refl, sym, ap, ◌∙◌, subst, arith}
+use Rattle.std.proofs.Common.{◌≡◌, ℕ, ◌≤◌, Bool, true, false, List, map, length, refl, sym, ap, ◌∙◌, subst}
 use Rattle.std.specs.Prelude.{if◌then◌else◌}
 use Rattle.std.specs.List.{AllByRecursion}
 use Rattle.lv_schema.specs.declared.signed.SignedRow.{SignedRow}
 use Rattle.lv_schema.specs.declared.view.ViewDef.{ViewDef}
-use Rattle.lv_schema.specs.Applicable.{ApplyToGroups, ApplyToRows, with_changes}
+use Rattle.lv_schema.specs.Applicable.{ApplyToRows, with_changes}
 use Rattle.lv_schema.specs.Differences.{summed_columns}
 use Rattle.lv_schema.specs.SignedRows.{entries_of}
 use Rattle.lv_schema.proofs.Apart.{all_true, all_weaker}
@@ -13,8 +13,8 @@ use Rattle.lv_shelf.specs.Cuts.{Apart}
 use Rattle.lv_viewrows.specs.declared.version.GroupVersion.{GroupVersion}
 use Rattle.lv_viewrows.specs.Changed.{CanInstall, groups_with}
 use Rattle.lv_viewrows.specs.Kept.{ViewKept, groups_at, rows_listed}
-use Rattle.lv_viewrows.specs.Standing.{AreVersions, EndsAtMost, IsBy, MeetAll, Precedes, changed_all, current, has_no_end, joined}
-use Rattle.lv_viewrows.proofs.Installing.{Fits, all_changed, all_met, entries_now, groups_after, groups_fit, now_ascend, now_rows, open_groups}
+use Rattle.lv_viewrows.specs.Standing.{AreVersions, IsBy, MeetAll, Precedes, changed_all, current, joined}
+use Rattle.lv_viewrows.proofs.Installing.{Fits, all_changed, all_met, entries_now, groups_after, groups_fit, now_ascend, now_rows}
 use Rattle.lv_viewrows.proofs.RowsOfJoins.{IsOneRow, row_of, rows_changed_are, rows_fit, rows_made}
 
 pub not_either : true ≡ false → ⊥
@@ -26,13 +26,6 @@ join_listed view groups e = ap (λ b. if b then rows_of (record { by = view.grou
 
 pub group_listed : (view : ViewDef) (groups : List SignedRow) → view.grouped ≡ true → rows_listed view groups ≡ rows_of (record { by = view.groups; items = view.items; groups = groups; spare = 0 })
 group_listed view groups e = ap (λ b. if b then rows_of (record { by = view.groups; items = view.items; groups = groups; spare = 0 }) else map row_of groups) e
-
-ends_later : (u : Option ℕ) (m n : ℕ) → m ≤ n → EndsAtMost m u → EndsAtMost n u
-ends_later None m n le h = tt
-ends_later (Some k) m n le h = omega (arith, h)
-
-pub all_later : (m n : ℕ) (vs : List GroupVersion) → m ≤ n → AllByRecursion (IsBy m) vs → AllByRecursion (IsBy n) vs
-all_later m n vs le a = all_weaker (IsBy m) (IsBy n) (λ v h. (omega (arith, h.0), ends_later v.until m n le h.1)) vs a
 
 module _ (k : ViewKept) (held : AreVersions k.def k.at k.versions) (hi : ℕ) (list : List SignedRow) (can : CanInstall k hi list) where
   abbrev now : List SignedRow
@@ -53,9 +46,6 @@ module _ (k : ViewKept) (held : AreVersions k.def k.at k.versions) (hi : ℕ) (l
       by : (b : Bool) → k.def.grouped ≡ b → AllByRecursion (Fits now) list
       by true e = groups_fit k.def k.at k.versions held list (can.groups e)
       by false e = rows_fit now list (now_ascend k.def k.at k.versions held) can.netted.ascend (now_rows k.def k.at k.versions held e) (apply e) (plain e)
-
-  pub each_before : AllByRecursion (IsBy hi) k.versions
-  each_before = all_later k.at hi k.versions (omega (arith, can.later)) held.each
 
   pub meet : AllByRecursion (MeetAll hi k.versions) list
   meet = all_met k.def k.at k.versions held hi can.later list fit
@@ -83,14 +73,3 @@ module _ (k : ViewKept) (held : AreVersions k.def k.at k.versions) (hi : ℕ) (l
       ∙ join_listed k.def (groups_with list now) e
       ∙ rows_changed_are now list (now_ascend k.def k.at k.versions held) can.netted.ascend (now_rows k.def k.at k.versions held e) (apply e) (plain e)
       ∙ ap (with_changes list) (sym (join_listed k.def now e))
-
--- the versions that have not ended take the change too
-pub still_can : (k : ViewKept) → AreVersions k.def k.at k.versions → (hi : ℕ) (list : List SignedRow) → CanInstall k hi list → CanInstall (record k { versions = filter has_no_end k.versions }) hi list
-still_can k held hi list can =
-    let same = open_groups k.at k.at k.versions held.each (omega arith) in
-    record {
-      later = can.later;
-      netted = can.netted;
-      rows = subst (λ gs. k.def.grouped ≡ false → ApplyToRows (rows_listed k.def gs) list) (sym same) can.rows;
-      groups = subst (λ gs. k.def.grouped ≡ true → ApplyToGroups gs list) (sym same) can.groups;
-    }

@@ -4,7 +4,9 @@ pub mod Ending
 pub mod Entries
 pub mod Installing
 pub mod Keeping
+pub mod Merging
 pub mod Order
+pub mod Passing
 pub mod RowsOfJoins
 pub mod Sums
 pub mod Walking

@@ -1,68 +1,209 @@
 //! Rows of versions.
-ghost use Rattle.std.specs.Prelude.{◌≡◌, ◌++◌, ◌∷◌, [], map, filter, IfOk, OnOk};
-ghost use Rattle.lv_viewrows.specs.Kept.{groups_at, is_there, row_listed, rows_listed};
+ghost use Rattle.std.specs.Prelude.{◌≡◌, ◌+ℤ◌, ◌++◌, ◌∷◌, [], List, drop, filter, IfOk, OnOk};
+ghost use Rattle.std.specs.List.{AllByRecursion};
+ghost use Rattle.lv_schema.specs.declared.signed.SignedRow.{SignedRow as ASignedRow};
+ghost use Rattle.lv_group.specs.Gathered.{has_tuples};
+ghost use Rattle.lv_viewrows.specs.Changed.{group_with};
+ghost use Rattle.lv_viewrows.specs.Kept.{groups_at, rows_listed};
+ghost use Rattle.lv_viewrows.specs.Merged.{AllFitAt, FitsInto, if_some, left_by, merged, passing, up_to};
+ghost use Rattle.lv_viewrows.specs.Standing.{IsCount};
 
+use crate::numbers::{has_tuples, with_group};
 use crate::version::GroupVersion;
 use lv_group::listed_row;
-use lv_schema::{SignedRow, ViewDef};
+use lv_schema::{Signed, SignedRow, ViewDef};
 use lv_shelf::Shelf;
-use lv_values::{Copying, NoMemory, Row, Rows};
+use lv_values::{Copying, NoMemory, Row, Rows, Test};
 use std::alloc::Global;
+use std::cmp::Ordering;
 
-/// The row that a view lists of a group.
-fn row_of(alloc: Global, view: &ViewDef, group: &SignedRow) -> Result<Row, NoMemory>
-    ensures { IfOk result (λ row. row ≡ row_listed view.now group.now) }
-{
-    if view.grouped {
-        listed_row(alloc, view.groups.as_slice(), view.items.as_slice(), group)
-    } else {
-        group.row.copy(alloc)
+/// Passed by each row.
+#[derive(Drop)]
+pub(crate) struct Any;
+
+impl Test<Row> for Any {
+    ghost use Rattle.std.specs.Prelude.{true};
+
+    ghost passed = { λ _ _. true };
+
+    fn passes(&self, _: &Row) -> bool {
+        true
     }
 }
 
-/// Appends the row of a version's group if it is there at commit n.
-fn push_row(
+/// Appends the row that a view lists of a group, if it passes. A row of a join view that does not pass is not copied.
+fn push_group<T: Test<Row>>(
     alloc: Global,
     view: &ViewDef,
-    n: u64,
-    version: &GroupVersion,
+    test: &T,
+    group: &SignedRow,
     rows: &mut Rows,
 ) -> Result<(), NoMemory>
-    ensures { OnOk result (rows.new ≡ rows.old ++ map (row_listed view.now) (groups_at n (version.now ∷ []))) }
+    ensures { OnOk result (rows.new ≡ rows.old ++ passing view.now (T.passed test.now) (group.now ∷ [])) }
 {
-    if version.is_there(n) {
-        rows.push(row_of(alloc, view, &version.group)?)?;
+    if view.grouped {
+        let row = listed_row(alloc, view.groups.as_slice(), view.items.as_slice(), group)?;
+        if test.passes(&row) {
+            rows.push(row)?;
+        }
+    } else if test.passes(&group.row) {
+        rows.push(group.row.copy(alloc)?)?;
     }
     Ok(())
 }
 
-/// The rows of the groups that are there at commit n, in the order of the versions.
-fn rows_in_order(
+/// Appends the row of a group that has a tuple.
+fn push_if_some<T: Test<Row>>(
     alloc: Global,
     view: &ViewDef,
+    test: &T,
+    group: &SignedRow,
+    rows: &mut Rows,
+) -> Result<(), NoMemory>
+    ensures { OnOk result (rows.new ≡ rows.old ++ passing view.now (T.passed test.now) (if_some group.now)) }
+{
+    if has_tuples(group) {
+        push_group(alloc, view, test, group, rows)?;
+    }
+    Ok(())
+}
+
+/// Appends the row of a group with a change, if a tuple is left. If none is, nothing is copied.
+fn push_changed<T: Test<Row>>(
+    alloc: Global,
+    view: &ViewDef,
+    test: &T,
+    group: &SignedRow,
+    change: &SignedRow,
+    rows: &mut Rows,
+) -> Result<(), NoMemory>
+    requires { IsCount (group.now.count +ℤ change.now.count) }
+    ensures { OnOk result (rows.new ≡ rows.old ++ passing view.now (T.passed test.now) (if_some (group_with group.now change.now))) }
+{
+    if group.count + change.count != 0 {
+        let group = with_group(group, change.copy(alloc)?);
+        push_group(alloc, view, test, &group, rows)?;
+    }
+    Ok(())
+}
+
+/// Appends the rows up to a group with the changes from a place on, and answers from where on changes are left. Cost: a
+/// comparison for the group and one for each change that is passed, and a copy of the change of the group's row where a
+/// tuple is left.
+fn push_up_to<T: Test<Row>>(
+    alloc: Global,
+    view: &ViewDef,
+    test: &T,
+    group: &SignedRow,
+    changes: &Signed,
+    from: usize,
+    rows: &mut Rows,
+) -> Result<usize, NoMemory>
+    requires { AllByRecursion (FitsInto group.now) changes.now }
+    ensures rows { OnOk result (rows.new ≡ rows.old ++ passing view.now (T.passed test.now) (up_to group.now (drop from changes.now))) }
+    ensures left { IfOk result (λ next. drop next changes.now ≡ left_by group.now (drop from changes.now)) }
+{
+    for at in from..changes.len() {
+        let change = changes.get(at);
+        match change.row.cmp(&group.row) {
+            Ordering::Less => push_if_some(alloc, view, test, change, rows)?,
+            Ordering::Equal => {
+                push_changed(alloc, view, test, group, change, rows)?;
+                return Ok(at + 1);
+            }
+            Ordering::Greater => {
+                push_group(alloc, view, test, group, rows)?;
+                return Ok(at);
+            }
+        }
+    }
+    push_group(alloc, view, test, group, rows)?;
+    Ok(changes.len())
+}
+
+/// Appends the rows up to a version's group, if the version is there at commit n.
+fn push_version<T: Test<Row>>(
+    alloc: Global,
+    view: &ViewDef,
+    test: &T,
+    n: u64,
+    version: &GroupVersion,
+    changes: &Signed,
+    from: usize,
+    rows: &mut Rows,
+) -> Result<usize, NoMemory>
+    requires { AllFitAt n changes.now version.now }
+    ensures rows { IfOk result (λ next. (groups : List ASignedRow) → rows.new ++ passing view.now (T.passed test.now) (merged (drop next changes.now) groups) ≡ rows.old ++ passing view.now (T.passed test.now) (merged (drop from changes.now) (groups_at n (version.now ∷ []) ++ groups))) }
+{
+    if version.is_there(n) {
+        push_up_to(alloc, view, test, &version.group, changes, from, rows)
+    } else {
+        Ok(from)
+    }
+}
+
+/// Appends the rows of the changes from a place on.
+fn push_rest<T: Test<Row>>(
+    alloc: Global,
+    view: &ViewDef,
+    test: &T,
+    changes: &Signed,
+    from: usize,
+    rows: &mut Rows,
+) -> Result<(), NoMemory>
+    ensures { OnOk result (rows.new ≡ rows.old ++ passing view.now (T.passed test.now) (filter has_tuples (drop from changes.now))) }
+{
+    for at in from..changes.len() {
+        push_if_some(alloc, view, test, changes.get(at), rows)?;
+    }
+    Ok(())
+}
+
+/// The rows of the groups that are there at commit n, with changes, that pass, in the order of the groups.
+fn rows_in_order<T: Test<Row>>(
+    alloc: Global,
+    view: &ViewDef,
+    test: &T,
     n: u64,
     versions: &Shelf<GroupVersion>,
+    changes: &Signed,
 ) -> Result<Rows, NoMemory>
-    ensures { IfOk result (λ rows. rows ≡ map (row_listed view.now) (groups_at n versions.now.list)) }
+    requires { AllByRecursion (AllFitAt n changes.now) versions.now.list }
+    ensures { IfOk result (λ rows. rows ≡ passing view.now (T.passed test.now) (merged changes.now (groups_at n versions.now.list))) }
 {
     let mut rows = Rows::new(alloc);
+    let mut next = 0;
     for at in 0..versions.len() {
-        push_row(alloc, view, n, versions.get(at), &mut rows)?;
+        next = push_version(
+            alloc,
+            view,
+            test,
+            n,
+            versions.get(at),
+            changes,
+            next,
+            &mut rows,
+        )?;
     }
+    push_rest(alloc, view, test, changes, next, &mut rows)?;
     Ok(rows)
 }
 
-/// The rows at commit n, in ascending order. Cost: a pass over the versions and a copy of each row that is listed; of a
-/// grouped view n log n comparisons too.
-pub(crate) fn rows_at(
+/// The rows of the groups that are there at commit n, with changes, that pass, in ascending order. Cost: a pass over the
+/// versions, with a comparison for each while changes are left; of a join view a copy of each row that passes; of a
+/// grouped view a copy of each row and of each change whose group stays, and n log n comparisons of the rows that pass.
+pub(crate) fn rows_passing<T: Test<Row>>(
     alloc: Global,
     view: &ViewDef,
+    test: &T,
     n: u64,
     versions: &Shelf<GroupVersion>,
+    changes: &Signed,
 ) -> Result<Rows, NoMemory>
-    ensures { IfOk result (λ rows. rows ≡ rows_listed view.now (groups_at n versions.now.list)) }
+    requires { AllByRecursion (AllFitAt n changes.now) versions.now.list }
+    ensures { IfOk result (λ rows. rows ≡ filter (T.passed test.now) (rows_listed view.now (merged changes.now (groups_at n versions.now.list)))) }
 {
-    let mut rows = rows_in_order(alloc, view, n, versions)?;
+    let mut rows = rows_in_order(alloc, view, test, n, versions, changes)?;
     if view.grouped {
         rows.sort();
     }

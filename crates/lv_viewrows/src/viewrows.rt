@@ -10,15 +10,14 @@ ghost use Rattle.lv_schema.specs.Versions.{ends_after};
 ghost use Rattle.lv_group.specs.Gathered.{IsOfView, has_tuples, rows_of};
 ghost use Rattle.lv_viewrows.specs.Changed.{CanInstall, groups_with};
 ghost use Rattle.lv_viewrows.specs.Kept.{groups_at, one_row, rows_listed, shown, version_from};
-ghost use Rattle.lv_viewrows.specs.Standing.{has_no_end};
 
 use crate::changing::apply_all;
-use crate::reading::rows_at;
+use crate::reading::{Any, rows_passing};
 use crate::version::{EndsAfter, GroupVersion};
 use lv_group::Groups;
 use lv_schema::{Signed, SignedRow, Sums, ViewDef};
 use lv_shelf::Shelf;
-use lv_values::{Copying, NoMemory, Row, Rows};
+use lv_values::{Copying, NoMemory, Row, Rows, Test};
 use std::alloc::Global;
 use std::marker::Model;
 
@@ -90,34 +89,6 @@ fn row_groups(alloc: Global, rows: Rows) -> Result<Signed, NoMemory>
         groups.push(one_row(alloc, row))?;
     }
     Ok(groups)
-}
-
-/// Appends a copy of a version that has not ended.
-fn push_current(
-    alloc: Global,
-    version: &GroupVersion,
-    copy: &mut Shelf<GroupVersion>,
-) -> Result<(), NoMemory>
-    ensures { OnOk result (copy.new.list ≡ copy.old.list ++ filter has_no_end (version.now ∷ [])) }
-{
-    if version.until.is_none() {
-        push_last(copy, version.copy(alloc)?)?;
-    }
-    Ok(())
-}
-
-/// Copies of the versions that have not ended.
-fn copy_current(
-    alloc: Global,
-    versions: &Shelf<GroupVersion>,
-) -> Result<Shelf<GroupVersion>, NoMemory>
-    ensures { IfOk result (λ copy. copy.list ≡ filter has_no_end versions.now.list) }
-{
-    let mut copy = Shelf::new(alloc);
-    for at in 0..versions.len() {
-        push_current(alloc, versions.get(at), &mut copy)?;
-    }
-    Ok(copy)
 }
 
 /// Copies of versions, in their order.
@@ -207,7 +178,21 @@ impl ViewRows {
     pub fn read_at(&self, alloc: Global, n: u64) -> Result<Rows, NoMemory>
         ensures { IfOk result (λ rows. rows ≡ shown n self.now) }
     {
-        rows_at(alloc, &self.def, n, &self.versions)
+        self.read_passing(alloc, n, &Any)
+    }
+
+    /// Those rows of `read_at` that pass. Cost: that of `read_at`, but a row of a join view that does not pass is not
+    /// copied, and one of a grouped view is let go before the sort.
+    pub fn read_passing<T: Test<Row>>(
+        &self,
+        alloc: Global,
+        n: u64,
+        test: &T,
+    ) -> Result<Rows, NoMemory>
+        ensures { IfOk result (λ rows. rows ≡ filter (T.passed test.now) (shown n self.now)) }
+    {
+        let changes = Signed::new(alloc);
+        rows_passing(alloc, &self.def, test, n, &self.versions, &changes)
     }
 
     /// Makes room for the versions of `rows` rows. What is kept stays as it was, and the room never shrinks.
@@ -221,16 +206,29 @@ impl ViewRows {
         self.versions.reserve(rows)
     }
 
-    /// The rows that `read_at` gives from commit `hi` on once this change is installed there. Cost: copies of the groups
-    /// that are current and of the change, and the cost of the install.
+    /// The rows that `read_at` gives from commit `hi` on once this change is installed there. Nothing is installed. Cost:
+    /// that of `read_at`, with a comparison of rows for each version and each change, and of a grouped view a copy of each
+    /// change.
     pub fn preview(&self, alloc: Global, hi: u64, changes: &Signed) -> Result<Rows, NoMemory>
         requires { CanInstall self.now hi changes.now }
         ensures { IfOk result (λ rows. rows ≡ rows_listed self.now.def (groups_with changes.now (groups_at self.now.at self.now.versions))) }
     {
-        let mut versions = copy_current(alloc, &self.versions)?;
-        versions.reserve(changes.len() as u64)?;
-        apply_all(changes.copy(alloc)?, hi, &mut versions);
-        rows_at(alloc, &self.def, hi, &versions)
+        self.preview_passing(alloc, hi, changes, &Any)
+    }
+
+    /// Those rows of `preview` that pass. Cost: that of `preview`, but a row of a join view that does not pass is not
+    /// copied, and one of a grouped view is let go before the sort.
+    pub fn preview_passing<T: Test<Row>>(
+        &self,
+        alloc: Global,
+        hi: u64,
+        changes: &Signed,
+        test: &T,
+    ) -> Result<Rows, NoMemory>
+        requires { CanInstall self.now hi changes.now }
+        ensures { IfOk result (λ rows. rows ≡ filter (T.passed test.now) (rows_listed self.now.def (groups_with changes.now (groups_at self.now.at self.now.versions)))) }
+    {
+        rows_passing(alloc, &self.def, test, self.at, &self.versions, changes)
     }
 
     /// Installs a change, whose commits end at `hi`: from there on the rows are those before with it, and below they stay.

@@ -1,6 +1,8 @@
 use Rattle.std.proofs.Common.{◌≡◌, ◌++◌, drop}
-use Rattle.lv_viewrows.proofs.Walking.{listed_at}
+use Rattle.lv_viewrows.specs.Kept.{groups_at}
+use Rattle.lv_viewrows.specs.Merged.{merged, passing}
 use Rattle.lv_viewrows.proofs.reading.rows_in_order.Given as goal
 
 abbrev pub invariant-loop-at : goal.invariant-loop-at
-invariant-loop-at l = l.rows ++ listed_at l.view l.n (drop l.at l.versions.list) ≡ listed_at l.view l.n l.versions.list
+invariant-loop-at g l =
+    l.rows ++ passing l.view (g.T.Test.passed l.test) (merged (drop l.next l.changes) (groups_at l.n (drop l.at l.versions.list))) ≡ passing l.view (g.T.Test.passed l.test) (merged l.changes (groups_at l.n l.versions.list))
