@@ -80,7 +80,7 @@ module _ (links : List Link) (parts : List Part) (first near : List AliasRow) (a
       (λ a h. has a (among (IsNear links parts) near a w.sound (take_there n near a h)))
 
   -- where a look-up from the next row fails
-  pub fails_within : (a : AliasRow) (start here there : ℕ) → slice_get near at ≡ Some a → here ≡ start + looked_up links parts (take at near) → there ≤ here + length (neighbours links parts a)
+  pub fails_within : (a : AliasRow) (start here there : ℕ) → slice_get near at ≡ Some a → here ≤ start + looked_up links parts (take at near) → there ≤ here + length (neighbours links parts a)
       → (all : List AliasRow) → HasNear links parts all → there ≤ start + looked_up links parts all
   fails_within a start here there at_a e le all has = omega (arith, e, le, looked_more (suc at) a at_a refl, at_most_all (suc at) all has)
 

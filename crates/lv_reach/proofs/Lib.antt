@@ -9,3 +9,4 @@ pub mod FarLaws
 pub mod Asking
 pub mod Walking
 pub mod Costing
+pub mod Questioning

@@ -24,7 +24,7 @@ use Rattle.lv_reach.proofs.NearLaws.{changed_near, agreeing_near, near_least}
 
 -- ---- rows put behind others
 -- those that were there stay, and only rows that are put come behind them
-put_tail : (P : AliasRow → Type 0) (more rows : List AliasRow) → AllByRecursion P more → (t : List AliasRow) × (put_all more rows ≡ rows ++ t) × AllByRecursion P t
+pub put_tail : (P : AliasRow → Type 0) (more rows : List AliasRow) → AllByRecursion P more → (t : List AliasRow) × (put_all more rows ≡ rows ++ t) × AllByRecursion P t
 put_tail P [] rows all = ([], sym (append-nil rows), tt)
 put_tail P (a ∷ more) rows all = by (has_alias_row a rows) (put_tail P more rows all.1) (put_tail P more (rows ++ a ∷ []) all.1)
   where
@@ -33,7 +33,7 @@ put_tail P (a ∷ more) rows all = by (has_alias_row a rows) (put_tail P more ro
     by true h k = h
     by false h k = (a ∷ k.0, k.1 ∙ append_assoc rows (a ∷ []) k.0, (all.0, k.2))
 
-stays : (b : AliasRow) (more rows : List AliasRow) → has_alias_row b rows ≡ true → has_alias_row b (put_all more rows) ≡ true
+pub stays : (b : AliasRow) (more rows : List AliasRow) → has_alias_row b rows ≡ true → has_alias_row b (put_all more rows) ≡ true
 stays b [] rows h = h
 stays b (a ∷ more) rows h = stays b more (put_behind a rows) (by (has_alias_row a rows))
   where
@@ -118,7 +118,7 @@ take_one (y ∷ xs) zero x h = by h
     by e = cc
 take_one (y ∷ xs) (suc n) x h = ap (λ l. y ∷ l) (take_one xs n x h)
 
-below : {X : Type 0} (xs : List X) (n : ℕ) (x : X) → slice_get xs n ≡ Some x → suc n ≤ length xs
+pub below : {X : Type 0} (xs : List X) (n : ℕ) (x : X) → slice_get xs n ≡ Some x → suc n ≤ length xs
 below [] n x h = cc
 below (y ∷ xs) zero x h = omega arith
 below (y ∷ xs) (suc n) x h = let rest = below xs n x h in omega (arith, rest)
@@ -247,7 +247,7 @@ below_longer rows f n (suc more) =
     omega (arith, long, below_longer rows f n more)
 
 -- a failure at an alias, where so many are to come
-pub fails_below : (rows : ℕ → List ARow) (f : AliasRow → Bool) (n count start here there : ℕ) → n < count → here ≡ start + length (filter f (rows_below rows n)) → there ≤ here + length (filter f (map (of_alias n) (rows n)))
+pub fails_below : (rows : ℕ → List ARow) (f : AliasRow → Bool) (n count start here there : ℕ) → n < count → here ≤ start + length (filter f (rows_below rows n)) → there ≤ here + length (filter f (map (of_alias n) (rows n)))
     → there ≤ start + length (filter f (rows_below rows count))
 fails_below rows f n count start here there lt e le =
     let same : (n + 1) + (count - (n + 1)) ≡ count = omega (arith, lt) in

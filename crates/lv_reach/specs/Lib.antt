@@ -3,3 +3,4 @@ pub mod Reach
 pub mod Cost
 pub mod Far
 pub mod Walk
+pub mod Questions

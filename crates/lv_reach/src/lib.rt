@@ -7,6 +7,7 @@ mod far;
 mod laws;
 mod link;
 mod near;
+mod questions;
 mod rows;
 mod source;
 mod walk;

@@ -1,12 +1,12 @@
 //! Rows of aliases, each once.
-ghost use Rattle.std.specs.Prelude.{◌≡◌, ◌<◌, ◌^◌, [], true, length, slice_index_or, OnOk, OnErr};
+ghost use Rattle.std.specs.Prelude.{◌≡◌, ◌<◌, ◌^◌, [], true, length, map, slice_index_or, OnOk, OnErr};
 ghost use Rattle.lv_schema.specs.Once.{are_apart};
-ghost use Rattle.lv_reach.specs.Reach.{alike};
+ghost use Rattle.lv_reach.specs.Reach.{alike, of_alias};
 ghost use Rattle.lv_reach.specs.Walk.{put_all, put_behind};
 
 use crate::rows::{AliasRow, AliasRows};
 use indexmap::IndexSet;
-use lv_values::NoMemory;
+use lv_values::{NoMemory, Rows};
 use std::alloc::Global;
 use std::marker::Model;
 
@@ -71,6 +71,15 @@ impl NearRows {
     {
         for row in rows.into_vec() {
             self.put(row)?;
+        }
+        Ok(())
+    }
+    /// Puts rows of an alias behind the others, those that are not among them.
+    pub(crate) fn put_rows(&mut self, alias: u8, rows: Rows) -> Result<(), NoMemory>
+        ensures { OnOk result (self.new ≡ put_all (map (of_alias alias) rows) self.old) }
+    {
+        for row in rows.into_vec() {
+            self.put(AliasRow { alias, row })?;
         }
         Ok(())
     }

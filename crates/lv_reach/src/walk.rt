@@ -1,118 +1,124 @@
-//! The reach of a change: the near rows by a walk from the changed ones, each looked up from once, and the far aliases.
-ghost use Rattle.std.specs.Prelude.{◌≡◌, ℕ, ◌+◌, ◌≤◌, ◌<◌, ◌++◌, true, List, Some, length, map, filter, take, drop, slice_get, slice_index_or, IfOk, OnOk, OnErr};
+//! The reach of a change: the near rows by a walk from the changed ones that asks each question once, and the far aliases.
+ghost use Rattle.std.specs.Prelude.{◌≡◌, ℕ, ◌+◌, ◌≤◌, ◌<◌, ◌++◌, ◌∷◌, [], true, List, Some, cond, length, map, filter, take, drop, slice_get, slice_index_or, IfOk, OnOk, OnErr};
+ghost use Rattle.lv_reach.specs.declared.questions.Question.{Question as AQuestion};
 ghost use Rattle.lv_reach.specs.declared.rows.AliasRow.{AliasRow as ARowOf};
-ghost use Rattle.lv_reach.specs.Cost.{AreFound, IsReach, looked_up, neighbours};
-ghost use Rattle.lv_reach.specs.Reach.{AreWithin, agree, are_linked, changed_rows, of_alias, with_old};
+ghost use Rattle.lv_reach.specs.Cost.{AreFound, IsReach, looked_up};
+ghost use Rattle.lv_reach.specs.Questions.{AreAnswered, answered, ask, ask_all, found_by, looked_up_once, question_of, questions_below};
+ghost use Rattle.lv_reach.specs.Reach.{AreWithin, agree, are_linked, of_alias, with_old};
 ghost use Rattle.lv_reach.specs.Walk.{HasNear, IsWalk, put_all, rows_below};
 
-use crate::asked::{columns_to, values_to};
 use crate::changed::changed_rows;
 use crate::far::{Flags, far_aliases};
 use crate::link::Link;
 use crate::near::NearRows;
-use crate::rows::{AliasRow, AliasRows, are_linked};
+use crate::questions::{Question, Questions, look_up, question_of};
+use crate::rows::are_linked;
 use crate::source::OldRows;
 use lv_schema::Part;
-use lv_values::{NoMemory, Rows, Steps};
+use lv_values::{NoMemory, Steps};
 use std::alloc::Global;
 use std::sync::ledger::Ledger;
 
-/// Puts rows behind the others, as rows of an alias.
-fn add_of_alias(out: &mut AliasRows, alias: u8, rows: Rows) -> Result<(), NoMemory>
-    ensures { OnOk result (out.new ≡ out.old ++ map (of_alias alias) rows) }
-{
-    for row in rows.into_vec() {
-        out.push(AliasRow { alias, row })?;
-    }
-    Ok(())
-}
-
-/// Looks up the old rows of an alias that agree with a row of one that is linked to it, and puts them behind the others.
-fn add_linked<S: OldRows, L: Ledger>(
+/// Asks the last of the questions, and puts the rows that it finds behind the near rows.
+fn answer_last<S: OldRows, L: Ledger>(
     alloc: Global,
     links: &[Link],
     source: &S,
-    a: &AliasRow,
-    alias: u8,
-    out: &mut AliasRows,
+    asked: &Questions,
+    near: &mut NearRows,
     steps: &mut Steps<L>,
 ) -> Result<(), NoMemory>
     requires can { S.can_read source.now }
-    requires linked { are_linked links.now a.now.alias alias ≡ true }
-    ensures rows { OnOk result (out.new ≡ out.old ++ filter (agree links.now a.now) (map (of_alias alias) (S.rows source.now alias))) }
-    ensures cost { OnOk result (steps.new ≡ steps.old + length (filter (agree links.now a.now) (map (of_alias alias) (S.rows source.now alias)))) }
-    ensures most { OnErr result (steps.new ≤ steps.old + length (filter (agree links.now a.now) (map (of_alias alias) (S.rows source.now alias)))) }
+    requires some { 0 < length asked.now }
+    ensures near { (before : List AQuestion) (q : AQuestion) → asked.now ≡ before ++ q ∷ [] → OnOk result (near.new ≡ put_all (map (of_alias q.to) (answered links.now (S.rows source.now) q)) near.old) }
+    ensures cost { (before : List AQuestion) (q : AQuestion) → asked.now ≡ before ++ q ∷ [] → OnOk result (steps.new ≡ steps.old + length (answered links.now (S.rows source.now) q)) }
+    ensures most { (before : List AQuestion) (q : AQuestion) → asked.now ≡ before ++ q ∷ [] → steps.new ≤ steps.old + length (answered links.now (S.rows source.now) q) }
 {
-    let columns = columns_to(alloc, links, a.alias, alias)?;
-    let values = values_to(alloc, links, a, alias)?;
-    let found = source.with_values(alloc, alias, columns.as_slice(), &values, steps)?;
-    add_of_alias(out, alias, found)
+    let question = asked.last();
+    let found = look_up(alloc, links, source, question, steps)?;
+    near.put_rows(question.to, found)
 }
 
-/// Looks up the old rows of an alias that agree with a row, and puts them behind the others.
-#[tactic(auto, using(crate::proofs::Asking::none_linked))]
-fn add_agreeing<S: OldRows, L: Ledger>(
+/// Asks a question, if it was not asked before, and puts the rows that it finds behind the near rows.
+fn ask<S: OldRows, L: Ledger>(
     alloc: Global,
     links: &[Link],
     source: &S,
-    a: &AliasRow,
-    alias: u8,
-    out: &mut AliasRows,
+    question: Question,
+    asked: &mut Questions,
+    near: &mut NearRows,
     steps: &mut Steps<L>,
 ) -> Result<(), NoMemory>
-    requires { S.can_read source.now }
-    ensures rows { OnOk result (out.new ≡ out.old ++ filter (agree links.now a.now) (map (of_alias alias) (S.rows source.now alias))) }
-    ensures cost { OnOk result (steps.new ≡ steps.old + length (filter (agree links.now a.now) (map (of_alias alias) (S.rows source.now alias)))) }
-    ensures most { OnErr result (steps.new ≤ steps.old + length (filter (agree links.now a.now) (map (of_alias alias) (S.rows source.now alias)))) }
+    requires can { S.can_read source.now }
+    requires answered { AreAnswered links.now (S.rows source.now) asked.old near.old }
+    ensures asked { OnOk result (asked.new ≡ ask question asked.old) }
+    ensures near { OnOk result (near.new ≡ put_all (map (of_alias question.to) (answered links.now (S.rows source.now) question)) near.old) }
+    ensures answered { OnOk result (AreAnswered links.now (S.rows source.now) asked.new near.new) }
+    ensures cost { OnOk result (steps.new + found_by links.now (S.rows source.now) asked.old ≡ steps.old + found_by links.now (S.rows source.now) asked.new) }
+    ensures most { steps.new ≤ steps.old + length (answered links.now (S.rows source.now) question) }
 {
-    if are_linked(links, a.alias, alias) {
-        return add_linked(alloc, links, source, a, alias, out, steps);
+    if asked.ask(question)? {
+        return answer_last(alloc, links, source, asked, near, steps);
     }
     Ok(())
 }
 
-/// The old rows of so many aliases that agree with a row. Cost: a look-up for each alias that is linked to the row's.
-fn neighbours<S: OldRows, L: Ledger>(
+/// Asks from the near row at a place for the rows of an alias that agree with it, where the two aliases are linked.
+fn ask_alias<S: OldRows, L: Ledger>(
     alloc: Global,
     links: &[Link],
-    count: u8,
     source: &S,
-    a: &AliasRow,
+    at: usize,
+    alias: u8,
+    asked: &mut Questions,
+    near: &mut NearRows,
     steps: &mut Steps<L>,
-) -> Result<AliasRows, NoMemory>
-    requires { S.can_read source.now }
-    ensures rows { IfOk result (λ found. found ≡ filter (agree links.now a.now) (rows_below (S.rows source.now) count)) }
-    ensures cost { OnOk result (steps.new ≡ steps.old + length (filter (agree links.now a.now) (rows_below (S.rows source.now) count))) }
-    ensures most { OnErr result (steps.new ≤ steps.old + length (filter (agree links.now a.now) (rows_below (S.rows source.now) count))) }
+) -> Result<(), NoMemory>
+    requires can { S.can_read source.now }
+    requires at { at < length near.old }
+    requires answered { AreAnswered links.now (S.rows source.now) asked.old near.old }
+    ensures asked { (a : ARowOf) → slice_get near.old at ≡ Some a → OnOk result (asked.new ≡ ask_all (cond (are_linked links.now a.alias alias) (question_of links.now a alias ∷ []) []) asked.old) }
+    ensures near { (a : ARowOf) → slice_get near.old at ≡ Some a → OnOk result (near.new ≡ put_all (filter (agree links.now a) (map (of_alias alias) (S.rows source.now alias))) near.old) }
+    ensures answered { OnOk result (AreAnswered links.now (S.rows source.now) asked.new near.new) }
+    ensures cost { OnOk result (steps.new + found_by links.now (S.rows source.now) asked.old ≡ steps.old + found_by links.now (S.rows source.now) asked.new) }
+    ensures most { (a : ARowOf) → slice_get near.old at ≡ Some a → steps.new ≤ steps.old + length (filter (agree links.now a) (map (of_alias alias) (S.rows source.now alias))) }
 {
-    let mut found = AliasRows::new(alloc);
-    for alias in 0..count {
-        add_agreeing(alloc, links, source, a, alias, &mut found, steps)?;
+    let a = &near.as_slice()[at];
+    if are_linked(links, a.alias, alias) {
+        let question = question_of(alloc, links, a, alias)?;
+        return ask(alloc, links, source, question, asked, near, steps);
     }
-    Ok(found)
+    Ok(())
 }
 
-/// Looks up from the near row at a place, and puts what is found behind the near rows.
+/// Asks from the near row at a place for the rows of so many aliases that agree with it, and puts them behind the near
+/// rows.
 fn visit<S: OldRows, L: Ledger>(
     alloc: Global,
     links: &[Link],
     count: u8,
     source: &S,
     at: usize,
+    asked: &mut Questions,
     near: &mut NearRows,
     steps: &mut Steps<L>,
 ) -> Result<(), NoMemory>
     requires can { S.can_read source.now }
     requires at { at < length near.old }
+    requires answered { AreAnswered links.now (S.rows source.now) asked.old near.old }
+    ensures asked { (a : ARowOf) → slice_get near.old at ≡ Some a → OnOk result (asked.new ≡ ask_all (questions_below links.now a count) asked.old) }
     ensures near { (a : ARowOf) → slice_get near.old at ≡ Some a → OnOk result (near.new ≡ put_all (filter (agree links.now a) (rows_below (S.rows source.now) count)) near.old) }
-    ensures cost { (a : ARowOf) → slice_get near.old at ≡ Some a → OnOk result (steps.new ≡ steps.old + length (filter (agree links.now a) (rows_below (S.rows source.now) count))) }
-    ensures most { (a : ARowOf) → slice_get near.old at ≡ Some a → OnErr result (steps.new ≤ steps.old + length (filter (agree links.now a) (rows_below (S.rows source.now) count))) }
+    ensures answered { OnOk result (AreAnswered links.now (S.rows source.now) asked.new near.new) }
+    ensures cost { OnOk result (steps.new + found_by links.now (S.rows source.now) asked.old ≡ steps.old + found_by links.now (S.rows source.now) asked.new) }
+    ensures most { (a : ARowOf) → slice_get near.old at ≡ Some a → steps.new ≤ steps.old + length (filter (agree links.now a) (rows_below (S.rows source.now) count)) }
 {
-    let found = neighbours(alloc, links, count, source, &near.as_slice()[at], steps)?;
-    near.put_all(found)
+    for alias in 0..count {
+        ask_alias(alloc, links, source, at, alias, asked, near, steps)?;
+    }
+    Ok(())
 }
 
-/// Walks over the near rows from the changed ones: looks up from each once, also from those that it finds.
+/// Walks over the near rows from the changed ones: asks from each, also from those that it finds, and each question once.
 fn walk<S: OldRows, L: Ledger>(
     alloc: Global,
     links: &[Link],
@@ -125,13 +131,15 @@ fn walk<S: OldRows, L: Ledger>(
     requires can { S.can_read source.now }
     requires starts { IsWalk links.now (with_old (S.rows source.now) parts.now) near.old near.old 0 }
     ensures walked { OnOk result (IsWalk links.now (with_old (S.rows source.now) parts.now) near.old near.new (length near.new)) }
-    ensures cost { OnOk result (steps.new ≡ steps.old + looked_up links.now (with_old (S.rows source.now) parts.now) near.new) }
+    ensures once { OnOk result (steps.new ≡ steps.old + looked_up_once links.now (S.rows source.now) (length parts.now) near.new) }
+    ensures cost { OnOk result (steps.new ≤ steps.old + looked_up links.now (with_old (S.rows source.now) parts.now) near.new) }
     ensures most { OnErr result ((all : List ARowOf) → HasNear links.now (with_old (S.rows source.now) parts.now) all → steps.new ≤ steps.old + looked_up links.now (with_old (S.rows source.now) parts.now) all) }
 {
     let count = parts.len() as u8;
+    let mut asked = Questions::new(alloc);
     let mut at = 0;
     while at < near.len() {
-        visit(alloc, links, count, source, at, near, steps)?;
+        visit(alloc, links, count, source, at, &mut asked, near, steps)?;
         at += 1;
     }
     Ok(())
@@ -147,8 +155,9 @@ pub struct Reach {
 }
 
 /// The reach of a change. The parts tell what changes; the old rows are looked up where they can be read. There are at
-/// most 255 aliases, and each link is between two of them. Cost: that of the far aliases, and for each near row, once, a
-/// look-up in each alias that is linked to its own, each row that is found there one tick, and the hashing of it.
+/// most 255 aliases, and each link is between two of them. Cost: that of the far aliases, and a look-up for each distinct
+/// question of the near rows: an alias, one that is linked to it, and the values of a near row in the linked columns. Each
+/// row that is found is one tick and is hashed, and so are the values of each near row.
 pub fn reach_of<S: OldRows, L: Ledger>(
     alloc: Global,
     links: &[Link],
@@ -162,7 +171,8 @@ pub fn reach_of<S: OldRows, L: Ledger>(
     ensures reach { IfOk result (λ r. IsReach links.now (with_old (S.rows source.now) parts.now) r.near (λ j. slice_index_or r.far j true)) }
     ensures found { IfOk result (λ r. AreFound (with_old (S.rows source.now) parts.now) (take r.changed r.near) (drop r.changed r.near)) }
     ensures flags { IfOk result (λ r. length r.far ≡ length parts.now) }
-    ensures cost { IfOk result (λ r. steps.new ≡ steps.old + looked_up links.now (with_old (S.rows source.now) parts.now) r.near) }
+    ensures once { IfOk result (λ r. steps.new ≡ steps.old + looked_up_once links.now (S.rows source.now) (length parts.now) r.near) }
+    ensures cost { IfOk result (λ r. steps.new ≤ steps.old + looked_up links.now (with_old (S.rows source.now) parts.now) r.near) }
     ensures most { OnErr result ((near : List ARowOf) → HasNear links.now (with_old (S.rows source.now) parts.now) near → steps.new ≤ steps.old + looked_up links.now (with_old (S.rows source.now) parts.now) near) }
 {
     let far = far_aliases(alloc, links, parts)?;
