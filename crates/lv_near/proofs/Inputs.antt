@@ -114,14 +114,9 @@ module _ (b : BaseRoom) (view : ViewDef) (lo hi : ℕ) where
               ∙ reach_gives view whole (kept_by near flags) within_whole (keeps_reach own_links whole near flags reach_told flags_long)
 
         -- ---- the cost
-        module _ (start middle : ℕ) (looked : middle ≡ start + looked_up links made near) where
-          looked_told : middle ≡ start + looked_up own_links whole near
-          looked_told = looked ∙ (λ i. start + looked_up (l_is i) (made_is i) near)
-
-          pub cost_told : (end : ℕ) → end ≡ middle + whole_from far 0 (whole_parts b tables lo hi) → (all : List AliasRow) (flag : ℕ → Bool) → IsReach own_links whole all flag → end ≡ start + cost own_links whole all flag
-          cost_told end e all flag r =
-              let whole_is = ap (λ ts. whole_from far 0 (whole_parts b ts lo hi)) t_is in
-              omega (arith, e, whole_is, looked_told, one_cost own_links whole near all far flag reach_told r)
+        module _ (start middle : ℕ) (looked : middle ≤ start + looked_up links made near) where
+          looked_told : middle ≤ start + looked_up own_links whole near
+          looked_told = let same : looked_up links made near ≡ looked_up own_links whole near = λ i. looked_up (l_is i) (made_is i) near in omega (arith, looked, same)
 
           pub most_told : (end : ℕ) → end ≤ middle + whole_from far 0 (whole_parts b tables lo hi) → (all : List AliasRow) (flag : ℕ → Bool) → IsReach own_links whole all flag → end ≤ start + cost own_links whole all flag
           most_told end e all flag r =

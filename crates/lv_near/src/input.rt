@@ -59,8 +59,9 @@ fn small_parts<L: Ledger>(
 
 /// The input of the step of a view from one commit to another, read from the committed states: the net change of each
 /// alias, and of the old rows those that are near, or all of a far alias. The difference of the view over them is that
-/// over whole tables. Cost: the condensing of the entries between the commits for each alias, and that of the reach; it
-/// ticks as often as the step costs, so by what changed, unless an alias is far.
+/// over whole tables. Cost: the condensing of the entries between the commits for each alias, and that of the reach, which
+/// looks each distinct value up once; it ticks at most as often as the step costs, so by what changed, unless an alias is
+/// far.
 pub fn step_input<L: Ledger>(
     alloc: Global,
     base: &Base,
@@ -73,10 +74,8 @@ pub fn step_input<L: Ledger>(
     requires fit { (views : List AViewDef) × FitOver (defs_of base.now) views def.now (whole_parts base.now def.now.tables lo hi) }
     ensures input { IfOk result (λ input. IsSmallInput def.now lo hi (whole_parts base.now def.now.tables lo hi) input) }
     ensures same { IfOk result (λ input. difference def.now (old_sides input.parts) (new_sides input.parts) ≡ difference def.now (old_sides (whole_parts base.now def.now.tables lo hi)) (new_sides (whole_parts base.now def.now.tables lo hi))) }
-    ensures cost { (near : List ARowOf) (far : ℕ → Bool) → IsReach (links_of def.now.cond) (whole_parts base.now def.now.tables lo hi) near far
-        → OnOk result (steps.new ≡ steps.old + cost (links_of def.now.cond) (whole_parts base.now def.now.tables lo hi) near far) }
     ensures most { (near : List ARowOf) (far : ℕ → Bool) → IsReach (links_of def.now.cond) (whole_parts base.now def.now.tables lo hi) near far
-        → OnErr result (steps.new ≤ steps.old + cost (links_of def.now.cond) (whole_parts base.now def.now.tables lo hi) near far) }
+        → steps.new ≤ steps.old + cost (links_of def.now.cond) (whole_parts base.now def.now.tables lo hi) near far }
 {
     let at = TablesBetween {
         base,

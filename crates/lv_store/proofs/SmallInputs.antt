@@ -1,7 +1,7 @@
 -- What a step is computed from, read by looking up what can join a changed row.
 use Rattle.std.proofs.Common.{◌≡◌, ℕ, ◌+◌, ◌<◌, ◌≤◌, Bool, true, List, [], ◌∷◌, ◌++◌, map, length, drop, take, get_or, refl, sym, ap, ◌∙◌, subst, arith}
 use Rattle.std.proofs.lemmas.List.{drop_more, take_more}
-use Rattle.std.specs.Prelude.{nat_lt, Result, Ok, Err, OnOk, OnErr}
+use Rattle.std.specs.Prelude.{nat_lt}
 use Rattle.std.specs.List.{list_all, AllZip}
 use Rattle.lv_schema.specs.declared.forced.Forced.{Forced}
 use Rattle.lv_schema.specs.declared.part.Part.{Part}
@@ -25,11 +25,6 @@ use Rattle.lv_store.specs.Querying.{CanCompute, IsCostIn, IsInputIn, parts_in}
 as_many_defs : (tables : List Kept) → length (map (λ (k : Kept). k.def) tables) ≡ length tables
 as_many_defs [] = refl
 as_many_defs (k ∷ tables) = omega (arith, as_many_defs tables)
-
--- at most so much, however a call ends
-pub either_end : {T E : Type 0} (r : Result T E) (new most : ℕ) → OnOk r (new ≡ most) → OnErr r (new ≤ most) → new ≤ most
-either_end (Ok a) new most ok err = omega (arith, ok)
-either_end (Err e) new most ok err = err
 
 module _ (p : Store) (f : Forced) (can : CanCompute p f) (def : ViewDef) (is : def ≡ view_at p.schema.views f.view) where
   whole_are : whole_parts p.base def.tables f.lo f.hi ≡ parts_in p f
@@ -72,12 +67,11 @@ module _ (p : Store) (f : Forced) (can : CanCompute p f) (def : ViewDef) (is : d
     cost_is : cost (links_of def.cond) (whole_parts p.base def.tables f.lo f.hi) c.near c.far ≡ n
     cost_is = (λ i. cost (links_of (is i).cond) (whole_are i) c.near c.far) ∙ sym c.cost_is
 
-    pub most_is : {T E : Type 0} (r : Result T E) (old new : ℕ)
-        → ((near : List AliasRow) (far : ℕ → Bool) → IsReach (links_of def.cond) (whole_parts p.base def.tables f.lo f.hi) near far → OnOk r (new ≡ old + cost (links_of def.cond) (whole_parts p.base def.tables f.lo f.hi) near far))
-        → ((near : List AliasRow) (far : ℕ → Bool) → IsReach (links_of def.cond) (whole_parts p.base def.tables f.lo f.hi) near far → OnErr r (new ≤ old + cost (links_of def.cond) (whole_parts p.base def.tables f.lo f.hi) near far))
+    pub most_is : (old new : ℕ)
+        → ((near : List AliasRow) (far : ℕ → Bool) → IsReach (links_of def.cond) (whole_parts p.base def.tables f.lo f.hi) near far → new ≤ old + cost (links_of def.cond) (whole_parts p.base def.tables f.lo f.hi) near far)
         → new ≤ old + n
-    most_is r old new ok err =
-        let here = either_end r new (old + cost (links_of def.cond) (whole_parts p.base def.tables f.lo f.hi) c.near c.far) (ok c.near c.far reach_is) (err c.near c.far reach_is) in
+    most_is old new most =
+        let here = most c.near c.far reach_is in
         omega (arith, here, cost_is)
 
 -- ---- loops over steps

@@ -1,6 +1,5 @@
 use Rattle.std.proofs.Common.{◌∙◌}
-use Rattle.lv_reach.proofs.Asking.{on_err}
-use Rattle.lv_near.proofs.Inputs.{cost_told, fit_told, from_equal, input_told, look_up_fails, most_told, same_told, splits_told, within_found}
+use Rattle.lv_near.proofs.Inputs.{fit_told, from_equal, input_told, look_up_fails, most_told, same_told, splits_told, within_found}
 use Rattle.lv_near.proofs.input.step_input.Goals as goal
 
 pub reach_of-requires-clause-within : goal.reach_of-requires-clause-within
@@ -9,9 +8,8 @@ reach_of-requires-clause-within g c =
 
 pub returns-in_err-reach-clause-most : goal.returns-in_err-reach-clause-most
 returns-in_err-reach-clause-most g c = λ near far reach.
-    on_err c.from_residual-in_err-reach.result
-    (look_up_fails c.args.base.now c.args.def.now c.args.lo c.args.hi c.as_slice.result.now c.as_slice-3.result.now c.as_slice-2.result.now c.as_slice.ensures (c.as_slice-3.ensures ∙ c.in_ok-changes.ensures) (c.as_slice-2.ensures ∙ c.in_ok-links.ensures)
-    c.args.steps.now c.reach_of.new.steps c.in_err-reach.ensures.most near far reach)
+    look_up_fails c.args.base.now c.args.def.now c.args.lo c.args.hi c.as_slice.result.now c.as_slice-3.result.now c.as_slice-2.result.now c.as_slice.ensures (c.as_slice-3.ensures ∙ c.in_ok-changes.ensures) (c.as_slice-2.ensures ∙ c.in_ok-links.ensures)
+    c.args.steps.now c.reach_of.new.steps c.in_err-reach.ensures.most near far reach
 
 pub small_parts-requires-clause-split : goal.small_parts-requires-clause-split
 small_parts-requires-clause-split g c =
@@ -20,23 +18,21 @@ small_parts-requires-clause-split g c =
 
 pub returns-in_err-parts-clause-most : goal.returns-in_err-parts-clause-most
 returns-in_err-parts-clause-most g c = λ near far reach.
-    on_err c.from_residual-in_err-parts.result
-    (most_told c.args.base.now c.args.def.now c.args.lo c.args.hi c.as_slice.result.now c.as_slice-3.result.now c.as_slice-2.result.now c.as_slice.ensures (c.as_slice-3.ensures ∙ c.in_ok-changes.ensures) (c.as_slice-2.ensures ∙ c.in_ok-links.ensures) c.requires.fit.0 c.requires.fit.1
+    most_told c.args.base.now c.args.def.now c.args.lo c.args.hi c.as_slice.result.now c.as_slice-3.result.now c.as_slice-2.result.now c.as_slice.ensures (c.as_slice-3.ensures ∙ c.in_ok-changes.ensures) (c.as_slice-2.ensures ∙ c.in_ok-links.ensures) c.requires.fit.0 c.requires.fit.1
     c.in_ok-reach.reach.near c.in_ok-reach.reach.far c.in_ok-reach.reach.changed c.in_ok-reach.ensures.reach c.in_ok-reach.ensures.found c.in_ok-reach.ensures.flags
-    c.args.steps.now c.reach_of.new.steps c.in_ok-reach.ensures.cost c.small_parts.new.steps c.in_err-parts.ensures.most near far reach)
+    c.args.steps.now c.reach_of.new.steps c.in_ok-reach.ensures.cost c.small_parts.new.steps c.in_err-parts.ensures.most near far reach
 
 pub returns-in_err-copy-clause-most : goal.returns-in_err-copy-clause-most
 returns-in_err-copy-clause-most g c = λ near far reach.
-    on_err c.from_residual-in_err-copy.result
-    (most_told c.args.base.now c.args.def.now c.args.lo c.args.hi c.as_slice.result.now c.as_slice-3.result.now c.as_slice-2.result.now c.as_slice.ensures (c.as_slice-3.ensures ∙ c.in_ok-changes.ensures) (c.as_slice-2.ensures ∙ c.in_ok-links.ensures) c.requires.fit.0 c.requires.fit.1
+    most_told c.args.base.now c.args.def.now c.args.lo c.args.hi c.as_slice.result.now c.as_slice-3.result.now c.as_slice-2.result.now c.as_slice.ensures (c.as_slice-3.ensures ∙ c.in_ok-changes.ensures) (c.as_slice-2.ensures ∙ c.in_ok-links.ensures) c.requires.fit.0 c.requires.fit.1
     c.in_ok-reach.reach.near c.in_ok-reach.reach.far c.in_ok-reach.reach.changed c.in_ok-reach.ensures.reach c.in_ok-reach.ensures.found c.in_ok-reach.ensures.flags
-    c.args.steps.now c.reach_of.new.steps c.in_ok-reach.ensures.cost c.small_parts.new.steps (from_equal c.in_ok-parts.ensures.cost) near far reach)
+    c.args.steps.now c.reach_of.new.steps c.in_ok-reach.ensures.cost c.small_parts.new.steps (from_equal c.in_ok-parts.ensures.cost) near far reach
 
-pub returns-clause-cost : goal.returns-clause-cost
-returns-clause-cost g c = λ near far reach.
-    cost_told c.args.base.now c.args.def.now c.args.lo c.args.hi c.as_slice.result.now c.as_slice-3.result.now c.as_slice-2.result.now c.as_slice.ensures (c.as_slice-3.ensures ∙ c.in_ok-changes.ensures) (c.as_slice-2.ensures ∙ c.in_ok-links.ensures) c.requires.fit.0 c.requires.fit.1
+pub returns-clause-most : goal.returns-clause-most
+returns-clause-most g c = λ near far reach.
+    most_told c.args.base.now c.args.def.now c.args.lo c.args.hi c.as_slice.result.now c.as_slice-3.result.now c.as_slice-2.result.now c.as_slice.ensures (c.as_slice-3.ensures ∙ c.in_ok-changes.ensures) (c.as_slice-2.ensures ∙ c.in_ok-links.ensures) c.requires.fit.0 c.requires.fit.1
     c.in_ok-reach.reach.near c.in_ok-reach.reach.far c.in_ok-reach.reach.changed c.in_ok-reach.ensures.reach c.in_ok-reach.ensures.found c.in_ok-reach.ensures.flags
-    c.args.steps.now c.reach_of.new.steps c.in_ok-reach.ensures.cost c.small_parts.new.steps c.in_ok-parts.ensures.cost near far reach
+    c.args.steps.now c.reach_of.new.steps c.in_ok-reach.ensures.cost c.small_parts.new.steps (from_equal c.in_ok-parts.ensures.cost) near far reach
 
 pub new-requires : goal.new-requires
 new-requires g c =

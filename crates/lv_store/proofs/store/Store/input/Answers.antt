@@ -14,4 +14,4 @@ returns-clause-input g c =
 
 pub returns-clause-most : goal.returns-clause-most
 returns-clause-most g c = λ n cost.
-    most_is c.args.self.now c.args.step c.requires.can c.view-def.result.now c.view-def.ensures n cost c.step_input.result c.args.steps.now c.step_input.new.steps c.step_input.ensures.cost c.step_input.ensures.most
+    most_is c.args.self.now c.args.step c.requires.can c.view-def.result.now c.view-def.ensures n cost c.args.steps.now c.step_input.new.steps c.step_input.ensures.most
