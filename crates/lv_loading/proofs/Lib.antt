@@ -1,5 +1,4 @@
 pub mod Acting
-pub mod AddedTasks
 pub mod Fits
 pub mod Free
 pub mod MadeViews

@@ -1,23 +1,20 @@
 -- Views over the states at their points.
-use Rattle.std.proofs.Common.{◌≡◌, ℕ, ◌+◌, ◌<◌, ◌≤◌, ◌⊎◌, inl, inr, Bool, true, false, not, ◌&&◌, nat_lt, List, [], ◌∷◌, ◌++◌, map, length, refl, sym, ap, ap₂, ◌∙◌, subst, arith}
-use Rattle.std.specs.Prelude.{◌||◌, slice_index, slice_index_or}
-use Rattle.std.specs.List.{AllByRecursion, list_all, list_any}
-use Rattle.std.specs.Ordering.{is_eq}
-use Rattle.std.specs.declared.cmp.Ordering.TheVariants.{Less}
+use Rattle.std.proofs.Common.{◌≡◌, ℕ, ◌+◌, ◌<◌, ◌≤◌, ◌⊎◌, inl, inr, true, List, [], ◌∷◌, ◌++◌, map, length, sym, ap, ◌∙◌, subst, arith}
+use Rattle.std.specs.Prelude.{slice_index, slice_index_or}
+use Rattle.std.specs.List.{AllByRecursion}
 use Rattle.std.proofs.Math.ListN.{get_or-map}
 use Rattle.std.proofs.Math.Path.{subst₂}
-use Rattle.std.proofs.lemmas.Bool.Decides.{nat_tests}
 use Rattle.std.proofs.lemmas.List.{get_or_append_left, get_or_push, length-map, length_push}
 use Rattle.lv_values.specs.declared.value.Value.{Value}
-use Rattle.lv_values.specs.Order.{row_cmp, row_eq}
+use Rattle.lv_values.specs.Order.{row_cmp}
 use Rattle.lv_schema.specs.declared.signed.SignedRow.{SignedRow}
 use Rattle.lv_schema.specs.declared.view.ViewDef.{ViewDef}
 use Rattle.lv_schema.specs.Applicable.{AreNetted}
-use Rattle.lv_schema.specs.Databases.{Db, IsDatabase, rows_of}
+use Rattle.lv_schema.specs.Databases.{Db, IsDatabase}
 use Rattle.lv_schema.specs.Differences.{changes, groups_of, groups_over, summed_columns, view_difference}
 use Rattle.lv_schema.specs.Groups.{view_rows_over}
 use Rattle.lv_schema.specs.JoinViews.{parts_of}
-use Rattle.lv_schema.specs.Once.{Ascends, are_apart}
+use Rattle.lv_schema.specs.Once.{Ascends}
 use Rattle.lv_schema.specs.SignedRows.{entries_of}
 use Rattle.lv_schema.specs.World.{World, last, point, snap, view_at}
 use Rattle.lv_schema.proofs.Applies.{groups_counted, selected_few}
@@ -26,41 +23,21 @@ use Rattle.lv_schema.proofs.ViewRows.{view_rows_ascend}
 use Rattle.lv_group.specs.Gathered.{has_tuples}
 use Rattle.lv_viewrows.specs.Changed.{after_changes}
 use Rattle.lv_viewrows.specs.Kept.{ViewKept}
-use Rattle.lv_stands.specs.Kept.{TableKept, no_view_kept, shown, view_kept}
+use Rattle.lv_stands.specs.Kept.{no_view_kept, view_kept}
 use Rattle.lv_stands.specs.Kept as stands
 use Rattle.lv_stands.specs.Moves.{versions_made}
 use Rattle.lv_stands.specs.Stands.{StandsFor}
 use Rattle.lv_stands.proofs.Statements.{point_within}
 use Rattle.lv_stands.proofs.ViewGroups.{groups_lead, groups_netted}
-use Rattle.lv_base.proofs.Places.{kept_at}
+use Rattle.lv_made.specs.Views.{parts_at}
+use Rattle.lv_made.proofs.Shown.{parts_shown}
 use Rattle.lv_loading.specs.declared.loaded.Loaded.{Loaded}
 use Rattle.lv_loading.specs.declared.parts.Parts.{Parts}
 use Rattle.lv_loading.specs.Loads.{LoadingStands, no_rows, loaded_kept}
 use Rattle.lv_loading.specs.Loads as loads
-use Rattle.lv_loading.specs.Making.{AreMade, IsMadeAt, parts_at, rows_at}
+use Rattle.lv_loading.specs.Making.{AreMade, IsMadeAt}
 use Rattle.lv_loading.specs.Taking.{kept_in}
 use Rattle.lv_loading.proofs.Standing.{made_at, stands_with}
-
--- rows that ascend are distinct
-none_same : (row : List Value) (rows : List (List Value)) → AllByRecursion (λ other. row_cmp row other ≡ Less) rows → list_any (row_eq row) rows ≡ false
-none_same row [] a = refl
-none_same row (other ∷ rows) a = (λ i. is_eq (a.0 i) || list_any (row_eq row) rows) ∙ none_same row rows a.1
-
-pub ascends_distinct : (rows : List (List Value)) → Ascends row_cmp rows → are_apart row_eq rows ≡ true
-ascends_distinct [] a = refl
-ascends_distinct (row ∷ rows) a = (λ i. not (none_same row rows a.0 i) && are_apart row_eq rows) ∙ ascends_distinct rows a.1
-
-and_both : (a b : Bool) → (a && b) ≡ true → (a ≡ true) × (b ≡ true)
-and_both true b e = (refl, e)
-and_both false b e = absurd (cc)
-
-map_below : {X : Type 0} (f g : ℕ → X) (n : ℕ) → ((t : ℕ) → t < n → f t ≡ g t) → (ts : List ℕ) → list_all (λ t. nat_lt t n) ts ≡ true → map f ts ≡ map g ts
-map_below f g n same [] e = refl
-map_below f g n same (t ∷ ts) e =
-    let es = and_both (nat_lt t n) (list_all (λ t. nat_lt t n) ts) e in
-    let test = es.0 in
-    let lt : t < n = grind (arith, nat_tests) in
-    ap₂ (λ x xs. x ∷ xs) (same t lt) (map_below f g n same ts es.1)
 
 module _ (p : Parts) (w : World) (is : LoadingStands w (kept_in p)) where
   module _ (v : ℕ) (lt : v < length p.schema.views) where
@@ -85,9 +62,7 @@ module _ (p : Parts) (w : World) (is : LoadingStands w (kept_in p)) where
     pub parts_are : parts_at p.base (slice_index p.upkeep.kept.points v) (view_at p.schema.views v).tables ≡ parts_of (view_at w.visible.views v).tables (snap w.visible (point w.upkeep v))
     parts_are =
         (λ i. parts_at p.base (point_is i) (same_view i).tables)
-        ∙ map_below (rows_at p.base (point w.upkeep v)) (rows_of db) (length w.visible.tables)
-        (λ t h. ap (λ (k : TableKept). shown (point w.upkeep v) k.versions) (sym (kept_at p.base.tables t)) ∙ (is.base_stands.each t h).reads (point w.upkeep v) (omega arith) within)
-        (view_at w.visible.views v).tables (is.steady.sound.schema.each_view v there).in_use
+        ∙ parts_shown w.visible 0 p.base is.base_stands (point w.upkeep v) (omega arith) within (view_at w.visible.views v).tables (is.steady.sound.schema.each_view v there).in_use
 
     pub distinct_there : Ascends row_cmp (view_rows_over (view_at p.schema.views v) (parts_at p.base (slice_index p.upkeep.kept.points v) (view_at p.schema.views v).tables))
     distinct_there =

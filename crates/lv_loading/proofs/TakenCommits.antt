@@ -1,33 +1,27 @@
 -- The record of a commit is taken.
-use Rattle.std.proofs.Common.{◌≡◌, ℕ, zero, suc, ◌+◌, ◌<◌, ◌≤◌, Bool, true, false, cond, not, ◌&&◌, nat_lt, nat_le, List, [], ◌∷◌, ◌++◌, map, length, get_or, Option, None, refl, sym, ap, ap₂, ◌∙◌, subst, arith}
-use Rattle.std.specs.Prelude.{◌==◌, ◌-◌, option_map, slice_get, slice_set}
-use Rattle.std.specs.List.{cons_option, filter, filter_map, last_or, list_all, range_with_len}
+use Rattle.std.proofs.Common.{◌≡◌, ℕ, suc, ◌+◌, ◌<◌, Bool, true, false, cond, not, ◌&&◌, nat_lt, nat_le, List, [], ◌∷◌, ◌++◌, length, get_or, refl, sym, ap, ap₂, ◌∙◌, subst, arith}
+use Rattle.std.specs.Prelude.{◌==◌, is_some, slice_get}
+use Rattle.std.specs.List.{filter, list_all, range_with_len}
 use Rattle.std.proofs.lemmas.Bool.Decides.{nat_tests}
 use Rattle.std.proofs.lemmas.List.{length-map}
-use Rattle.std.proofs.lemmas.List.Elements.{filter-append}
-use Rattle.lv_values.specs.Ascending.{ascending}
 use Rattle.lv_schema.specs.declared.action.Action.{Action}
-use Rattle.lv_schema.specs.declared.fault.Fault.TheVariants.{Conflict}
 use Rattle.lv_schema.specs.declared.net.Net.{Net}
-use Rattle.lv_schema.specs.declared.open.Open.{Open}
 use Rattle.lv_schema.specs.declared.rec.Rec.TheVariants.{Commit}
 use Rattle.lv_schema.specs.declared.table.TableDef.{TableDef}
 use Rattle.lv_schema.specs.Cases.{with_commit}
-use Rattle.lv_schema.specs.Commits.{Place, conflict_of, last_writer, merged, place_cmp, writes, written_place}
 use Rattle.lv_schema.specs.Databases.{Db, IsDatabase, rows_of}
 use Rattle.lv_schema.specs.Effects.{acted_all}
-use Rattle.lv_schema.specs.SoundWorld.{IsOpen, IsSound}
+use Rattle.lv_schema.specs.SoundWorld.{IsSound}
 use Rattle.lv_schema.specs.UpkeepCases.{need}
-use Rattle.lv_schema.specs.World.{Visible, World, commit_at, last, numbers, snap, table_at}
+use Rattle.lv_schema.specs.World.{Visible, World, last, snap, table_at}
 use Rattle.lv_schema.proofs.Condenses as condenses
-use Rattle.lv_schema.proofs.FirstCommitter.{merged_is_replay}
 use Rattle.lv_schema.proofs.Replay.{all_up, keyed_database}
 use Rattle.lv_record.specs.Kept.{is_kept_action}
 use Rattle.lv_replay.specs.Applies.{can_act, commit_applies}
 use Rattle.lv_replay.specs.Numbers.{number_rises}
 use Rattle.lv_replay.specs.Replayed.{replayed}
-use Rattle.lv_replay.proofs.Applied.{IsNext, acted_database, applied_commit}
-use Rattle.lv_replay.proofs.Replays.{commit_made_sound, replayed_steady, replayed_stopped}
+use Rattle.lv_replay.proofs.Applied.{IsNext, applied_commit}
+use Rattle.lv_replay.proofs.Replays.{alone_here, free_here, leads_here, made_sound, open_here, replayed_steady, replayed_stopped}
 use Rattle.lv_replay.proofs.Tests.{and_right}
 use Rattle.lv_stands.specs.Kept.{BaseKept, shown}
 use Rattle.lv_stands.specs.Moves.{BaseCommits, rows_after, with_tasks}
@@ -39,14 +33,21 @@ use Rattle.lv_versions.specs.Versions.{Kept}
 use Rattle.lv_base.specs.Bases.{BaseRoom, CanCommit, IsReady, defs_of, last_state, net_in, table_in}
 use Rattle.lv_base.proofs.Prepared.{state_at_place}
 use Rattle.lv_base.proofs.Told.{told_state, told_tables}
+use Rattle.lv_made.specs.Limits.{is_full}
 use Rattle.lv_loading.specs.declared.parts.Parts.{Parts}
 use Rattle.lv_loading.specs.Loads.{LoadingKept, LoadingStands}
-use Rattle.lv_loading.specs.Taking.{has_few, is_full, is_numbered, kept_in, may_commit, stay_few}
+use Rattle.lv_loading.specs.Taking.{has_few, is_numbered, kept_in, may_commit}
 use Rattle.lv_loading.proofs.Acting.{act_of}
 
 -- ---- no table gets too many rows
-pub few_step : (q : ℕ → Bool) (t n : ℕ) → t < n → list_all q (range_with_len t (n - t)) ≡ (q t && list_all q (range_with_len (t + 1) (n - (t + 1))))
-few_step q t n lt = ap (λ m. list_all q (range_with_len t m)) (let e : n - t ≡ suc (n - (t + 1)) = omega arith in e)
+-- the first that passes a test is none where all fail it
+none_passes : {X : Type 0} (q : X → Bool) (xs : List X) → not (is_some (slice_get (filter q xs) 0)) ≡ list_all (λ x. not (q x)) xs
+none_passes q [] = refl
+none_passes q (x ∷ xs) = by (q x) (none_passes q xs)
+  where
+    by : (b : Bool) → not (is_some (slice_get (filter q xs) 0)) ≡ list_all (λ x. not (q x)) xs → not (is_some (slice_get (cond b (x ∷ filter q xs) (filter q xs)) 0)) ≡ (not b && list_all (λ x. not (q x)) xs)
+    by true h = refl
+    by false h = h
 
 all_range : {X : Type 0} (p : X → Bool) (q : ℕ → Bool) (d : X) (xs : List X) (a : ℕ) → ((i : ℕ) → i < length xs → q (a + i) ≡ p (get_or xs i d)) → list_all q (range_with_len a (length xs)) ≡ list_all p xs
 all_range p q d [] a h = refl
@@ -63,9 +64,10 @@ not_more n = by (nat_lt 65535 n) refl (nat_le n 65535) refl
     by false e true f = refl
     by false e false f = absurd (grind (arith, nat_tests))
 
-pub few_is : (b : BaseRoom) (actions : List Action) (nets : List Net) → IsReady b actions nets → stay_few b nets ≡ has_few actions b
+pub few_is : (b : BaseRoom) (actions : List Action) (nets : List Net) → IsReady b actions nets → not (is_some (slice_get (filter (is_full b nets) (range_with_len 0 (length nets))) 0)) ≡ has_few actions b
 few_is b actions nets ready =
-    ap (λ n. list_all (λ t. not (is_full b nets t)) (range_with_len 0 n)) (ready.all ∙ sym long)
+    none_passes (is_full b nets) (range_with_len 0 (length nets))
+    ∙ ap (λ n. list_all (λ t. not (is_full b nets t)) (range_with_len 0 n)) (ready.all ∙ sym long)
     ∙ all_range (λ rows. nat_le (length rows) 65535) (λ t. not (is_full b nets t)) [] after 0 (λ t lt. each t (omega (arith, lt, long)))
   where
     after : Db
@@ -139,50 +141,18 @@ module _ (old mid : Parts) (same : kept_in mid ≡ kept_in old) (number : ℕ) (
   prepared_told few e w is = sym (commit_told old w is number actions) ∙ (λ i. may i && has_few actions old.base) ∙ sym (few_same w is) ∙ e
 
 -- ---- and what is kept after it
-none_first : {X : Type 0} (xs : List X) → xs ≡ [] → slice_get xs 0 ≡ None
-none_first xs e = ap (λ ys. slice_get ys 0) e
-
-all_none : {X Y : Type 0} (f : X → Option Y) → ((x : X) → f x ≡ None) → (xs : List X) → filter_map f xs ≡ []
-all_none f none [] = refl
-all_none f none (x ∷ xs) = ap (λ y. cons_option y (filter_map f xs)) (none x) ∙ all_none f none xs
-
-none_above : (q : ℕ → Bool) (n m : ℕ) → n ≤ m → filter (λ k. nat_lt m k && q k) (numbers n) ≡ []
-none_above q zero m le = refl
-none_above q (suc n) m le =
-    let out : nat_lt m (suc n) ≡ false = grind (arith, nat_tests) in
-    filter-append (λ k. nat_lt m k && q k) (numbers n) (suc n ∷ [])
-    ∙ ap (λ xs. xs ++ filter (λ k. nat_lt m k && q k) (suc n ∷ [])) (none_above q n m (omega arith))
-    ∙ ap (λ b. cond {A = List ℕ} (b && q (suc n)) (suc n ∷ []) []) out
-
 module _ (s : Visible) (sound : IsSound s) (number : ℕ) (actions : List Action) (next : IsNext s number actions) where
   abbrev after : Db
   after = acted_all s.tables (snap s (last s)) actions
-
-  abbrev alone_here : Open
-  alone_here = record { snapshot = last s; own = after; actions = actions; changes = 0 }
-
-  open_here : IsOpen s alone_here
-  open_here = record { began = omega arith; can_act = next.can; leads = refl; fits = acted_database s.tables (snap s (last s)) actions (sound.fits (last s) (omega arith)) next.can next.few }
-
-  no_writer : (at : Place) → last_writer s (last s) at ≡ None
-  no_writer at = ap (last_or None) (none_above (λ k. writes s.tables (commit_at s.commits k) at) (last s) (last s) (omega arith))
-
-  free_here : conflict_of s alone_here ≡ None
-  free_here = none_first _ (all_none (λ at. option_map (Conflict at.0 at.1) (last_writer s (last s) at)) (λ at. ap (option_map (Conflict at.0 at.1)) (no_writer at)) (ascending place_cmp (map (written_place s.tables) actions)))
-
-  leads_here : merged s alone_here ≡ after
-  leads_here = merged_is_replay s sound alone_here open_here free_here
-
-  sound_then : IsSound (with_commit 0 alone_here s)
-  sound_then = subst (λ (db : Db). IsSound (record s { snaps = s.snaps ++ db ∷ []; commits = s.commits ++ actions ∷ []; sessions = slice_set s.sessions 0 None })) (sym leads_here) (commit_made_sound s sound number actions next)
 
   abbrev then_visible : Visible
   then_visible = record s { snaps = s.snaps ++ after ∷ []; commits = s.commits ++ actions ∷ [] }
 
   base_then : (b new : BaseKept) → BaseStands s 0 b → BaseCommits s.tables actions b new → BaseStands then_visible 0 new
   base_then b new is commits =
-      same_base (with_commit 0 alone_here s) then_visible 0 new refl (ap (λ (db : Db). s.snaps ++ db ∷ []) (sym leads_here)) refl refl
-      (base_committed s sound 0 alone_here 0 b new (omega arith) sound_then open_here free_here is commits)
+      let here = alone_here s sound number actions next in
+      same_base (with_commit 0 here s) then_visible 0 new refl (ap (λ (db : Db). s.snaps ++ db ∷ []) (sym (leads_here s sound number actions next))) refl refl
+      (base_committed s sound 0 here 0 b new (omega arith) (made_sound s sound number actions next) (open_here s sound number actions next) (free_here s sound number actions next) is commits)
 
 module _ (k : LoadingKept) (number : ℕ) (actions : List Action) (w : World) (is : LoadingStands w k) (applied : commit_applies number actions w.visible ≡ true) where
   next_there : IsNext w.visible number actions

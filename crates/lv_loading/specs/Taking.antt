@@ -1,13 +1,12 @@
 -- What taking one record says and keeps, and the actions of a commit, told from what is kept.
 use Rattle.std.specs.Prelude.{◌≡◌, ℕ, ◌≤◌, ◌+◌, ◌<◌, ◌^◌, Bool, true, false, not, ◌&&◌, ◌==◌, nat_lt, nat_le, cond, is_some, List, [], ◌∷◌, ◌++◌, length, Option, Some, None, Result, Ok, Err}
-use Rattle.std.specs.List.{list_all, range_with_len}
+use Rattle.std.specs.List.{list_all}
 use Rattle.lv_values.specs.declared.memory.NoMemory.{NoMemory}
 use Rattle.lv_values.specs.declared.value.Value.{Value}
 use Rattle.lv_values.specs.Order.{row_eq}
 use Rattle.lv_schema.specs.declared.action.Action.{Action}
 use Rattle.lv_schema.specs.declared.action.ActionKind.{ActionKind}
 use Rattle.lv_schema.specs.declared.action.ActionKind.TheVariants.{Insert, Delete}
-use Rattle.lv_schema.specs.declared.net.Net.{Net}
 use Rattle.lv_schema.specs.declared.rec.Rec.{Rec}
 use Rattle.lv_schema.specs.declared.table.TableDef.{TableDef}
 use Rattle.lv_schema.specs.declared.view.ViewDef.{ViewDef}
@@ -18,12 +17,11 @@ use Rattle.lv_schema.specs.World.{World}
 use Rattle.lv_overlay.specs.declared.put.Put.{Put}
 use Rattle.lv_overlay.specs.Puts.{over}
 use Rattle.lv_upkeep.specs.Moves.{upkeep_with_view}
-use Rattle.lv_stands.specs.Kept.{shown}
-use Rattle.lv_stands.specs.Moves.{rows_after, table_new}
+use Rattle.lv_stands.specs.Moves.{table_new}
 use Rattle.lv_replay.specs.Applies.{applies, can_act}
 use Rattle.lv_replay.specs.Numbers.{number_rises}
 use Rattle.lv_replay.specs.Replayed.{replayed}
-use Rattle.lv_base.specs.Bases.{BaseRoom, IsReady, base_of, defs_of, last_state, net_in, table_in}
+use Rattle.lv_base.specs.Bases.{BaseRoom, IsReady, base_of, defs_of, last_state}
 use Rattle.lv_base.specs.declared.ready.Ready.{Ready}
 use Rattle.lv_loading.specs.declared.parts.Parts.{Parts}
 use Rattle.lv_loading.specs.Loads.{LoadingKept, LoadingStands}
@@ -83,13 +81,7 @@ is_numbered number actions b = (number == b.number + 1) && (nat_lt 0 (length act
 abbrev pub may_commit : ℕ → List Action → BaseRoom → Bool
 may_commit number actions b = is_numbered number actions b && can_act (defs_of b) (last_state b) actions
 
--- whether a table would have more rows than it may have, and whether none has after the actions
-abbrev pub is_full : BaseRoom → List Net → ℕ → Bool
-is_full b nets t = nat_lt 65535 (rows_after (length (shown b.number (table_in b.tables t).versions)) (net_in nets t))
-
-abbrev pub stay_few : BaseRoom → List Net → Bool
-stay_few b nets = list_all (λ t. not (is_full b nets t)) (range_with_len 0 (length nets))
-
+-- whether no table has more rows than it may have after the actions
 abbrev pub has_few : List Action → BaseRoom → Bool
 has_few actions b = list_all (λ rows. nat_le (length rows) 65535) (acted_all (defs_of b) (last_state b) actions)
 

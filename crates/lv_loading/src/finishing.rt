@@ -3,8 +3,8 @@ ghost use Rattle.std.specs.Prelude.{◌≡◌, ◌<◌, ◌≤◌, length, IfOk}
 ghost use Rattle.lv_loading.specs.Making.{AreMade, IsMadeAt};
 ghost use Rattle.lv_loading.specs.Taking.{IsWhole};
 
-use crate::making::{made_view, parts_at};
 use crate::parts::Parts;
+use lv_made::{made_view, parts_at};
 use lv_near::index_links;
 use lv_values::{Copying, NoMemory, Room, Steps};
 use lv_viewrows::ViewRows;

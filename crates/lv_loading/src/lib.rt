@@ -8,7 +8,6 @@ mod conditions;
 mod finishing;
 mod loaded;
 mod loading;
-mod making;
 mod marks;
 mod names;
 mod parts;

@@ -98,19 +98,19 @@ module _ (s : Visible) (sound : IsSound s) (number : ℕ) (actions : List Action
   abbrev after : Db
   after = acted_all s.tables (snap s (last s)) actions
 
-  abbrev alone_here : Open
+  abbrev pub alone_here : Open
   alone_here = record { snapshot = last s; own = after; actions = actions; changes = 0 }
 
-  open_here : IsOpen s alone_here
+  pub open_here : IsOpen s alone_here
   open_here = record { began = omega arith; can_act = next.can; leads = refl; fits = acted_database s.tables (snap s (last s)) actions (sound.fits (last s) (omega arith)) next.can next.few }
 
   no_writer : (at : Place) → last_writer s (last s) at ≡ None
   no_writer at = ap (last_or None) (none_above (λ k. writes s.tables (commit_at s.commits k) at) (last s) (last s) (omega arith))
 
-  free_here : conflict_of s alone_here ≡ None
+  pub free_here : conflict_of s alone_here ≡ None
   free_here = none_first _ (all_none (λ at. option_map (Conflict at.0 at.1) (last_writer s (last s) at)) (λ at. ap (option_map (Conflict at.0 at.1)) (no_writer at)) (ascending place_cmp (map (written_place s.tables) actions)))
 
-  leads_here : merged s alone_here ≡ after
+  pub leads_here : merged s alone_here ≡ after
   leads_here = merged_is_replay s sound alone_here open_here free_here
 
   few_enough : (t : ℕ) → nat_lt 65535 (length (rows_of (merged s alone_here) t)) ≡ false
@@ -121,10 +121,10 @@ module _ (s : Visible) (sound : IsSound s) (number : ℕ) (actions : List Action
   room_here : merged_full s alone_here ≡ None
   room_here = ap (option_map MergedFull) (none_first _ (filter_none (λ t. nat_lt 65535 (length (rows_of (merged s alone_here) t))) few_enough (range_with_len 0 (length s.tables))))
 
-  made_sound : IsSound (with_commit 0 alone_here s)
+  pub made_sound : IsSound (with_commit 0 alone_here s)
   made_sound = commit_sound s sound alone_here open_here free_here room_here 0 next.some
 
-  pub commit_made_sound : IsSound (record s { snaps = s.snaps ++ after ∷ []; commits = s.commits ++ actions ∷ []; sessions = slice_set s.sessions 0 None })
+  commit_made_sound : IsSound (record s { snaps = s.snaps ++ after ∷ []; commits = s.commits ++ actions ∷ []; sessions = slice_set s.sessions 0 None })
   commit_made_sound = subst (λ (db : Db). IsSound (record s { snaps = s.snaps ++ db ∷ []; commits = s.commits ++ actions ∷ []; sessions = slice_set s.sessions 0 None })) leads_here made_sound
 
 -- ---- a record that applies to what a stop leaves

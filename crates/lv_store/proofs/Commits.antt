@@ -39,10 +39,11 @@ use Rattle.lv_base.specs.declared.ready.Ready.{Ready}
 use Rattle.lv_base.specs.Bases.{BaseRoom, CanCommit, IsReady, base_of, defs_of}
 use Rattle.lv_base.proofs.Places.{kept_at}
 use Rattle.lv_base.proofs.Told.{told_commit, told_tables}
+use Rattle.lv_made.specs.Limits.{is_full}
 use Rattle.lv_store.specs.declared.store.Store.{Store}
 use Rattle.lv_store.specs.Answering.{wrote}
 use Rattle.lv_store.specs.declared.settings.Settings.{Settings}
-use Rattle.lv_store.specs.Committing.{MayCommit, is_full, next_record, with_commit}
+use Rattle.lv_store.specs.Committing.{MayCommit, next_record, with_commit}
 use Rattle.lv_store.specs.Kept.{IsStore, Stands, StoreKept, is_used, kept, rows_in, store_of}
 use Rattle.lv_store.proofs.Standing.{any_journal, each_set, live_at}
 

@@ -1,9 +1,7 @@
-pub mod AddedTasks
 pub mod ChangedParts
 pub mod CleanedParts
 pub mod Commits
 pub mod EvaluatedViews
-pub mod FirstFull
 pub mod Forcing
 pub mod JoinedSteps
 pub mod MadeTables

@@ -30,10 +30,11 @@ use Rattle.lv_stands.specs.Stands.{StandsFor}
 use Rattle.lv_stands.proofs.Cleans.{live_kept_is}
 use Rattle.lv_stands.proofs.Whole.{lengths_are}
 use Rattle.lv_upkeep.specs.Moves.{upkeep_with_view}
+use Rattle.lv_made.specs.Views.{IsMadeView, parts_at}
 use Rattle.lv_store.specs.declared.store.Store.{Store}
 use Rattle.lv_store.specs.declared.settings.Settings.{Settings}
 use Rattle.lv_store.specs.Answering.{wrote}
-use Rattle.lv_store.specs.MadeViews.{IsMadeView, last_parts, with_view}
+use Rattle.lv_store.specs.MadeViews.{with_view}
 use Rattle.lv_store.specs.Kept.{IsStore, Stands, StoreKept, is_used, kept, no_rows, rows_in, rows_of, store_of}
 use Rattle.lv_store.proofs.EvaluatedViews.{bound_there, parts_are}
 use Rattle.lv_store.proofs.Standing.{any_journal}
@@ -90,12 +91,12 @@ module _ (p : Store) (def : ViewDef) (bound : IsBoundView p.schema.tables p.sche
       subst₂ (λ (ts : List TableDef) (vs : List ViewDef). IsBoundView ts vs (record def { created = p.base.number })) (sym is.tables_are) (sym is.views_are)
       (subst (λ m. IsBoundView s.tables s.views (record def { created = m })) (sym is.base_stands.number_is) here)
 
-  module _ (v : viewrows.ViewKept) (made : IsMadeView made_def p.base.number (last_parts p.base def.tables) v) (nobody : live_kept p.txns ≡ []) (keeps : ViewKeeps) where
+  module _ (v : viewrows.ViewKept) (made : IsMadeView made_def p.base.number (parts_at p.base p.base.number def.tables) v) (nobody : live_kept p.txns ≡ []) (keeps : ViewKeeps) where
     view_case : (w : World) → Stands w (store_of p) → Stands (made_world def w) (with_view made_def v (store_of p))
     view_case w is =
         let j = w.upkeep.journal in
         let e = kept j (store_of p) in
-        let parts = last_parts p.base def.tables in
+        let parts = parts_at p.base p.base.number def.tables in
         let rows = view_rows_over def parts in
         let groups = groups_over def parts in
         let same = parts_are p def bound w is in
@@ -150,13 +151,13 @@ module _ (p q : Store) (whole : IsStore p) (same : store_of q ≡ store_of p) (d
   bound_now = subst (IsBoundView q.schema.tables q.schema.views) (sym now_made) (created_bound q def bound_then whole.world (subst (Stands whole.world) (sym same) whole.stands))
 
 -- a view that was made at the last commit, and is added
-module _ (p new : Store) (def : ViewDef) (bound : IsBoundView p.schema.tables p.schema.views def) (created : def.created ≡ p.base.number) (v : viewrows.ViewKept) (made : IsMadeView def p.base.number (last_parts p.base def.tables) v)
+module _ (p new : Store) (def : ViewDef) (bound : IsBoundView p.schema.tables p.schema.views def) (created : def.created ≡ p.base.number) (v : viewrows.ViewKept) (made : IsMadeView def p.base.number (parts_at p.base p.base.number def.tables) v)
     (store : store_of new ≡ with_view def v (store_of p)) (rows : new.rows.list ≡ p.rows.list ++ v ∷ []) (nobody : live_kept p.txns ≡ []) (keeps : ViewKeeps) where
   same_def : def ≡ record def { created = p.base.number }
   same_def = ap (λ (n : ℕ). record def { created = n }) created
 
-  made_then : IsMadeView (record def { created = p.base.number }) p.base.number (last_parts p.base def.tables) v
-  made_then = subst (λ (d : ViewDef). IsMadeView d p.base.number (last_parts p.base d.tables) v) same_def made
+  made_then : IsMadeView (record def { created = p.base.number }) p.base.number (parts_at p.base p.base.number def.tables) v
+  made_then = subst (λ (d : ViewDef). IsMadeView d p.base.number (parts_at p.base p.base.number d.tables) v) same_def made
 
   store_then : store_of new ≡ with_view (record def { created = p.base.number }) v (store_of p)
   store_then = store ∙ ap (λ (d : ViewDef). with_view d v (store_of p)) same_def

@@ -1,8 +1,7 @@
 -- What holds of the parts where they stand for a world.
-use Rattle.std.proofs.Common.{◌≡◌, ℕ, ◌<◌, ◌≤◌, true, List, [], ◌∷◌, map, length, Option, Some, None, refl, sym, ap, ap₂, ◌∙◌, subst, arith}
+use Rattle.std.proofs.Common.{◌≡◌, ℕ, ◌<◌, ◌≤◌, true, List, map, length, Option, Some, None, sym, ap, ◌∙◌, subst, arith}
 use Rattle.std.specs.Prelude.{nat_lt, slice_index_or, unwrap_or, option_map}
 use Rattle.std.specs.List.{list_all}
-use Rattle.std.proofs.lemmas.Bool.Decides.{nat_tests}
 use Rattle.std.proofs.lemmas.List.{length-map}
 use Rattle.std.proofs.Math.ListN.{get_or-map}
 use Rattle.lv_schema.specs.declared.open.Open.{Open}
@@ -27,20 +26,11 @@ use Rattle.lv_stands.proofs.Ints.{tuples_over_are_ints}
 use Rattle.lv_stands.proofs.Lists.{zip_get}
 use Rattle.lv_stands.proofs.Statements as statements
 use Rattle.lv_base.specs.Bases.{kept_of, no_versions, table_in}
+use Rattle.lv_made.proofs.Shown.{map_below}
 use Rattle.lv_store.specs.declared.store.Store.{Store}
 use Rattle.lv_store.specs.Querying.{own_rows_in, snapshot_in}
 use Rattle.lv_store.specs.Kept.{Stands, kept, store_of}
 use Rattle.lv_store.proofs.Standing.{live_at}
-use Rattle.lv_store.proofs.Views.{both}
-
--- two functions that agree below a number
-pub map_below : {X : Type 0} (f g : ℕ → X) (n : ℕ) → ((t : ℕ) → t < n → f t ≡ g t) → (ts : List ℕ) → list_all (λ t. nat_lt t n) ts ≡ true → map f ts ≡ map g ts
-map_below f g n same [] e = refl
-map_below f g n same (t ∷ ts) e =
-    let es = both (nat_lt t n) (list_all (λ t. nat_lt t n) ts) e in
-    let test = es.0 in
-    let lt : t < n = grind (arith, nat_tests) in
-    ap₂ (λ x xs. x ∷ xs) (same t lt) (map_below f g n same ts es.1)
 
 module _ (p : Store) (w : World) (is : Stands w (store_of p)) where
   pub rows_long : length p.rows.list ≡ length p.schema.views

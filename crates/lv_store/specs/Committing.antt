@@ -1,18 +1,17 @@
 -- What a commit is about to do, and what becomes of it.
-use Rattle.std.specs.Prelude.{◌≡◌, ℕ, suc, ◌+◌, ◌^◌, ◌<◌, ◌≤◌, Bool, List, length, slice_set, Option, Some, None, Result, Ok, Err, nat_lt}
+use Rattle.std.specs.Prelude.{◌≡◌, ℕ, suc, ◌+◌, ◌^◌, ◌<◌, ◌≤◌, List, length, slice_set, Option, Some, None, Result, Ok, Err}
 use Rattle.lv_schema.specs.declared.action.Action.{Action}
 use Rattle.lv_schema.specs.declared.fault.Fault.{Fault}
 use Rattle.lv_schema.specs.declared.fault.Fault.TheVariants.{MergedFull}
-use Rattle.lv_schema.specs.declared.net.Net.{Net}
 use Rattle.lv_schema.specs.declared.rec.Rec.{Rec}
 use Rattle.lv_schema.specs.declared.rec.Rec.TheVariants.{Commit}
 use Rattle.lv_schema.specs.Cases.{Case, Outcome, answered, closed, if_written, refused}
 use Rattle.lv_schema.specs.Cases as cases
 use Rattle.lv_schema.specs.World.{World, transaction}
-use Rattle.lv_base.specs.Bases.{BaseRoom, IsReady, net_in, table_in}
+use Rattle.lv_base.specs.Bases.{IsReady}
 use Rattle.lv_base.specs.declared.ready.Ready.{Ready}
-use Rattle.lv_stands.specs.Kept.{BaseKept, shown}
-use Rattle.lv_stands.specs.Moves.{refusal_in, rows_after, with_tasks}
+use Rattle.lv_stands.specs.Kept.{BaseKept}
+use Rattle.lv_stands.specs.Moves.{refusal_in, with_tasks}
 use Rattle.lv_txn.specs.Kept.{TransactionKept}
 use Rattle.lv_txn.specs.Written.{conflict_fault}
 use Rattle.lv_store.specs.declared.committing.Next.{Next}
@@ -24,10 +23,6 @@ use Rattle.lv_store.specs.declared.fault.PrepareFault.TheVariants as fault
 use Rattle.lv_store.specs.declared.store.Store.{Store}
 use Rattle.lv_store.specs.Answering.{with_visible}
 use Rattle.lv_store.specs.Kept.{StoreKept, Stands, kept}
-
--- whether a table would have more rows than it may have
-abbrev pub is_full : BaseRoom → List Net → ℕ → Bool
-is_full b nets t = nat_lt 65535 (rows_after (length (shown b.number (table_in b.tables t).versions)) (net_in nets t))
 
 -- all that a commit needs is there, and nothing refuses it
 pub record MayCommit (e : StoreKept) (k : TransactionKept) (p : Store) (r : Ready) : Type 0 where

@@ -6,12 +6,13 @@ ghost use Rattle.lv_schema.specs.Cases as cases;
 ghost use Rattle.lv_schema.specs.Records.{table_record, view_record};
 ghost use Rattle.lv_schema.specs.World.{World};
 ghost use Rattle.lv_txn.specs.Kept.{live_kept};
+ghost use Rattle.lv_made.specs.Views.{IsMadeView, parts_at};
 ghost use Rattle.lv_store.specs.Answering.{wrote};
-ghost use Rattle.lv_store.specs.MadeViews.{HasRoom, IsMadeView, IsReadyTable, IsReadyView, last_parts, with_view};
+ghost use Rattle.lv_store.specs.MadeViews.{HasRoom, IsReadyTable, IsReadyView, with_view};
 ghost use Rattle.lv_store.specs.Kept.{IsStore, Stands, store_of};
 
-use crate::making::{created_at, last_parts, made_view};
 use crate::store::Store;
+use lv_made::{made_view, parts_at};
 use lv_near::index_links;
 use lv_schema::{TableDef, ViewDef, view_rows_are_distinct};
 use lv_stands::{groups_can_be_kept, what_is_made_stands};
@@ -32,6 +33,16 @@ pub struct ReadyTable {
 pub struct ReadyView {
     pub def: ViewDef,
     pub rows: ViewRows,
+}
+
+/// The view as it is made at a commit.
+fn created_at(def: ViewDef, commit: u64) -> ViewDef
+    ensures { result ≡ record def { created = commit } }
+{
+    ViewDef {
+        created: commit,
+        ..def
+    }
 }
 
 impl Store {
@@ -71,13 +82,14 @@ impl Store {
     ) -> Result<ViewRows, NoMemory>
         requires whole { IsStore self.now }
         requires bound { IsBoundView self.now.schema.tables self.now.schema.views def.now }
-        ensures { IfOk result (IsMadeView def.now self.now.base.number (last_parts self.now.base def.now.tables)) }
+        ensures { IfOk result (IsMadeView def.now self.now.base.number (parts_at self.now.base self.now.base.number def.now.tables)) }
     {
         groups_can_be_kept();
         view_rows_are_distinct();
-        let parts = last_parts(alloc, &self.base, def.tables.as_slice(), steps)?;
+        let commit = self.base.last();
+        let parts = parts_at(alloc, &self.base, commit, def.tables.as_slice(), steps)?;
         let def = def.copy(alloc)?;
-        made_view(alloc, def, self.base.last(), parts.as_slice())
+        made_view(alloc, def, commit, parts.as_slice())
     }
 
     /// Makes room for one more view of this name. Want of memory changes nothing that is kept.

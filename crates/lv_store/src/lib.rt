@@ -13,7 +13,6 @@ mod inputs;
 mod installed;
 mod installing;
 mod joining;
-mod making;
 mod marking;
 mod own;
 mod planning;

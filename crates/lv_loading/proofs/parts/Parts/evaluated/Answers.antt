@@ -11,7 +11,7 @@ use Rattle.lv_schema.specs.Groups.{view_rows_over}
 use Rattle.lv_schema.specs.Once.{Ascends}
 use Rattle.lv_schema.specs.World.{view_at}
 use Rattle.lv_group.specs.Gathered.{has_tuples}
-use Rattle.lv_loading.specs.Making.{parts_at}
+use Rattle.lv_made.specs.Views.{parts_at}
 use Rattle.lv_loading.proofs.MadeViews.{distinct_there, netted_there, tuples_there}
 use Rattle.lv_loading.proofs.parts.Parts.evaluated.Goals as goal
 

@@ -6,7 +6,7 @@ use Rattle.lv_schema.specs.Effects.{first_fault}
 use Rattle.lv_schema.specs.declared.net.Net.{Net}
 use Rattle.lv_txn.specs.Kept.{transaction_of}
 use Rattle.lv_base.specs.Bases.{CanCommit, IsReady}
-use Rattle.lv_store.specs.Committing.{is_full}
+use Rattle.lv_made.specs.Limits.{is_full}
 use Rattle.lv_store.proofs.Commits.{can_commit, full_told}
 use Rattle.lv_store.proofs.store.Store.next_without_conflict.Goals as goal
 

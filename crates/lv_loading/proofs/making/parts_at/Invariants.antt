@@ -1,6 +1,0 @@
-use Rattle.std.proofs.Common.{◌≡◌, take}
-use Rattle.lv_loading.specs.Making.{parts_at}
-use Rattle.lv_loading.proofs.making.parts_at.Given as goal
-
-abbrev pub invariant-loop-table : goal.invariant-loop-table
-invariant-loop-table g l = l.parts ≡ parts_at l.base l.commit (take l.table-index l.tables)

@@ -1,5 +1,0 @@
-use Rattle.std.proofs.Common.{arith}
-use Rattle.lv_loading.proofs.making.rows_at.Goals as goal
-
-pub scan-requires : goal.scan-requires
-scan-requires g c = omega (arith, c.versions.ensures.floor, c.requires.kept)

@@ -1,0 +1,4 @@
+pub mod AddedTasks
+pub mod Distinct
+pub mod FirstFull
+pub mod Shown

@@ -1,0 +1,11 @@
+//! What a commit and a view that is made bring to the parts that are kept: the tasks of a commit, and what it may not
+//! exceed; the rows of a view over the state at a commit.
+#![tactic(auto)]
+
+mod limits;
+mod tasks;
+mod views;
+
+pub use limits::{check_entries, first_full};
+pub use tasks::add_tasks;
+pub use views::{made_view, parts_at};
