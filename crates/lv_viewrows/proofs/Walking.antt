@@ -2,6 +2,7 @@
 use Rattle.std.proofs.Common.{◌≡◌, ℕ, ◌+◌, Bool, true, false, cond, List, [], ◌∷◌, ◌++◌, map, filter, drop, Some, refl, sym, ap, ◌∙◌, append_assoc}
 use Rattle.std.specs.Prelude.{slice_get}
 use Rattle.std.proofs.lemmas.List.{drop_more}
+use Rattle.lv_schema.specs.declared.signed.SignedRow.{SignedRow}
 use Rattle.lv_shelf.proofs.Cutting.{got, got_within}
 use Rattle.lv_viewrows.specs.declared.version.GroupVersion.{GroupVersion}
 use Rattle.lv_viewrows.specs.Kept.{groups_at, is_there}
@@ -21,8 +22,13 @@ there_cons n v vs = by (is_there n v)
     by true = refl
     by false = refl
 
-pub next_there : (n i : ℕ) (v : GroupVersion) (vs : List GroupVersion) → slice_get vs i ≡ Some v → groups_at n (v ∷ []) ++ groups_at n (drop (i + 1) vs) ≡ groups_at n (drop i vs)
+next_there : (n i : ℕ) (v : GroupVersion) (vs : List GroupVersion) → slice_get vs i ≡ Some v → groups_at n (v ∷ []) ++ groups_at n (drop (i + 1) vs) ≡ groups_at n (drop i vs)
 next_there n i v vs e =
     there_cons n v (drop (i + 1) vs)
     ∙ ap (λ w. groups_at n (w ∷ drop (i + 1) vs)) (sym (got vs i v v e))
     ∙ ap (groups_at n) (sym (drop_more vs i v (got_within vs i v e)))
+
+-- a step of a walk that takes one version's group from what is left of the groups
+pub walk_there : {Y : Type 0} (n i : ℕ) (v : GroupVersion) (vs : List GroupVersion) → slice_get vs i ≡ Some v → (was is : List SignedRow → Y) → ((groups : List SignedRow) → is groups ≡ was (groups_at n (v ∷ []) ++ groups)) → (all : Y) → was (groups_at n (drop i vs)) ≡ all
+    → is (groups_at n (drop (i + 1) vs)) ≡ all
+walk_there n i v vs e was is step all before = step (groups_at n (drop (i + 1) vs)) ∙ ap was (next_there n i v vs e) ∙ before

@@ -1,14 +1,15 @@
-use Rattle.std.proofs.Common.{◌++◌, ◌+◌, List, drop, ap, ◌∙◌}
+use Rattle.std.proofs.Common.{◌++◌, List, drop}
 use Rattle.lv_schema.specs.declared.signed.SignedRow.{SignedRow}
 use Rattle.lv_viewrows.specs.Kept.{groups_at}
 use Rattle.lv_viewrows.specs.Merged.{merged, passing}
-use Rattle.lv_viewrows.proofs.Walking.{next_there}
+use Rattle.lv_viewrows.proofs.Walking.{walk_there}
 use Rattle.lv_viewrows.proofs.reading.rows_in_order.Goals as goal
 
 pub loop-at-preserved : goal.loop-at-preserved
 loop-at-preserved g c =
+    let view = c.args.view.now in
+    let p = g.T.Test.passed c.args.test.now in
+    let changes = c.args.changes.now in
     let list = c.args.versions.now.list in
-    let at = c.loop-at.at in
-    c.in_ok-next.ensures.rows (groups_at c.args.n (drop (at + 1) list))
-    ∙ ap (λ (groups : List SignedRow). c.loop-at.rows ++ passing c.args.view.now (g.T.Test.passed c.args.test.now) (merged (drop c.loop-at.next c.args.changes.now) groups)) (next_there c.args.n at c.get.result.now list c.get.ensures)
-    ∙ c.loop-at.invariant
+    walk_there c.args.n c.loop-at.at c.get.result.now list c.get.ensures (λ (groups : List SignedRow). c.loop-at.rows ++ passing view p (merged (drop c.loop-at.next changes) groups))
+    (λ (groups : List SignedRow). c.push_version.new.rows ++ passing view p (merged (drop c.in_ok-next.next changes) groups)) c.in_ok-next.ensures.rows (passing view p (merged changes (groups_at c.args.n list))) c.loop-at.invariant
