@@ -16,6 +16,7 @@ mod joining;
 mod making;
 mod marking;
 mod own;
+mod pending;
 mod planning;
 mod querying;
 mod reading;
