@@ -21,7 +21,7 @@ use Rattle.lv_store.specs.Kept.{Stands, kept, store_of}
 abbrev joined_step : Forced → Forced → Forced
 joined_step a b = record { view = a.view; lo = a.lo; hi = b.hi }
 
-low_or_high : (n m : ℕ) → (n < m) ⊎ (m ≤ n)
+pub low_or_high : (n m : ℕ) → (n < m) ⊎ (m ≤ n)
 low_or_high n m = grind arith
 
 module _ (s : Visible) (a b : Forced) (view : a.view ≡ b.view) (meet : a.hi ≡ b.lo) (none : is_inside (live s.sessions) a.hi b.hi ≡ false) where

@@ -7,11 +7,15 @@ pub mod JoinedSteps
 pub mod MadeTables
 pub mod MadeViews
 pub mod Marks
+pub mod OneView
 pub mod OwnReads
+pub mod PendingRows
+pub mod PendingSteps
 pub mod Queries
 pub mod Rels
 pub mod Standing
 pub mod Steps
+pub mod StepEnds
 pub mod Views
 pub mod WorkerSteps
 pub mod Written

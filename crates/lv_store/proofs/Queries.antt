@@ -25,13 +25,20 @@ use Rattle.lv_stands.proofs.Runs.{forced_reads, steps_stand}
 use Rattle.lv_store.specs.declared.answer.Answer.{Answer}
 use Rattle.lv_store.specs.declared.store.Store.{Store}
 use Rattle.lv_store.specs.Answering.{GivesQuery, ReadsNoTable, ReadsViews, TakesSteps}
-use Rattle.lv_store.specs.Querying.{CanInstallAll, InPlaceOf, StepsInstall, TakesInPlace, changes_in, reads_kept, rel_rows_in, steps_in, upkeep_after}
+use Rattle.lv_store.specs.declared.pending.Difference.{Difference}
+use Rattle.lv_store.specs.Pending.{AreUpTo, ArePending, CanAllTake, CanRead, CanTakeEach, difference_in, on_view}
+use Rattle.lv_store.specs.Querying.{CanInstallAll, InPlaceOf, OnlyRoom, StepsInstall, TakesInPlace, changes_in, reads_kept, rel_rows_in, steps_in, upkeep_after}
 use Rattle.lv_store.specs.Kept.{IsStore, StoreKept, Stands, is_used, kept, rows_in, rows_of, store_of}
 use Rattle.lv_store.proofs.Forcing.{changes_all_told, costs_all_told, fresh_forces_none, read_at, steps_are, steps_follow, steps_in_use, with_combine}
+use Rattle.lv_store.proofs.OneView.{all_on_view, follow_on_view, of_view}
 use Rattle.lv_store.proofs.OwnReads.{rows_long, snapshot_below, transaction_stands}
+use Rattle.lv_store.proofs.PendingSteps.{can_take}
 use Rattle.lv_store.proofs.Rels.{Shows, answer_is, reads_kept_all}
-use Rattle.lv_store.proofs.Steps.{Know, can_install_all, rows_at, steps_run, still_know}
+use Rattle.lv_store.proofs.StepEnds.{EndBy, forced_end, taken_end}
+use Rattle.lv_store.proofs.Steps.{Know, can_install_all, only_room_know, only_room_same, rows_at, steps_run, still_know}
 use Rattle.lv_store.proofs.Views.{IfView, both, views_among, views_each}
+use Rattle.lv_store.proofs.WorkerSteps.{still_whole}
+use Rattle.lv_upkeep.specs.Kept.{UpkeepKept, UpkeepRoom}
 
 each_passes : {X : Type 0} (test : X → Bool) (xs : List X) → list_all test xs ≡ true → AllByRecursion (λ x. test x ≡ true) xs
 each_passes test [] e = tt
@@ -41,6 +48,23 @@ each_passes test (x ∷ xs) e = let es = both (test x) (list_all test xs) e in (
 pub all_below : (fs : List Forced) (n : ℕ) → AllByRecursion (λ f. f.view < n) fs → list_all (λ (f : Forced). nat_lt f.view n) fs ≡ true
 all_below [] n a = refl
 all_below (f ∷ fs) n a = let lt = a.0 in let here : nat_lt f.view n ≡ true = grind (arith, nat_tests) in rw here (all_below fs n a.1)
+
+-- what is kept after steps were taken, and after they were not
+pub taken_store : (p new : Store) (steps : List Forced) → new ≡ record p { rows = new.rows; upkeep = new.upkeep } → new.upkeep.kept ≡ upkeep_after steps p.upkeep.kept
+    → store_of new ≡ record (store_of p) { upkeep = upkeep_after steps p.upkeep.kept; rows = map rows_of new.rows.list }
+taken_store p new steps others upkeep = ap store_of others ∙ ap (λ (u : UpkeepKept). record (store_of p) { upkeep = u; rows = map rows_of new.rows.list }) upkeep
+
+pub refused_store : (p new : Store) → new ≡ record p { rows = new.rows; upkeep = new.upkeep } → OnlyRoom p.rows.list new.rows.list × (new.upkeep ≡ p.upkeep) → store_of new ≡ store_of p
+refused_store p new others refused =
+    ap store_of others
+    ∙ ap (λ (u : UpkeepRoom). record (store_of p) { upkeep = u.kept; rows = map rows_of new.rows.list }) refused.1
+    ∙ ap (λ (ks : List stands.ViewKept). record (store_of p) { rows = ks }) (only_room_same p.rows.list new.rows.list refused.0)
+
+pub refused_whole : (p new : Store) → new ≡ record p { rows = new.rows; upkeep = new.upkeep } → OnlyRoom p.rows.list new.rows.list × (new.upkeep ≡ p.upkeep) → IsStore p → IsStore new
+refused_whole p new others refused whole =
+    subst IsStore (sym others)
+    (still_whole p p.base new.upkeep new.rows whole (only_room_know p.schema.views p.rows.list new.rows.list refused.0 whole.defs) whole.world
+    (subst (Stands whole.world) (sym (refused_store p new others refused) ∙ ap store_of others) whole.stands))
 
 module _ (p : Store) (session : ℕ) (query : Query) (bound : IsBoundQuery p.schema.tables p.schema.views query) where
   -- where no table is read and the views are fresh, there is no step, and only what is kept is read
@@ -84,6 +108,33 @@ module _ (p : Store) (session : ℕ) (query : Query) (bound : IsBoundQuery p.sch
       let is = whole.stands in
       can_install_all (changes_in p) taken p.rows.list w (kept w.upkeep.journal (store_of p)) is refl
       (subst (λ (vs : List ViewDef). Know vs p.rows.list) is.views_are whole.defs) follow (changes_all_told p w is taken follow)
+
+  -- the differences of those that are taken can be installed, and read
+  pub can_take_pending : (whole : IsStore p) (taken : List Forced) → StepsFollow whole.world taken → (pending : List (List Difference)) → ArePending p taken pending → CanAllTake pending p.rows.list
+  can_take_pending whole taken follow pending are = record {
+    all = are.all;
+    each = λ v lt.
+        let w = whole.world in
+        let is = whole.stands in
+        let there : v < length w.upkeep.points = omega (arith, lt, rows_long p w is, ap length is.views_are, is.steady.points) in
+        subst (λ l. CanTakeEach l (rows_in p.rows.list v)) (sym (are.each v lt))
+        (can_take p v (on_view v taken) p.rows.list lt (of_view v taken) (installs_all whole (on_view v taken) (follow_on_view v taken w.visible w.upkeep w.upkeep there there refl follow)));
+  }
+
+  pub can_read : (whole : IsStore p) → IsLive p.txns session → (taken : List Forced) → InPlaceOf whole.world (steps_in p session query) taken → (pending : List (List Difference)) → ArePending p taken pending → CanRead p session pending
+  can_read whole live taken place pending are = record {
+    can = can_take_pending whole taken place.follow pending are;
+    upto = λ v lt.
+        let w = whole.world in
+        let is = whole.stands in
+        let m = (transaction session w.visible).snapshot in
+        let settings = with_combine p w is session query bound in
+        let steps : EndBy m (steps_in p session query) = subst (EndBy m) (sym (steps_are p w is session query bound settings refl)) (forced_end settings w m (views_of query)) in
+        let ends : EndBy m taken = taken_end w (steps_in p session query) taken m is.steady.points place steps in
+        subst (AreUpTo (transaction_of p.txns session).snapshot) (sym (are.each v lt))
+        (subst (λ n. AreUpTo n (map (difference_in p) (on_view v taken))) (sym (transaction_stands p w is session live).snapshot_is)
+        (all_on_view (λ (d : Difference). d.hi ≤ m) (difference_in p) v taken ends));
+  }
 
   module _ (taken : List Forced) (place : (w : World) → Stands w (store_of p) → InPlaceOf w (steps_in p session query) taken)
       (live : IsLive p.txns session) (know : Know p.schema.views p.rows.list) (last : List ViewKept) (install : StepsInstall (changes_in p) taken p.rows.list last) where

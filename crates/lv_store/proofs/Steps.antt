@@ -1,8 +1,8 @@
 -- Steps, one after another, in the rows of views.
-use Rattle.std.proofs.Common.{◌≡◌, ℕ, zero, suc, ◌+◌, ◌<◌, ◌≤◌, List, [], ◌∷◌, ◌++◌, map, drop, length, get_or, Option, Some, None, refl, sym, ap, ◌∙◌, subst, arith, length-append}
-use Rattle.std.specs.Prelude.{slice_index_or, slice_set, unwrap_or, replicate}
+use Rattle.std.proofs.Common.{◌≡◌, ℕ, zero, suc, ◌<◌, List, [], ◌∷◌, map, length, get_or, refl, sym, ap, ap₂, ◌∙◌, subst, arith}
+use Rattle.std.specs.Prelude.{slice_set}
 use Rattle.std.specs.List.{AllByRecursion}
-use Rattle.std.proofs.lemmas.List.{drop_more, length-map, length-set, map-set}
+use Rattle.std.proofs.lemmas.List.{length-map, length-set, map-set}
 use Rattle.std.proofs.Math.ListN.{get_or-map}
 use Rattle.lv_schema.specs.declared.forced.Forced.{Forced}
 use Rattle.lv_schema.specs.declared.signed.SignedRow.{SignedRow}
@@ -22,33 +22,8 @@ use Rattle.lv_stands.proofs.Installs.{step_installs}
 use Rattle.lv_stands.proofs.Steps.{step_stands}
 use Rattle.lv_maint.specs.Inputs.{Input}
 use Rattle.lv_store.specs.declared.store.Store.{Store}
-use Rattle.lv_store.specs.Querying.{CanInstallAll, RowsInstall, StepInstalls, StepsInstall, IsInputIn, changes_in, installed, upkeep_after}
+use Rattle.lv_store.specs.Querying.{CanInstallAll, IsInputIn, OnlyRoom, RowsInstall, StepsInstall, changes_in, upkeep_after}
 use Rattle.lv_store.specs.Kept.{no_rows, rows_in, rows_of}
-
--- ---- rows of views where some have a new value
-pub installed_none : (rows : List ViewKept) → installed (replicate (length rows) None) rows ≡ rows
-installed_none [] = refl
-installed_none (r ∷ rows) = ap (λ l. r ∷ l) (installed_none rows)
-
-pub installed_long : (ahead : List (Option ViewKept)) (rows : List ViewKept) → length ahead ≡ length rows → length (installed ahead rows) ≡ length rows
-installed_long [] rows e = refl
-installed_long (a ∷ ahead) [] e = cc
-installed_long (a ∷ ahead) (r ∷ rows) e = ap suc (installed_long ahead rows (omega (arith, e)))
-
-pub installed_at : (ahead : List (Option ViewKept)) (rows : List ViewKept) (v : ℕ) → length ahead ≡ length rows → v < length rows
-    → rows_in (installed ahead rows) v ≡ unwrap_or (slice_index_or ahead v None) (rows_in rows v)
-installed_at [] rows v e lt = absurd (omega (arith, e, lt))
-installed_at (a ∷ ahead) [] v e lt = absurd (omega (arith, lt))
-installed_at (a ∷ ahead) (r ∷ rows) zero e lt = refl
-installed_at (a ∷ ahead) (r ∷ rows) (suc v) e lt = installed_at ahead rows v (omega (arith, e)) (omega (arith, lt))
-
-pub installed_set : (ahead : List (Option ViewKept)) (rows : List ViewKept) (v : ℕ) (k : ViewKept) → length ahead ≡ length rows
-    → installed (slice_set ahead v (Some k)) rows ≡ slice_set (installed ahead rows) v k
-installed_set [] [] v k e = refl
-installed_set [] (r ∷ rows) v k e = cc
-installed_set (a ∷ ahead) [] v k e = cc
-installed_set (a ∷ ahead) (r ∷ rows) zero k e = refl
-installed_set (a ∷ ahead) (r ∷ rows) (suc v) k e = ap (λ l. unwrap_or a r ∷ l) (installed_set ahead rows v k (omega (arith, e)))
 
 -- what holds of each element holds of the one at a place
 pub each_at : {X : Type 0} (P : X → Type 0) (xs : List X) (i : ℕ) (d : X) → i < length xs → AllByRecursion P xs → P (get_or xs i d)
@@ -56,30 +31,10 @@ each_at P [] i d lt a = absurd (omega (arith, lt))
 each_at P (x ∷ xs) zero d lt a = a.0
 each_at P (x ∷ xs) (suc i) d lt a = each_at P xs i d (omega (arith, lt)) a.1
 
-at_any : {X : Type 0} (xs : List X) (i : ℕ) (d e : X) → i < length xs → get_or xs i d ≡ get_or xs i e
+pub at_any : {X : Type 0} (xs : List X) (i : ℕ) (d e : X) → i < length xs → get_or xs i d ≡ get_or xs i e
 at_any [] i d e lt = absurd (omega (arith, lt))
 at_any (x ∷ xs) zero d e lt = refl
 at_any (x ∷ xs) (suc i) d e lt = at_any xs i d e (omega (arith, lt))
-
--- what stands at a view's place, as a look there finds it
-pub found_ahead : (ahead : List (Option ViewKept)) (rows : List ViewKept) (v : ℕ) (o : Option ViewKept) (k : ViewKept) → length ahead ≡ length rows → v < length rows
-    → o ≡ slice_index_or ahead v o → o ≡ Some k → rows_in (installed ahead rows) v ≡ k
-found_ahead ahead rows v o k e lt at is =
-    installed_at ahead rows v e lt ∙ ap (λ (x : Option ViewKept). unwrap_or x (rows_in rows v)) (at_any ahead v None o (omega (arith, e, lt)) ∙ sym at ∙ is)
-
-pub none_found_ahead : (ahead : List (Option ViewKept)) (rows : List ViewKept) (v : ℕ) (o : Option ViewKept) (k : ViewKept) → length ahead ≡ length rows → v < length rows
-    → o ≡ slice_index_or ahead v o → o ≡ None → k ≡ slice_index_or rows v k → rows_in (installed ahead rows) v ≡ k
-none_found_ahead ahead rows v o k e lt at is here =
-    installed_at ahead rows v e lt ∙ ap (λ (x : Option ViewKept). unwrap_or x (rows_in rows v)) (at_any ahead v None o (omega (arith, e, lt)) ∙ sym at ∙ is)
-    ∙ at_any rows v no_rows k lt ∙ sym here
-
--- the last of those that are ahead takes its place
-pub installed_last : (ahead : List (Option ViewKept)) (a : Option ViewKept) (rows : List ViewKept) → length ahead < length rows
-    → installed (ahead ++ a ∷ []) rows ≡ installed ahead (slice_set rows (length ahead) (unwrap_or a (rows_in rows (length ahead))))
-installed_last [] a [] lt = absurd (omega (arith, lt))
-installed_last [] a (r ∷ rows) lt = refl
-installed_last (b ∷ ahead) a [] lt = absurd (omega (arith, lt))
-installed_last (b ∷ ahead) a (r ∷ rows) lt = ap (λ l. unwrap_or b r ∷ l) (installed_last ahead a rows (omega (arith, lt)))
 
 -- the difference that an input gives
 pub gives_changes : (p : Store) (f : Forced) (input : Input) (changes : List SignedRow) → changes ≡ difference input.def (old_sides input.parts) (new_sides input.parts) → IsInputIn p f input → changes ≡ changes_in p f
@@ -93,15 +48,6 @@ pub any_room_installs : (a b new : ViewKept) (hi : ℕ) (list : List SignedRow) 
 any_room_installs a b new hi list is h =
     let k : RowsInstall hi list (record a { spare = b.spare }) new = subst (λ (k : ViewKept). RowsInstall hi list k new) is h in
     record { def_stays = k.def_stays; at_is = k.at_is; before = k.before; from = k.from; rows = k.rows }
-
--- the last of those that are ahead takes its place
-pub last_placed : (ahead popped : List (Option ViewKept)) (a : Option ViewKept) (rows : List ViewKept) → ahead ≡ popped ++ a ∷ [] → length ahead ≤ length rows
-    → installed popped (slice_set rows (length popped) (unwrap_or a (rows_in rows (length popped)))) ≡ installed ahead rows
-last_placed ahead popped a rows is le =
-    sym (installed_last popped a rows (omega (arith, le, ap length is, length-append popped (a ∷ [])))) ∙ ap (λ l. installed l rows) (sym is)
-
-pub popped_long : (ahead popped : List (Option ViewKept)) (a : Option ViewKept) (n : ℕ) → ahead ≡ popped ++ a ∷ [] → length ahead ≤ n → length popped ≤ n
-popped_long ahead popped a n is le = omega (arith, le, ap length is, length-append popped (a ∷ []))
 
 -- ---- a step in the words of what stands
 pub to_installs : (view : ViewDef) (hi : ℕ) (changes : List SignedRow) (old new : ViewKept) → old.def ≡ view → RowsInstall hi changes old new → ViewInstalls view hi changes (rows_of old) (rows_of new)
@@ -131,23 +77,20 @@ each_set P (r ∷ rows) (suc at) k here all (suc v) lt = each_set (λ n. P (suc 
 abbrev pub Know : List ViewDef → List ViewKept → Type 0
 Know views rows = (v : ℕ) → v < length rows → (rows_in rows v).def ≡ view_at views v
 
+-- other room changes nothing that is kept
+pub only_room_same : (old new : List ViewKept) → OnlyRoom old new → map rows_of new ≡ map rows_of old
+only_room_same old new h = by old new h.all h.each
+  where
+    by : (old new : List ViewKept) → length new ≡ length old → ((v : ℕ) → v < length old → rows_in new v ≡ record (rows_in old v) { spare = (rows_in new v).spare }) → map rows_of new ≡ map rows_of old
+    by [] [] e each = refl
+    by [] (b ∷ new) e each = cc
+    by (a ∷ old) [] e each = cc
+    by (a ∷ old) (b ∷ new) e each = ap₂ (λ x xs. x ∷ xs) (ap rows_of (each 0 (omega arith))) (by old new (omega (arith, e)) (λ v lt. each (suc v) (omega (arith, lt))))
+
+pub only_room_know : (views : List ViewDef) (old new : List ViewKept) → OnlyRoom old new → Know views old → Know views new
+only_room_know views old new h know = λ v lt. let here : v < length old = omega (arith, lt, h.all) in ap (λ (k : ViewKept). k.def) (h.each v here) ∙ know v here
+
 module _ (changes : Forced → List SignedRow) where
-  -- one step of those that are left
-  pub next_can : (fs : List Forced) (rows : List ViewKept) (i : ℕ) (d : Forced) → i < length fs → CanInstallAll changes (drop i fs) rows
-      → ((get_or fs i d).view < length rows) × CanInstall (rows_in rows (get_or fs i d).view) (get_or fs i d).hi (changes (get_or fs i d))
-  next_can fs rows i d lt left = let here : CanInstallAll changes (get_or fs i d ∷ drop (i + 1) fs) rows = subst (λ l. CanInstallAll changes l rows) (drop_more fs i d lt) left in (here.0, here.1)
-
-  pub next_left : (fs : List Forced) (rows next : List ViewKept) (i : ℕ) (d : Forced) → i < length fs → CanInstallAll changes (drop i fs) rows → StepInstalls changes (get_or fs i d) rows next
-      → CanInstallAll changes (drop (i + 1) fs) next
-  next_left fs rows next i d lt left step =
-      let here : CanInstallAll changes (get_or fs i d ∷ drop (i + 1) fs) rows = subst (λ l. CanInstallAll changes l rows) (drop_more fs i d lt) left in
-      subst (CanInstallAll changes (drop (i + 1) fs)) (sym step.2) (here.2 step.0 step.1)
-
-  pub next_done : (fs : List Forced) (rows next first last : List ViewKept) (i : ℕ) (d : Forced) → i < length fs → (StepsInstall changes (drop i fs) rows last → StepsInstall changes fs first last) → StepInstalls changes (get_or fs i d) rows next
-      → StepsInstall changes (drop (i + 1) fs) next last → StepsInstall changes fs first last
-  next_done fs rows next first last i d lt before step more =
-      before (subst (λ l. StepsInstall changes l rows last) (sym (drop_more fs i d lt)) (step.0, step.1, subst (λ r. StepsInstall changes (drop (i + 1) fs) r last) step.2 more))
-
   -- steps that follow each other in a world that the rows stand for can be installed
   pub can_install_all : (fs : List Forced) (rows : List ViewKept) (w : World) (e : stands.EngineKept) → StandsFor w e → e.rows ≡ map rows_of rows → Know w.visible.views rows
       → StepsFollow w fs → AllByRecursion (λ f. changes f ≡ step_changes w.visible f) fs → CanInstallAll changes fs rows
@@ -180,7 +123,7 @@ module _ (changes : Forced → List SignedRow) where
   pub steps_run : (fs : List Forced) (rows last : List ViewKept) (s : Visible) (e : stands.EngineKept) → e.views ≡ s.views → e.rows ≡ map rows_of rows → Know s.views rows
       → AllByRecursion (λ f. f.view < length rows) fs → AllByRecursion (λ f. changes f ≡ step_changes s f) fs → StepsInstall changes fs rows last
       → StepsRun s fs e (record e { upkeep = upkeep_after fs e.upkeep; rows = map rows_of last })
-  steps_run [] rows last s e views are know lts each h = λ i. record e { rows = (ap (map rows_of) h ∙ sym are) i }
+  steps_run [] rows last s e views are know lts each h = λ i. record e { rows = (only_room_same rows last h ∙ sym are) i }
   steps_run (f ∷ fs) rows last s e views are know lts each h =
       let new = h.0 in
       let def_is = know f.view lts.0 in
@@ -201,7 +144,7 @@ module _ (changes : Forced → List SignedRow) where
   -- the rows of each view still know the view, and no view is lost
   pub still_know : (fs : List Forced) (rows last : List ViewKept) (views : List ViewDef) → Know views rows → AllByRecursion (λ f. f.view < length rows) fs → StepsInstall changes fs rows last
       → Know views last × (length last ≡ length rows)
-  still_know [] rows last views know lts h = (subst (Know views) (sym h) know, ap length h)
+  still_know [] rows last views know lts h = (only_room_know views rows last h know, h.all)
   still_know (f ∷ fs) rows last views know lts h =
       let more = still_know fs (slice_set rows f.view h.0) last views
       (each_set (λ v k. k.def ≡ view_at views v) rows f.view h.0 (h.1.def_stays ∙ know f.view lts.0) know)

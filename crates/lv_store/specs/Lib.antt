@@ -4,4 +4,5 @@ pub mod Committing
 pub mod MadeViews
 pub mod Maintaining
 pub mod Querying
+pub mod Pending
 pub mod Kept

@@ -1,5 +1,5 @@
 -- Queries: what a transaction reads, and the steps that bring views up to its snapshot, told from what is kept.
-use Rattle.std.specs.Prelude.{◌≡◌, ℕ, ◌+◌, ◌<◌, ◌≤◌, Bool, false, not, if◌then◌else◌, List, [], ◌∷◌, length, map, slice_set, Option, unwrap_or, option_map}
+use Rattle.std.specs.Prelude.{◌≡◌, ℕ, ◌+◌, ◌<◌, ◌≤◌, Bool, false, not, if◌then◌else◌, List, [], ◌∷◌, length, map, slice_set, unwrap_or, option_map}
 use Rattle.std.specs.List.{list_any}
 use Rattle.lv_values.specs.declared.value.Value.{Value}
 use Rattle.lv_schema.specs.declared.forced.Forced.{Forced}
@@ -109,17 +109,19 @@ pub record RowsInstall (hi : ℕ) (changes : List SignedRow) (old new : ViewKept
   pub from : (n : ℕ) → hi ≤ n → groups_at n new.versions ≡ groups_with changes (groups_at old.at old.versions)
   pub rows : old.def.grouped ≡ false → (n : ℕ) → hi ≤ n → shown n new ≡ with_changes changes (shown old.at old)
 
+-- views of which the same is kept, with whatever room for more
+pub record OnlyRoom (old new : List ViewKept) : Type 0 where
+  pub all : length new ≡ length old
+  pub each : (v : ℕ) → v < length old → rows_in new v ≡ record (rows_in old v) { spare = (rows_in new v).spare }
+
 -- one of the views takes a difference
 abbrev pub ViewInstalled : ℕ → List SignedRow → ℕ → List ViewKept → List ViewKept → Type 0
 ViewInstalled hi changes view rows last = (new : ViewKept) × RowsInstall hi changes (rows_in rows view) new × (last ≡ slice_set rows view new)
 
--- a step with its difference, and steps, one after another
+-- steps with their differences, one after another; of the room nothing is said
 module _ (changes : Forced → List SignedRow) where
-  abbrev pub StepInstalls : Forced → List ViewKept → List ViewKept → Type 0
-  StepInstalls f rows last = ViewInstalled f.hi (changes f) f.view rows last
-
   abbrev pub StepsInstall : List Forced → List ViewKept → List ViewKept → Type 0
-  StepsInstall [] rows last = last ≡ rows
+  StepsInstall [] rows last = OnlyRoom rows last
   StepsInstall (f ∷ fs) rows last = (new : ViewKept) × RowsInstall f.hi (changes f) (rows_in rows f.view) new × StepsInstall fs (slice_set rows f.view new) last
 
   -- and each can be installed where the steps before it are
@@ -134,9 +136,3 @@ module _ (changes : Forced → List SignedRow) where
 abbrev pub upkeep_after : List Forced → UpkeepKept → UpkeepKept
 upkeep_after [] u = u
 upkeep_after (f ∷ fs) u = upkeep_after fs (upkeep_stepped f u)
-
--- the rows of views where some have a new value
-abbrev pub installed : List (Option ViewKept) → List ViewKept → List ViewKept
-installed [] rows = rows
-installed (a ∷ ahead) [] = []
-installed (a ∷ ahead) (r ∷ rows) = unwrap_or a r ∷ installed ahead rows

@@ -7,7 +7,7 @@ ghost use Rattle.lv_store.specs.Maintaining.{RoomChanges};
 ghost use Rattle.lv_store.specs.Querying.{CanCompute, IsCostIn, ViewInstalled, changes_in};
 ghost use Rattle.lv_store.specs.Kept.{IsStore, rows_in};
 
-use crate::stepping::install;
+use crate::pending::install;
 use crate::store::Store;
 use lv_maint::{JobInput, JobResult, compute};
 use lv_schema::{Forced, Signed};

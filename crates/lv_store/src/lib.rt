@@ -15,6 +15,7 @@ mod installing;
 mod joining;
 mod marking;
 mod own;
+mod pending;
 mod planning;
 mod querying;
 mod reading;

@@ -1,5 +1,5 @@
 //! Queries.
-ghost use Rattle.std.specs.Prelude.{◌≡◌, ◌<◌, ◌≤◌, ◌+◌, ℕ, true, [], length, map, nat_lt, IfOk, OnErr};
+ghost use Rattle.std.specs.Prelude.{◌≡◌, ◌<◌, ◌≤◌, ◌+◌, ℕ, true, List, [], length, map, nat_lt, IfOk, OnErr, OnOk};
 ghost use Rattle.std.specs.List.{list_all, AllZip};
 ghost use Rattle.lv_schema.specs.declared.forced.Forced.{Forced};
 ghost use Rattle.lv_schema.specs.Answers.{answer_over};
@@ -10,12 +10,15 @@ ghost use Rattle.lv_schema.specs.World.{World};
 ghost use Rattle.lv_schema.specs.World as schema;
 ghost use Rattle.lv_txn.specs.Kept.{IsLive};
 ghost use Rattle.lv_store.specs.Answering.{GivesQuery, IsCostBetween, IsInputBetween, ReadsNoTable, ReadsViews, TakesSteps};
-ghost use Rattle.lv_store.specs.Querying.{InPlaceOf, StepsInstall, TakesInPlace, changes_in, installed, reads_kept, rel_rows_in, steps_in, upkeep_after};
+ghost use Rattle.lv_store.specs.Pending.{AllTake, ArePending, CanAllTake};
+ghost use Rattle.lv_store.specs.Querying.{InPlaceOf, OnlyRoom, TakesInPlace, reads_kept, rel_rows_in, steps_in, upkeep_after};
 ghost use Rattle.lv_store.specs.Inputs.{AreCosts};
-ghost use Rattle.lv_store.specs.Kept.{IsStore, Stands, rows_of, store_of};
+ghost use Rattle.lv_viewrows.specs.Kept.{ViewKept};
+ghost use Rattle.lv_store.specs.Kept.{IsStore, Stands, store_of};
 
 use crate::answer::Answer;
-use crate::stepping::{Ahead, advance_each, place_ahead};
+use crate::pending::{Pending, take_pending};
+use crate::stepping::advance_each;
 use crate::store::Store;
 use lv_maint::{JobInput, JobResult};
 use lv_schema::{Forced, ForcedSteps, Query};
@@ -23,12 +26,12 @@ use lv_values::{Items, NoMemory, Rows, Steps};
 use std::alloc::Global;
 use std::sync::ledger::Ledger;
 
-/// The steps that a query forces and those that are taken for them, what they make of the views, and the answer, before
+/// The steps that a query forces and those that are taken for them, with their differences, and the answer, before
 /// anything is changed.
 struct Found {
     forced: ForcedSteps,
     taken: ForcedSteps,
-    ahead: Ahead,
+    pending: Pending,
     rows: Rows,
 }
 
@@ -47,36 +50,40 @@ impl Store {
         requires bound { IsBoundQuery self.now.schema.tables self.now.schema.views query.now }
         ensures forced { IfOk result (λ found. found.forced ≡ steps_in self.now session query.now) }
         ensures taken { (w : World) → Stands w (store_of self.now) → IfOk result (λ found. InPlaceOf w found.forced found.taken) }
-        ensures all { IfOk result (λ found. length found.ahead ≡ length self.now.rows.list) }
-        ensures steps { IfOk result (λ found. StepsInstall (changes_in self.now) found.taken self.now.rows.list (installed found.ahead self.now.rows.list)) }
-        ensures rows { IfOk result (λ found. found.rows ≡ answer_over query.now (map (rel_rows_in self.now session (installed found.ahead self.now.rows.list)) query.now.rels)) }
+        ensures pending { IfOk result (λ found. ArePending self.now found.taken found.pending) }
+        ensures rows { (last : List ViewKept) → IfOk result (λ found. AllTake found.pending self.now.rows.list last → found.rows ≡ answer_over query.now (map (rel_rows_in self.now session last) query.now.rels)) }
         ensures cost { steps_in self.now session query.now ≡ [] → list_all (reads_kept self.now session) query.now.rels ≡ true → steps.new ≡ steps.old }
         ensures most { list_all (reads_kept self.now session) query.now.rels ≡ true → (w : World) → Stands w (store_of self.now) → TakesInPlace self.now w (steps_in self.now session query.now) steps.old steps.new }
     {
         let forced = self.forced(alloc, session, query)?;
         let taken = self.to_take(alloc, &forced, &offers)?;
-        let ahead = self.steps_ahead(alloc, taken.as_slice(), offers, steps)?;
-        let rows = self.answer_ahead(alloc, session, &ahead, query, steps)?;
+        let pending = self.differences(alloc, taken.as_slice(), offers, steps)?;
+        let rows = self.answer_with(alloc, session, &pending, query, steps)?;
         Ok(Found {
             forced,
             taken,
-            ahead,
+            pending,
             rows,
         })
     }
 
-    /// Takes steps that are installed ahead. It takes no memory.
-    fn take_steps(&mut self, taken: &[Forced], ahead: Ahead)
-        requires all { length ahead ≡ length self.old.rows.list }
+    /// Takes steps whose differences are pending. Want of memory changes nothing but the room.
+    fn take_steps(
+        &mut self,
+        alloc: Global,
+        taken: &[Forced],
+        pending: Pending,
+    ) -> Result<(), NoMemory>
+        requires can { CanAllTake pending self.old.rows.list }
         requires views { list_all (λ (f : Forced). nat_lt f.view (length self.old.upkeep.kept.points)) taken.now ≡ true }
-        ensures rows { self.new.rows.list ≡ installed ahead self.old.rows.list }
-        ensures store { store_of self.new ≡ record (store_of self.old) { upkeep = upkeep_after taken.now self.old.upkeep.kept; rows = map rows_of (installed ahead self.old.rows.list) } }
-        ensures settings { self.new.settings ≡ self.old.settings }
-        ensures schema { self.new.schema ≡ self.old.schema }
-        ensures txns { self.new.txns ≡ self.old.txns }
+        ensures rows { OnOk result (AllTake pending self.old.rows.list self.new.rows.list) }
+        ensures upkeep { OnOk result (self.new.upkeep.kept ≡ upkeep_after taken.now self.old.upkeep.kept) }
+        ensures refused { OnErr result (OnlyRoom self.old.rows.list self.new.rows.list × (self.new.upkeep ≡ self.old.upkeep)) }
+        ensures others { self.new ≡ record self.old { rows = self.new.rows; upkeep = self.new.upkeep } }
     {
-        place_ahead(ahead, &mut self.rows);
+        take_pending(alloc, pending, &mut self.rows)?;
         advance_each(taken, &mut self.upkeep);
+        Ok(())
     }
 
     /// What the steps are computed from that a query would force now. It reads at most what these steps cost, also for
@@ -100,8 +107,8 @@ impl Store {
         self.inputs(alloc, forced.as_slice(), steps)
     }
 
-    /// A query of a session that is live. Cost: that of the steps that are taken for those that it forces, and of its
-    /// answer. Where it names no table and the transaction wrote none of its views' tables, it reads at most what the
+    /// A query of a session that is live. Cost: that of the steps that are taken for those that it forces, of their
+    /// installs, and of its answer. Where it names no table and the transaction wrote none of its views' tables, it reads at most what the
     /// steps cost that are taken, also for want of memory.
     pub fn query<L: Ledger>(
         &mut self,
@@ -129,10 +136,10 @@ impl Store {
         let Found {
             forced,
             taken,
-            ahead,
+            pending,
             rows,
         } = found;
-        self.take_steps(taken.as_slice(), ahead);
+        self.take_steps(alloc, taken.as_slice(), pending)?;
         Ok(Answer { forced, rows })
     }
 }

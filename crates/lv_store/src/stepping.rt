@@ -1,37 +1,23 @@
-//! Steps of views, which are installed ahead in copies of what is kept of the views.
-ghost use Rattle.std.specs.Prelude.{◌≡◌, ◌<◌, ◌≤◌, ◌+◌, ℕ, true, [], None, length, nat_lt, slice_set, replicate, slice_index_or, IfOk, IfSome, OnErr, OnOk};
+//! Steps of views: the difference that each gives, and how they move the points of views on.
+ghost use Rattle.std.specs.Prelude.{◌≡◌, ◌<◌, ◌≤◌, ◌+◌, ℕ, true, [], length, nat_lt, slice_index_or, IfOk, IfSome, OnOk};
 ghost use Rattle.std.specs.List.{AllByRecursion, list_all};
 ghost use Rattle.lv_schema.specs.declared.forced.Forced.{Forced};
 ghost use Rattle.lv_schema.specs.Differences.{difference};
 ghost use Rattle.lv_maint.specs.Inputs.{Outcome};
 ghost use Rattle.lv_schema.specs.Jobs.{new_sides, old_sides};
-ghost use Rattle.lv_viewrows.specs.Changed.{CanInstall};
 ghost use Rattle.lv_store.specs.Inputs.{AreCosts};
-ghost use Rattle.lv_store.specs.Querying.{CanCompute, CanInstallAll, IsCostIn, RowsInstall, StepInstalls, StepsInstall, changes_in, installed, upkeep_after};
-ghost use Rattle.lv_store.specs.Kept.{IsStore, rows_in};
+ghost use Rattle.lv_store.specs.Pending.{ArePending, difference_in, with_difference};
+ghost use Rattle.lv_store.specs.Querying.{CanCompute, IsCostIn, upkeep_after};
+ghost use Rattle.lv_store.specs.Kept.{IsStore};
 
+use crate::pending::{Difference, Pending, add_difference, none_pending};
 use crate::store::Store;
 use lv_maint::{JobInput, JobResult, compute};
 use lv_schema::{Forced, Signed};
 use lv_upkeep::Upkeep;
-use lv_values::{Items, NoMemory, Room, Steps};
-use lv_viewrows::ViewRows;
+use lv_values::{Items, NoMemory, Steps};
 use std::alloc::Global;
 use std::sync::ledger::Ledger;
-
-/// For each view a copy of what is kept of it, with the steps that are installed ahead, where there is one.
-pub(crate) type Ahead = Items<Option<ViewRows>>;
-
-/// No view has a step ahead.
-pub(crate) fn none_ahead(alloc: Global, views: usize) -> Result<Ahead, NoMemory>
-    ensures { IfOk result (λ ahead. ahead ≡ replicate views None) }
-{
-    let mut ahead = Ahead::new(alloc);
-    for _ in 0..views {
-        ahead.push(None)?;
-    }
-    Ok(ahead)
-}
 
 /// The place of an offer for an input.
 fn place_of_offer(offers: &[JobResult], input: &JobInput) -> Option<usize>
@@ -63,91 +49,52 @@ fn changes_of(
     }
 }
 
-/// Installs a difference in what is kept of a view. Want of memory changes nothing but the room.
-pub(crate) fn install(hi: u64, changes: Signed, rows: &mut ViewRows) -> Result<(), NoMemory>
-    requires { CanInstall rows.old hi changes }
-    ensures done { OnOk result (RowsInstall hi changes rows.old rows.new) }
-    ensures refused { OnErr result (rows.new ≡ record rows.old { spare = rows.new.spare }) }
-{
-    rows.reserve(changes.len() as u64)?;
-    rows.install(hi, changes);
-    Ok(())
-}
-
 impl Store {
-    /// Takes the copy of what is kept of a view out, or makes one.
-    fn take_ahead(&self, alloc: Global, view: u32, ahead: &mut Ahead) -> Result<ViewRows, NoMemory>
-        requires all { length ahead.old ≡ length self.now.rows.list }
-        requires view { view < length self.now.rows.list }
-        ensures copy { IfOk result (λ rows. rows ≡ record (rows_in (installed ahead.old self.now.rows.list) view) { spare = rows.spare }) }
-        ensures taken { ahead.new ≡ slice_set ahead.old view None }
-    {
-        match ahead.replace(view as usize, None) {
-            Some(rows) => Ok(rows),
-            None => self.rows.get(view as usize).copy(alloc),
-        }
-    }
-
-    /// Installs a step ahead. Cost: that of its difference, of its install, and of a copy of what is kept of the view if
-    /// it is the view's first.
-    fn step_ahead<L: Ledger>(
+    /// Puts the difference that a step gives behind the others of its view. Cost: that of the step's input, and of the
+    /// difference where it is computed.
+    fn add_step_difference<L: Ledger>(
         &self,
         alloc: Global,
         step: Forced,
         offers: &mut Items<JobResult>,
-        ahead: &mut Ahead,
+        pending: &mut Pending,
         steps: &mut Steps<L>,
     ) -> Result<(), NoMemory>
         requires whole { IsStore self.now }
         requires can { CanCompute self.now step }
-        requires all { length ahead.old ≡ length self.now.rows.list }
-        requires view { step.view < length self.now.rows.list }
-        requires install { CanInstall (rows_in (installed ahead.old self.now.rows.list) step.view) step.hi (changes_in self.now step) }
-        ensures all { OnOk result (length ahead.new ≡ length ahead.old) }
-        ensures step { OnOk result (StepInstalls (changes_in self.now) step (installed ahead.old self.now.rows.list) (installed ahead.new self.now.rows.list)) }
+        requires view { step.view < length pending.old }
+        ensures added { OnOk result (pending.new ≡ with_difference step.view (difference_in self.now step) pending.old) }
         ensures most { (n : ℕ) → IsCostIn self.now step n → steps.new ≤ steps.old + n }
     {
         let input = self.input(alloc, step, steps)?;
         let changes = changes_of(alloc, input, offers)?;
-        let mut rows = self.take_ahead(alloc, step.view, ahead)?;
-        install(step.hi, changes, &mut rows)?;
-        ahead.set(step.view as usize, Some(rows));
-        Ok(())
+        let difference = Difference {
+            hi: step.hi,
+            changes,
+        };
+        add_difference(alloc, step.view, difference, pending)
     }
 
-    /// Installs steps ahead, one after another.
-    pub(crate) fn steps_ahead<L: Ledger>(
+    /// The differences that steps give, for each view its own.
+    pub(crate) fn differences<L: Ledger>(
         &self,
         alloc: Global,
-        forced: &[Forced],
+        taken: &[Forced],
         mut offers: Items<JobResult>,
         steps: &mut Steps<L>,
-    ) -> Result<Ahead, NoMemory>
+    ) -> Result<Pending, NoMemory>
         requires whole { IsStore self.now }
-        requires can { AllByRecursion (CanCompute self.now) forced.now }
-        requires install { CanInstallAll (changes_in self.now) forced.now self.now.rows.list }
-        ensures all { IfOk result (λ ahead. length ahead ≡ length self.now.rows.list) }
-        ensures steps { IfOk result (λ ahead. StepsInstall (changes_in self.now) forced.now self.now.rows.list (installed ahead self.now.rows.list)) }
-        ensures cost { forced.now ≡ [] → steps.new ≡ steps.old }
-        ensures most { (n : ℕ) → AreCosts (IsCostIn self.now) forced.now n → steps.new ≤ steps.old + n }
+        requires can { AllByRecursion (CanCompute self.now) taken.now }
+        requires views { AllByRecursion (λ (f : Forced). f.view < length self.now.rows.list) taken.now }
+        ensures pending { IfOk result (ArePending self.now taken.now) }
+        ensures cost { taken.now ≡ [] → steps.new ≡ steps.old }
+        ensures most { (n : ℕ) → AreCosts (IsCostIn self.now) taken.now n → steps.new ≤ steps.old + n }
     {
-        let mut ahead = none_ahead(alloc, self.rows.len())?;
-        for step in forced {
-            self.step_ahead(alloc, *step, &mut offers, &mut ahead, steps)?;
+        let mut pending = none_pending(alloc, self.rows.len())?;
+        for step in taken {
+            self.add_step_difference(alloc, *step, &mut offers, &mut pending, steps)?;
         }
-        Ok(ahead)
-    }
-}
-
-/// The copies take the place of what was kept of their views. It takes no memory.
-pub(crate) fn place_ahead(mut ahead: Ahead, rows: &mut Room<ViewRows>)
-    requires { length ahead ≡ length rows.old.list }
-    ensures { rows.new.list ≡ installed ahead rows.old.list }
-{
-    while let Some(copy) = ahead.pop() {
-        if let Some(view) = copy {
-            rows.set(ahead.len(), view);
-        }
+        Ok(pending)
     }
 }
 

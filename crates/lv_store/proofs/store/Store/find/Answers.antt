@@ -1,14 +1,17 @@
-use Rattle.std.proofs.Common.{sym, subst, arith}
+use Rattle.std.proofs.Common.{◌<◌, length, sym, subst, arith}
 use Rattle.std.specs.List.{AllByRecursion}
 use Rattle.lv_stands.specs.Moves.{StepsFollow}
-use Rattle.lv_store.specs.Querying.{CanCompute, CanInstallAll, InPlaceOf, IsCostIn, changes_in}
+use Rattle.lv_schema.specs.declared.forced.Forced.{Forced}
+use Rattle.lv_store.specs.Pending.{ArePending}
+use Rattle.lv_store.specs.Querying.{CanCompute, InPlaceOf, IsCostIn}
 use Rattle.lv_store.specs.Inputs.{AreCosts}
 use Rattle.lv_store.proofs.Forcing.{can_compute_all, steps_follow}
-use Rattle.lv_store.proofs.Queries.{installs_all, takes_nothing}
+use Rattle.lv_store.proofs.OwnReads.{rows_long}
+use Rattle.lv_store.proofs.Queries.{can_read, steps_below, takes_nothing}
 use Rattle.lv_store.proofs.store.Store.find.Goals as goal
 
-pub steps_ahead-requires-clause-can : goal.steps_ahead-requires-clause-can
-steps_ahead-requires-clause-can g c =
+pub differences-requires-clause-can : goal.differences-requires-clause-can
+differences-requires-clause-can g c =
     let p = c.args.self.now in
     let whole = c.requires.whole in
     let follow = subst (StepsFollow whole.world) (sym c.in_ok-forced.ensures) (steps_follow p whole.world whole.stands c.args.session c.args.query.now c.requires.bound) in
@@ -16,14 +19,26 @@ steps_ahead-requires-clause-can g c =
     subst (AllByRecursion (CanCompute p)) (sym c.as_slice.ensures)
     (can_compute_all p whole.world whole.stands c.in_ok-taken.taken place.follow)
 
-pub steps_ahead-requires-clause-install : goal.steps_ahead-requires-clause-install
-steps_ahead-requires-clause-install g c =
+pub differences-requires-clause-views : goal.differences-requires-clause-views
+differences-requires-clause-views g c =
     let p = c.args.self.now in
     let whole = c.requires.whole in
     let follow = subst (StepsFollow whole.world) (sym c.in_ok-forced.ensures) (steps_follow p whole.world whole.stands c.args.session c.args.query.now c.requires.bound) in
     let place = c.in_ok-taken.ensures.taken whole.world whole.stands follow in
-    subst (λ steps. CanInstallAll (changes_in p) steps p.rows.list) (sym c.as_slice.ensures)
-    (installs_all p c.args.session c.args.query.now c.requires.bound whole c.in_ok-taken.taken place.follow)
+    subst (AllByRecursion (λ (f : Forced). f.view < length p.rows.list)) (sym c.as_slice.ensures)
+    (steps_below p c.args.session c.args.query.now c.requires.bound whole.world whole.stands c.in_ok-taken.taken place.follow (length p.rows.list) (omega (arith, rows_long p whole.world whole.stands)))
+
+pub answer_with-requires-clause-pending : goal.answer_with-requires-clause-pending
+answer_with-requires-clause-pending g c =
+    let p = c.args.self.now in
+    let whole = c.requires.whole in
+    let follow = subst (StepsFollow whole.world) (sym c.in_ok-forced.ensures) (steps_follow p whole.world whole.stands c.args.session c.args.query.now c.requires.bound) in
+    let place = subst (λ steps. InPlaceOf whole.world steps c.in_ok-taken.taken) c.in_ok-forced.ensures (c.in_ok-taken.ensures.taken whole.world whole.stands follow) in
+    can_read p c.args.session c.args.query.now c.requires.bound whole c.requires.live c.in_ok-taken.taken place c.in_ok-pending.pending
+    (subst (λ steps. ArePending p steps c.in_ok-pending.pending) c.as_slice.ensures c.in_ok-pending.ensures.pending)
+
+pub returns-clause-pending : goal.returns-clause-pending
+returns-clause-pending g c = subst (λ steps. ArePending c.args.self.now steps c.in_ok-pending.pending) c.as_slice.ensures c.in_ok-pending.ensures.pending
 
 pub returns-clause-taken : goal.returns-clause-taken
 returns-clause-taken g c = λ w is.
@@ -35,14 +50,14 @@ returns-in_err-forced-clause-most g c = λ kept w is. takes_nothing c.args.self.
 pub returns-in_err-taken-clause-most : goal.returns-in_err-taken-clause-most
 returns-in_err-taken-clause-most g c = λ kept w is. takes_nothing c.args.self.now c.args.session c.args.query.now c.requires.bound w is c.args.steps.now
 
-pub returns-in_err-ahead-clause-most : goal.returns-in_err-ahead-clause-most
-returns-in_err-ahead-clause-most g c = λ kept w is.
+pub returns-in_err-pending-clause-most : goal.returns-in_err-pending-clause-most
+returns-in_err-pending-clause-most g c = λ kept w is.
     let p = c.args.self.now in
     let follow = subst (StepsFollow w) (sym c.in_ok-forced.ensures) (steps_follow p w is c.args.session c.args.query.now c.requires.bound) in
     record {
       taken = c.in_ok-taken.taken;
       place = subst (λ steps. InPlaceOf w steps c.in_ok-taken.taken) c.in_ok-forced.ensures (c.in_ok-taken.ensures.taken w is follow);
-      most = λ n costs. c.in_err-ahead.ensures.most n (subst (λ steps. AreCosts (IsCostIn p) steps n) (sym c.as_slice.ensures) costs);
+      most = λ n costs. c.in_err-pending.ensures.most n (subst (λ steps. AreCosts (IsCostIn p) steps n) (sym c.as_slice.ensures) costs);
     }
 
 pub returns-in_err-rows-clause-most : goal.returns-in_err-rows-clause-most
@@ -53,7 +68,7 @@ returns-in_err-rows-clause-most g c = λ kept w is.
       taken = c.in_ok-taken.taken;
       place = subst (λ steps. InPlaceOf w steps c.in_ok-taken.taken) c.in_ok-forced.ensures (c.in_ok-taken.ensures.taken w is follow);
       most = λ n costs.
-          let most = c.in_ok-ahead.ensures.most n (subst (λ steps. AreCosts (IsCostIn p) steps n) (sym c.as_slice.ensures) costs) in
+          let most = c.in_ok-pending.ensures.most n (subst (λ steps. AreCosts (IsCostIn p) steps n) (sym c.as_slice.ensures) costs) in
           omega (arith, most, c.in_err-rows.ensures.cost kept);
     }
 
@@ -65,6 +80,6 @@ returns-clause-most g c = λ kept w is.
       taken = c.in_ok-taken.taken;
       place = subst (λ steps. InPlaceOf w steps c.in_ok-taken.taken) c.in_ok-forced.ensures (c.in_ok-taken.ensures.taken w is follow);
       most = λ n costs.
-          let most = c.in_ok-ahead.ensures.most n (subst (λ steps. AreCosts (IsCostIn p) steps n) (sym c.as_slice.ensures) costs) in
+          let most = c.in_ok-pending.ensures.most n (subst (λ steps. AreCosts (IsCostIn p) steps n) (sym c.as_slice.ensures) costs) in
           omega (arith, most, c.in_ok-rows.ensures.cost kept);
     }

@@ -1,5 +1,5 @@
 use Rattle.lv_store.proofs.Steps.{any_room}
-use Rattle.lv_store.proofs.stepping.install.Goals as goal
+use Rattle.lv_store.proofs.pending.install.Goals as goal
 
 pub install-requires-clause-change : goal.install-requires-clause-change
 install-requires-clause-change c =

@@ -1,0 +1,175 @@
+-- Differences of views that are pending: what the views show with them, and their install.
+use Rattle.std.proofs.Common.{◌≡◌, ℕ, zero, suc, ◌+◌, ◌<◌, ◌≤◌, Bool, true, false, List, [], ◌∷◌, ◌++◌, length, refl, sym, ap, ◌∙◌, subst, arith, length-append}
+use Rattle.std.specs.Prelude.{◌==◌, slice_set}
+use Rattle.std.proofs.lemmas.Bool.Decides.{nat_tests}
+use Rattle.std.proofs.lemmas.List.{get_or-set_other, get_or-set_same, length-set}
+use Rattle.lv_schema.specs.declared.signed.SignedRow.{SignedRow}
+use Rattle.lv_schema.specs.declared.view.ViewDef.{ViewDef}
+use Rattle.lv_viewrows.specs.Changed.{CanInstall, groups_with}
+use Rattle.lv_viewrows.specs.Kept.{ViewKept, groups_at, rows_listed, shown}
+use Rattle.lv_store.specs.declared.pending.Difference.{Difference}
+use Rattle.lv_store.specs.Pending.{AllTake, AreUpTo, CanAllTake, CanTakeEach, HaveRoom, TakesEach, changed_rows, pending_at}
+use Rattle.lv_store.specs.Querying.{OnlyRoom, RowsInstall}
+use Rattle.lv_store.specs.Kept.{no_rows, rows_in}
+use Rattle.lv_store.proofs.Steps.{any_room, any_room_installs}
+
+-- ---- one of the views is another one
+pub is_same : (a b : ℕ) → (a == b) ≡ true → a ≡ b
+is_same a b e = grind (arith, nat_tests)
+
+pub is_other : (a b : ℕ) → (a == b) ≡ false → a ≡ b → ⊥
+is_other a b e same = let test : (a == b) ≡ true = grind (arith, nat_tests) in differ (sym test ∙ e)
+  where
+    differ : true ≡ false → ⊥
+    differ z = cc
+
+pub set_each : (P : ℕ → ViewKept → Type 0) (rows : List ViewKept) (at : ℕ) (k : ViewKept) → at < length rows → P at k → ((v : ℕ) → v < length rows → (v ≡ at → ⊥) → P v (rows_in rows v))
+    → (v : ℕ) → v < length rows → P v (rows_in (slice_set rows at k) v)
+set_each P rows at k inside here others v lt = by (v == at) refl
+  where
+    by : (b : Bool) → (v == at) ≡ b → P v (rows_in (slice_set rows at k) v)
+    by true e =
+        let same = is_same v at e in
+        subst (λ n. P n (rows_in (slice_set rows at k) n)) (sym same) (subst (P at) (sym (get_or-set_same rows at k no_rows inside)) here)
+    by false e =
+        let other = is_other v at e in
+        subst (P v) (sym (get_or-set_other rows at v k no_rows other)) (others v lt other)
+
+-- ---- room
+pub can_any_room : (ds : List Difference) (a b : ViewKept) → b ≡ record a { spare = b.spare } → CanTakeEach ds a → CanTakeEach ds b
+can_any_room [] a b is h = tt
+can_any_room (d ∷ ds) a b is h = (any_room a b d.hi d.changes is h.0, λ next i. h.1 next (any_room_installs a b next d.hi d.changes is i))
+
+pub takes_any_room : (ds : List Difference) (a b new : ViewKept) → b ≡ record a { spare = b.spare } → TakesEach ds b new → TakesEach ds a new
+takes_any_room [] a b new is h = h ∙ ap (λ (k : ViewKept). record k { spare = new.spare }) is
+takes_any_room (d ∷ ds) a b new is h = (h.0, any_room_installs a b h.0 d.hi d.changes is h.1, h.2)
+
+pub can_all_room : (pending : List (List Difference)) (old new : List ViewKept) → OnlyRoom old new → CanAllTake pending old → CanAllTake pending new
+can_all_room pending old new h can = record {
+  all = can.all ∙ sym h.all;
+  each = λ v lt. let here : v < length old = omega (arith, lt, h.all) in can_any_room (pending_at pending v) (rows_in old v) (rows_in new v) (h.each v here) (can.each v here);
+}
+
+pub all_take_room : (pending : List (List Difference)) (old rows new : List ViewKept) → OnlyRoom old rows → AllTake pending rows new → AllTake pending old new
+all_take_room pending old rows new h take = record {
+  all = take.all ∙ h.all;
+  each = λ v lt. takes_any_room (pending_at pending v) (rows_in old v) (rows_in rows v) (rows_in new v) (h.each v lt) (take.each v (omega (arith, lt, h.all)));
+}
+
+-- room is made for one view after another
+abbrev pub RoomBelow : ℕ → List (List Difference) → List ViewKept → Type 0
+RoomBelow n pending rows = (v : ℕ) → v < length rows → v < n → changed_rows (pending_at pending v) ≤ (rows_in rows v).spare
+
+-- ---- the first of differences, and the rest
+module _ (ds rest : List Difference) (d : Difference) (is : ds ≡ d ∷ rest) where
+  pub first_can : (k : ViewKept) → CanTakeEach ds k → CanInstall k d.hi d.changes
+  first_can k can = let here : CanTakeEach (d ∷ rest) k = subst (λ l. CanTakeEach l k) is can in here.0
+
+  pub rest_can : (k next : ViewKept) → CanTakeEach ds k → RowsInstall d.hi d.changes k next → CanTakeEach rest next
+  rest_can k next can install = let here : CanTakeEach (d ∷ rest) k = subst (λ l. CanTakeEach l k) is can in here.1 next install
+
+  pub rest_takes : (all : List Difference) (start k next : ViewKept) → ((new : ViewKept) → TakesEach ds k new → TakesEach all start new) → RowsInstall d.hi d.changes k next
+      → (new : ViewKept) → TakesEach rest next new → TakesEach all start new
+  rest_takes all start k next done install new more = done new (subst (λ l. TakesEach l k new) (sym is) (next, install, more))
+
+  pub rest_rows : changed_rows ds ≡ length d.changes + changed_rows rest
+  rest_rows = ap changed_rows is
+
+-- ---- a loop over views, the last one first
+pub last_at : (popped : List (List Difference)) (ds : List Difference) → pending_at (popped ++ ds ∷ []) (length popped) ≡ ds
+last_at [] ds = refl
+last_at (p ∷ popped) ds = last_at popped ds
+
+pub before_at : (popped : List (List Difference)) (ds : List Difference) (v : ℕ) → v < length popped → pending_at (popped ++ ds ∷ []) v ≡ pending_at popped v
+before_at [] ds v lt = absurd (omega (arith, lt))
+before_at (p ∷ popped) ds zero lt = refl
+before_at (p ∷ popped) ds (suc v) lt = before_at popped ds v (omega (arith, lt))
+
+-- the views from a number on have taken their differences, and those below are as they were
+pub record TakenFrom (pending left : List (List Difference)) (old rows : List ViewKept) : Type 0 where
+  pub all : length rows ≡ length old
+  pub long : length left ≤ length old
+  pub same : (v : ℕ) → v < length left → (pending_at left v ≡ pending_at pending v) × (rows_in rows v ≡ rows_in old v)
+  pub done : (v : ℕ) → v < length old → length left ≤ v → TakesEach (pending_at pending v) (rows_in old v) (rows_in rows v)
+
+pub taken_start : (pending : List (List Difference)) (old : List ViewKept) → CanAllTake pending old → TakenFrom pending pending old old
+taken_start pending old can = record {
+  all = refl;
+  long = omega (arith, can.all);
+  same = λ v lt. (refl, refl);
+  done = λ v lt le. absurd (omega (arith, lt, le, can.all));
+}
+
+module _ (pending left popped : List (List Difference)) (ds : List Difference) (old rows : List ViewKept) (is : left ≡ popped ++ ds ∷ []) (taken : TakenFrom pending left old rows) where
+  longer : length left ≡ length popped + 1
+  longer = ap length is ∙ length-append popped (ds ∷ [])
+
+  pub popped_inside : length popped < length rows
+  popped_inside = omega (arith, longer, taken.long, taken.all)
+
+  its_own : ds ≡ pending_at pending (length popped)
+  its_own = sym (last_at popped ds) ∙ ap (λ l. pending_at l (length popped)) (sym is) ∙ (taken.same (length popped) (omega (arith, longer))).0
+
+  its_rows : rows_in rows (length popped) ≡ rows_in old (length popped)
+  its_rows = (taken.same (length popped) (omega (arith, longer))).1
+
+  pub popped_can : CanAllTake pending old → CanTakeEach ds (rows_in rows (length popped))
+  popped_can can =
+      subst (CanTakeEach ds) (sym its_rows)
+      (subst (λ l. CanTakeEach l (rows_in old (length popped))) (sym its_own) (can.each (length popped) (omega (arith, popped_inside, taken.all))))
+
+  pub popped_room : HaveRoom pending old → changed_rows ds ≤ (rows_in rows (length popped)).spare
+  popped_room room =
+      subst (λ (k : ViewKept). changed_rows ds ≤ k.spare) (sym its_rows)
+      (subst (λ l. changed_rows l ≤ (rows_in old (length popped)).spare) (sym its_own) (room (length popped) (omega (arith, popped_inside, taken.all))))
+
+  pub taken_next : (new : List ViewKept) (k : ViewKept) → TakesEach ds (rows_in rows (length popped)) k → new ≡ slice_set rows (length popped) k → TakenFrom pending popped old new
+  taken_next new k take set =
+      subst (TakenFrom pending popped old) (sym set)
+      (record {
+        all = length-set rows (length popped) k ∙ taken.all;
+        long = omega (arith, longer, taken.long);
+        same = λ v lt. (
+          sym (before_at popped ds v lt) ∙ ap (λ l. pending_at l v) (sym is) ∙ (taken.same v (omega (arith, lt, longer))).0,
+          get_or-set_other rows (length popped) v k no_rows (λ e. omega (arith, e, lt)) ∙ (taken.same v (omega (arith, lt, longer))).1,
+        );
+        done = λ v lt.
+            set_each (λ n x. length popped ≤ n → TakesEach (pending_at pending n) (rows_in old n) x) rows (length popped) k popped_inside
+            (λ le. subst (λ l. TakesEach l (rows_in old (length popped)) k) its_own (subst (λ (r : ViewKept). TakesEach ds r k) its_rows take))
+            (λ n ln ne le. taken.done n (omega (arith, ln, taken.all)) (after n le ne)) v (omega (arith, lt, taken.all));
+      })
+    where
+      after : (n : ℕ) → length popped ≤ n → (n ≡ length popped → ⊥) → length left ≤ n
+      after n le ne = by (n == length popped) refl
+        where
+          by : (b : Bool) → (n == length popped) ≡ b → length left ≤ n
+          by true e = absurd (ne (is_same n (length popped) e))
+          by false e = let more : length popped < n = grind (arith, nat_tests) in omega (arith, longer, more)
+
+pub taken_all : (pending left : List (List Difference)) (old rows : List ViewKept) → left ≡ [] → TakenFrom pending left old rows → AllTake pending old rows
+taken_all pending left old rows none taken = record {
+  all = taken.all;
+  each = λ v lt. taken.done v lt (omega (arith, ap length none));
+}
+
+-- ---- what a view shows
+pub preview_shows : (rows next new : ViewKept) (hi n : ℕ) (changes : List SignedRow) → RowsInstall hi changes rows next → new ≡ record next { spare = new.spare } → hi ≤ n
+    → rows_listed rows.def (groups_with changes (groups_at rows.at rows.versions)) ≡ shown n new
+preview_shows rows next new hi n changes h is le =
+    sym (ap (shown n) is ∙ ap (λ (d : ViewDef). rows_listed d (groups_at n next.versions)) h.def_stays ∙ ap (rows_listed rows.def) (h.from n le))
+
+installed_at : (hi : ℕ) (changes : List SignedRow) (old next : ViewKept) → RowsInstall hi changes old next → groups_at next.at next.versions ≡ groups_with changes (groups_at old.at old.versions)
+installed_at hi changes old next h = h.from next.at (omega (arith, h.at_is))
+
+-- of the room nothing depends
+takes_same : (ds : List Difference) (a b new last : ViewKept) (n : ℕ) → a.def ≡ b.def → groups_at n a.versions ≡ groups_at n b.versions → groups_at a.at a.versions ≡ groups_at b.at b.versions
+    → AreUpTo n ds → TakesEach ds a new → TakesEach ds b last → shown n new ≡ shown n last
+takes_same [] a b new last n def at point up x y = ap (shown n) x ∙ (λ i. rows_listed (def i) (at i)) ∙ sym (ap (shown n) y)
+takes_same (d ∷ ds) a b new last n def at point up x y =
+    takes_same ds x.0 y.0 new last n (x.1.def_stays ∙ def ∙ sym y.1.def_stays)
+    (x.1.from n up.0 ∙ ap (groups_with d.changes) point ∙ sym (y.1.from n up.0))
+    (installed_at d.hi d.changes a x.0 x.1 ∙ ap (groups_with d.changes) point ∙ sym (installed_at d.hi d.changes b y.0 y.1))
+    up.1 x.2 y.2
+
+pub copy_shows : (ds : List Difference) (rows copy new : ViewKept) (n : ℕ) → AreUpTo n ds → TakesEach ds rows copy → TakesEach ds rows new → shown n copy ≡ shown n new
+copy_shows ds rows copy new n up a b = takes_same ds rows rows copy new n refl refl refl up a b
