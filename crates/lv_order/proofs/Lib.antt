@@ -1,4 +1,5 @@
 pub mod Answered
 pub mod Counting
 pub mod Due
+pub mod Once
 pub mod Rounds

@@ -6,10 +6,11 @@ ghost use Rattle.lv_plain.specs.declared.program.Program.{Program};
 ghost use Rattle.lv_plain.specs.declared.event.Event.{Event};
 ghost use Rattle.lv_plain.specs.Events.{schedule};
 ghost use Rattle.lv_plain.specs.Following.{IsFollowable};
-ghost use Rattle.lv_plain.specs.Legal.{MayHappen, after, begun, events_of};
+ghost use Rattle.lv_plain.specs.Legal.{MayHappen, Whole, after, begun, events_of};
 ghost use Rattle.lv_plain.specs.Machine.{State};
 ghost use Rattle.lv_plain.specs.Programs.{all_answered};
 ghost use Rattle.lv_plain.specs.Rules.{Rules};
+ghost use Rattle.lv_order.specs.Once.{AnswerOnce};
 ghost use Rattle.lv_order.specs.Places.{places_after};
 
 /// How many statements of each session are answered after entries depends on their events, and on nothing else.
@@ -27,4 +28,9 @@ pub fn each_event_may_come()
 /// After all of them every statement is answered.
 pub fn all_is_answered()
     ensures { (p : Program) → IsFollowable p → all_answered p (places_after p (schedule p)) ≡ true }
+{}
+
+/// The entries of a whole run answer each statement of each session once, in their order.
+pub fn each_statement_is_answered_once()
+    ensures { (rules : Rules) (opened : World) (es : List Entry) → Whole rules opened es → AnswerOnce rules.program es }
 {}

@@ -1,7 +1,10 @@
 -- What each status says, of words that are accepted.
-use Rattle.std.proofs.Common.{◌≡◌, ℕ, List, Option, Some, None, inl, inr, refl, sym, ap, ◌∙◌, subst}
-use Rattle.std.specs.Prelude.{◌⊎◌, IsTrue, IfSome}
-use Rattle.std.specs.Io.KnownBytes.{Keeps}
+use Rattle.std.proofs.Common.{◌≡◌, ℕ, zero, suc, ◌<◌, ◌+◌, ◌-◌, ◌^◌, ◌≤◌, min, List, [], ◌++◌, length, Option, Some, None, inl, inr, refl, sym, ap, ◌∙◌, subst, arith}
+use Rattle.std.specs.Prelude.{◌⊎◌, IsTrue, IfSome, Ok}
+use Rattle.std.specs.Io.KnownBytes.{Consumes, IsAtEnd, Keeps}
+use Rattle.std.proofs.lemmas.List.{append-nil, length-append}
+use Rattle.lv_core.specs.Run.{failures_shown}
+use Rattle.lv_lines.specs.Script.{script_of}
 use Rattle.lv_outside.specs.Causes.{Rose}
 use Rattle.lv_recover.specs.Opening.{BadAt}
 use Rattle.lv_words.specs.declared.words.Words.{Words as SaidWords}
@@ -9,7 +12,11 @@ use Rattle.lv_words.specs.Words.{said}
 use Rattle.lv_runner.specs.declared.status.Status.{Status}
 use Rattle.lv_runner.specs.declared.status.Status.TheVariants.{Done, Words, Script, SourceFault, SinkFault, BadJournal, OpenFault, Differ, NoMemory}
 use Rattle.lv_runner.specs.Differing.{shown}
-use Rattle.lv_runner.specs.Ends.{All, Ends, FailedOpening, HandedOut, NotAsked, Other, Outside, Part, Refused, TurnedAway}
+use Rattle.lv_plain.specs.declared.program.Program.{Program}
+use Rattle.lv_runner.specs.Ends.{All, Completes, Ends, FailedOpening, HandedOut, HasScript, IsLeft, IsWell, NotAsked, Other, Outside, Part, Refused, TurnedAway, WroteWell}
+use Rattle.lv_runner.specs.Output.{IsBad, limit}
+use Rattle.lv_order.proofs.Once.{answer_once}
+use Rattle.lv_runner.proofs.Read.{too_long}
 
 -- the words that are said are one
 some_or : SaidWords → Option SaidWords → SaidWords
@@ -19,6 +26,38 @@ some_or w None = w
 same_words : (v w : SaidWords) (words : List (List ℕ)) → said words ≡ Some v → said words ≡ Some w → v ≡ w
 unfolding some_or
 same_words v w words e f = ap (some_or v) (sym e ∙ f)
+
+-- ---- a script without a fault is not refused
+whole_of : (bytes front rest : List ℕ) → bytes ≡ front ++ rest → rest ≡ [] → front ≡ bytes
+whole_of bytes front rest is none = sym (is ∙ ap (λ (r : List ℕ). front ++ r) none ∙ append-nil front)
+
+no_fault : (bytes : List ℕ) (program : Program) (line kind : ℕ) → script_of bytes ≡ Ok program → IsBad bytes line kind → ⊥
+no_fault bytes program line kind is bad = absurd (cc (is, bad.script))
+
+not_long : (bytes front rest : List ℕ) (program : Program) → bytes ≡ front ++ rest → limit < length front → script_of bytes ≡ Ok program → ⊥
+not_long bytes front rest program is long ok =
+    let all : length bytes ≡ length front + length rest = ap length is ∙ length-append front rest in
+    absurd (cc (ok, too_long bytes (omega (arith, all, long))))
+
+not_refused : (bytes : List ℕ) (program : Program) (left0 left1 : Option (List ℕ)) (line kind : ℕ) → left0 ≡ Some bytes → script_of bytes ≡ Ok program → Refused left0 left1 line kind → ⊥
+not_refused bytes program left0 left1 line kind told ok r = by left1 (subst (λ (o : Option (List ℕ)). Consumes o left1 r.bytes) told r.consumed) r.ended
+  where
+    by : (left1 : Option (List ℕ)) → Consumes (Some bytes) left1 r.bytes → IsAtEnd left1 ⊎ (limit < length r.bytes) → ⊥
+    by None consumed ended = absurd consumed
+    by (Some rest) consumed (inl none) = no_fault r.bytes program line kind (ap script_of (whole_of bytes r.bytes rest consumed none) ∙ ok) r.refused
+    by (Some rest) consumed (inr long) = not_long bytes r.bytes rest program consumed long ok
+
+script_stands : (made : Option ℕ) (left0 left1 : Option (List ℕ)) (line kind : ℕ) → HasScript made left0 → made ≡ None → Refused left0 left1 line kind → ⊥
+script_stands None left0 left1 line kind has none r = not_refused has.0 has.1 left0 left1 line kind has.2 has.3 r
+script_stands (Some n) left0 left1 line kind has none r = absurd cc
+
+-- ---- a disk whose count did not rise failed at no entry
+none_failed : (count failed now : ℕ) → min (count + failed) (2 ^ 64 - 1) ≤ now → (Rose count now → ⊥) → failed ≡ 0
+none_failed count failed now caused well = by failed caused
+  where
+    by : (n : ℕ) → min (count + n) (2 ^ 64 - 1) ≤ now → n ≡ 0
+    by zero caused = refl
+    by (suc n) caused = absurd (well (omega (arith, caused)))
 
 module _ {D : Type 0} (seen : D → Option (List ℕ)) (may_leave : D → List ℕ → Type 0) (moment : D → ℕ) (left_since : D → ℕ → List ℕ → Type 0) (faults : D → ℕ) (holds : Option (List ℕ) → Option (List ℕ)) (old new : Outside) (back : Option D) (words : List (List ℕ)) (v : SaidWords) (is : said words ≡ Some v)
     (s : Status) (ends : Ends seen may_leave moment left_since faults v (holds v.log) v.log old new back s) where
@@ -103,6 +142,41 @@ module _ {D : Type 0} (seen : D → Option (List ℕ)) (may_leave : D → List �
 
   pub kept_unless : (s ≡ Done → ⊥) → (s ≡ SinkFault → ⊥) → (s ≡ NoMemory → ⊥) → Keeps old.written new.written
   kept_unless done sink short = kept_at s ends done sink short
+
+  pub is_left : (w : SaidWords) (offset : ℕ) → said words ≡ Some w → s ≡ BadJournal offset → IsLeft seen (holds w.log) back
+  is_left w offset there e = (at w there (BadJournal offset) e).3
+
+  -- ---- where nothing goes wrong
+  abbrev Well : SaidWords → Type 0
+  Well w = IsWell seen may_leave moment left_since faults w (holds w.log) w.log old new back
+
+  not_open : (w : SaidWords) → Well w → FailedOpening faults old.disks_faults new.disks_faults new.openings.count back → ⊥
+  not_open w well failed = by back refl failed
+    where
+      by : (b : Option D) → back ≡ b → FailedOpening faults old.disks_faults new.disks_faults new.openings.count b → ⊥
+      by None is failed = well.disks failed
+      by (Some disk) is failed = well.disk disk is failed
+
+  wrote_well : (w : SaidWords) → Well w → All seen may_leave moment left_since faults w (holds w.log) w.log old new back → WroteWell seen may_leave moment left_since faults w (holds w.log) w.log old new back
+  wrote_well w well all = record {
+    all = all;
+    once = answer_once _ _ _ all.wrote.gives.whole;
+    unfailed = none_failed new.openings.count (failures_shown all.wrote.gives.entries) (faults all.disk) all.wrote.has.caused (well.disk all.disk all.comes_back);
+  }
+
+  completes_at : (w : SaidWords) (t : Status) → Well w → Ends seen may_leave moment left_since faults w (holds w.log) w.log old new back t → Completes seen may_leave moment left_since faults w (holds w.log) w.log old new back t
+  completes_at w Done well ends = inl (refl, wrote_well w well ends.0)
+  completes_at w Words well ends = absurd ends
+  completes_at w (Script line kind) well ends = absurd (script_stands w.make old.left new.left line kind well.script ends.0 ends.1)
+  completes_at w SourceFault well ends = absurd (well.source ends.0 ends.1)
+  completes_at w SinkFault well ends = absurd (well.sink ends.1)
+  completes_at w (BadJournal offset) well ends = absurd (well.good offset (subst (λ (o : Option (List ℕ)). IfSome o (λ bytes. BadAt bytes offset)) well.tells ends.0))
+  completes_at w OpenFault well ends = absurd (not_open w well ends.0)
+  completes_at w (Differ session place given kept) well ends = inr (inr (ends.0.differed.threads, session, place, given, kept, refl))
+  completes_at w NoMemory well ends = inr (inl refl)
+
+  pub completes : (w : SaidWords) → said words ≡ Some w → Well w → Completes seen may_leave moment left_since faults w (holds w.log) w.log old new back s
+  completes w there well = completes_at w s well (ends_of w there)
 
 -- words that are not accepted set nothing
 none_is_not : (words : List (List ℕ)) (w : SaidWords) → said words ≡ None → said words ≡ Some w → ⊥

@@ -53,16 +53,19 @@ module _ {D : Type 0} (seen : D → Option (List ℕ)) (may_leave : D → List �
     -- one that was not
     pub ends_unopened : (there : D) (written : Option (List ℕ)) (is_flushed : Bool) (sink : ℕ) (cause : JFault) (disk : D) (status : Status) → status ≡ unopened_as cause
         → TellsAtLeast seen may_leave moment left_since faults told there
-        → ((offset : ℕ) → cause ≡ journal.Bad offset → IfSome (seen there) (λ f. BadAt f offset)) → (cause ≡ journal.Failed → Rose count (faults disk))
+        → ((offset : ℕ) → cause ≡ journal.Bad offset → IfSome (seen there) (λ f. BadAt f offset)) → ((offset : ℕ) → cause ≡ journal.Bad offset → IfSome (seen there) (λ f. seen disk ≡ Some f))
+        → (cause ≡ journal.Failed → Rose count (faults disk))
         → EndsOpened seen may_leave moment left_since faults w told bytes count written written is_flushed sink sink status (Some disk)
-    ends_unopened there written is_flushed sink cause disk status is tells bad failed =
-        subst (λ s. EndsOpened seen may_leave moment left_since faults w told bytes count written written is_flushed sink sink s (Some disk)) (sym is) (by cause bad failed)
+    ends_unopened there written is_flushed sink cause disk status is tells bad stays failed =
+        subst (λ s. EndsOpened seen may_leave moment left_since faults w told bytes count written written is_flushed sink sink s (Some disk)) (sym is) (by cause bad stays failed)
       where
-        by : (cause : JFault) → ((offset : ℕ) → cause ≡ journal.Bad offset → IfSome (seen there) (λ f. BadAt f offset)) → (cause ≡ journal.Failed → Rose count (faults disk))
+        by : (cause : JFault) → ((offset : ℕ) → cause ≡ journal.Bad offset → IfSome (seen there) (λ f. BadAt f offset)) → ((offset : ℕ) → cause ≡ journal.Bad offset → IfSome (seen there) (λ f. seen disk ≡ Some f))
+            → (cause ≡ journal.Failed → Rose count (faults disk))
             → EndsOpened seen may_leave moment left_since faults w told bytes count written written is_flushed sink sink (unopened_as cause) (Some disk)
-        by (journal.Bad offset) bad failed = (retold told (seen there) (λ f. BadAt f offset) tells (bad offset refl), Keeps-refl written)
-        by journal.Failed bad failed = (failed refl, Keeps-refl written)
-        by journal.NoMemory bad failed = inl (Keeps-refl written)
+        by (journal.Bad offset) bad stays failed =
+            (retold told (seen there) (λ f. BadAt f offset) tells (bad offset refl), Keeps-refl written, retold told (seen there) (λ f. seen disk ≡ Some f) tells (stays offset refl))
+        by journal.Failed bad stays failed = (failed refl, Keeps-refl written)
+        by journal.NoMemory bad stays failed = inl (Keeps-refl written)
 
   -- ---- the source, the sink and the disks
   module _ (w : SaidWords) (told path : Option (List ℕ)) (old new : Outside) (bytes : List ℕ) (input : HasInput w.make old.left new.left bytes) where
@@ -82,7 +85,7 @@ module _ {D : Type 0} (seen : D → Option (List ℕ)) (may_leave : D → List �
     at_end out (Script line kind) (Some disk) h = absurd h
     at_end out SourceFault (Some disk) h = absurd h
     at_end out SinkFault (Some disk) h = (part disk h.0, h.1, out)
-    at_end out (BadJournal offset) (Some disk) h = (h.0, h.1, out)
+    at_end out (BadJournal offset) (Some disk) h = (h.0, h.1, out, h.2)
     at_end out OpenFault (Some disk) h = (h.0, h.1, inl out)
     at_end out (Differ session place given kept) (Some disk) h = (record { bytes = bytes; input = input; disk = disk; comes_back = refl; differed = h.0 }, h.1, out)
     at_end out NoMemory (Some disk) h = by h
@@ -111,3 +114,18 @@ module _ {D : Type 0} (seen : D → Option (List ℕ)) (may_leave : D → List �
       by (Some n) m (why.Script line kind) h = absurd h
       by (Some n) m why.Source h = absurd h
       by made m why.NoMemory h = inl (Keeps-refl written, refl)
+
+-- ---- a run without a program opens no journal
+pub read_first : (unread : Unread) (status : Status) → status ≡ unread_as unread → (status ≡ OpenFault) ⊎ ((offset : ℕ) × (status ≡ BadJournal offset)) → ⊥
+read_first unread status is (inl e) = by unread (sym is ∙ e)
+  where
+    by : (u : Unread) → unread_as u ≡ OpenFault → ⊥
+    by (why.Script line kind) e = absurd cc
+    by why.Source e = absurd cc
+    by why.NoMemory e = absurd cc
+read_first unread status is (inr h) = by unread (sym is ∙ h.1)
+  where
+    by : (u : Unread) → unread_as u ≡ BadJournal h.0 → ⊥
+    by (why.Script line kind) e = absurd cc
+    by why.Source e = absurd cc
+    by why.NoMemory e = absurd cc

@@ -16,7 +16,7 @@ use Rattle.lv_runner.specs.Plan.{IsCause, IsPlanOf}
 
 -- ---- a script that is too long
 
-too_long : (bytes : List ℕ) → limit < length bytes → script_of bytes ≡ Err (Bad 0 ScriptTooLong)
+pub too_long : (bytes : List ℕ) → limit < length bytes → script_of bytes ≡ Err (Bad 0 ScriptTooLong)
 too_long bytes long =
     let over : nat_lt 16777216 (length bytes) ≡ true = grind (arith, nat_tests, long) in
     ap (λ (b : Bool). if b then Err (Bad 0 ScriptTooLong) else script_from first_part 1 (lines_of bytes)) over

@@ -84,7 +84,7 @@ module _ {D : Type 0} (seen : D → Option (List ℕ)) (may_leave : D → List �
     EndsOpened status None = ⊥
     EndsOpened Done (Some disk) = EndsOver Done (Some disk)
     EndsOpened SinkFault (Some disk) = EndsOver SinkFault (Some disk)
-    EndsOpened (BadJournal offset) (Some disk) = IfSome told (λ f. BadAt f offset) × Keeps written0 written1
+    EndsOpened (BadJournal offset) (Some disk) = IfSome told (λ f. BadAt f offset) × Keeps written0 written1 × IfSome told (λ f. seen disk ≡ Some f)
     EndsOpened OpenFault (Some disk) = Rose count (faults disk) × Keeps written0 written1
     EndsOpened (Differ session place given kept) (Some disk) = EndsOver (Differ session place given kept) (Some disk)
     EndsOpened NoMemory (Some disk) = Keeps written0 written1 ⊎ HasWrittenPart seen may_leave moment left_since faults w told bytes written0 written1 count disk

@@ -1,10 +1,13 @@
 -- How a run ends: what each status says of the source, the sink and the disks.
-use Rattle.std.specs.Prelude.{◌≡◌, ◌<◌, ◌⊎◌, ℕ, Bool, IsTrue, List, length, Option, Some, None, IfSome}
+use Rattle.std.specs.Prelude.{◌≡◌, ◌<◌, ◌⊎◌, ℕ, Bool, IsTrue, List, length, Option, Some, None, IfSome, Ok}
 use Rattle.std.specs.Io.KnownBytes.{Consumes, IsAtEnd, Keeps}
+use Rattle.lv_core.specs.Run.{failures_shown}
+use Rattle.lv_lines.specs.Script.{script_of}
 use Rattle.lv_make.specs.ScriptText.{made_script}
 use Rattle.lv_outside.specs.Causes.{Rose}
 use Rattle.lv_outside.specs.Opening.{handed_out, turned_away}
 use Rattle.lv_outside.specs.declared.disks.Openings.{Openings}
+use Rattle.lv_plain.specs.declared.program.Program.{Program}
 use Rattle.lv_recover.specs.Opening.{BadAt}
 use Rattle.lv_words.specs.declared.words.Words.{Words as SaidWords}
 use Rattle.lv_runner.specs.declared.differing.Difference.{Difference}
@@ -14,6 +17,7 @@ use Rattle.lv_runner.specs.declared.status.Status.{Status}
 use Rattle.lv_runner.specs.declared.status.Status.TheVariants.{Done, Words, Script, SourceFault, SinkFault, BadJournal, OpenFault, Differ, NoMemory}
 use Rattle.lv_runner.specs.Begun.{HasDiffered}
 use Rattle.lv_runner.specs.Differing.{shown}
+use Rattle.lv_order.specs.Once.{AnswerOnce}
 use Rattle.lv_runner.specs.Output.{limit, IsBad}
 use Rattle.lv_runner.specs.Written.{HasWritten, HasWrittenPart}
 
@@ -53,6 +57,11 @@ pub record Refused (left0 left1 : Option (List ℕ)) (line kind : ℕ) : Type 0 
   pub ended : IsAtEnd left1 ⊎ (limit < length bytes)
   pub refused : IsBad bytes line kind
 
+-- there is a script without a fault: the bytes that the source tells say a program; one that is made always does
+abbrev pub HasScript : Option ℕ → Option (List ℕ) → Type 0
+HasScript None left = (bytes : List ℕ) × (program : Program) × (left ≡ Some bytes) × (script_of bytes ≡ Ok program)
+HasScript (Some n) left = Unit {0}
+
 -- why there is no program, by the bytes that are left and how often the source has failed; want of memory has no cause
 abbrev pub WhyUnread : Option (List ℕ) → Option (List ℕ) → ℕ → ℕ → Unread → Type 0
 WhyUnread left0 left1 faults0 faults1 (why.Script line kind) = Refused left0 left1 line kind
@@ -75,6 +84,13 @@ unread_as (why.Script line kind) = Script line kind
 unread_as why.Source = SourceFault
 unread_as why.NoMemory = NoMemory
 
+-- the bytes of the script say a program
+pub record HasProgram (made : Option ℕ) (left0 left1 : Option (List ℕ)) : Type 0 where
+  pub bytes : List ℕ
+  pub input : HasInput made left0 left1 bytes
+  pub program : Program
+  pub script : script_of bytes ≡ Ok program
+
 -- ---- the disks; a run may give one back
 
 -- one opening was asked, with this path, and the disk that was handed out comes back
@@ -96,6 +112,11 @@ NotAsked old new (Some disk) = ⊥
 abbrev pub FailedOpening : {D : Type 0} → (D → ℕ) → ℕ → ℕ → ℕ → Option D → Type 0
 FailedOpening faults faults0 faults1 count None = Rose faults0 faults1
 FailedOpening faults faults0 faults1 count (Some disk) = Rose count (faults disk)
+
+-- the disk comes back and tells what was told of its path, if that was told
+abbrev pub IsLeft : {D : Type 0} → (D → Option (List ℕ)) → Option (List ℕ) → Option D → Type 0
+IsLeft seen told None = ⊥
+IsLeft seen told (Some disk) = IfSome told (λ bytes. seen disk ≡ Some bytes)
 
 -- ---- the run
 
@@ -150,7 +171,31 @@ module _ {D : Type 0} (seen : D → Option (List ℕ)) (may_leave : D → List �
   Ends (Script line kind) = (w.make ≡ None) × Refused old.left new.left line kind × Nothing × IsNotAsked
   Ends SourceFault = (w.make ≡ None) × Rose old.source_faults new.source_faults × Nothing × IsNotAsked
   Ends SinkFault = Part × Rose old.sink_faults new.sink_faults × IsHandedOut
-  Ends (BadJournal offset) = IfSome told (λ bytes. BadAt bytes offset) × Nothing × IsHandedOut
+  Ends (BadJournal offset) = IfSome told (λ bytes. BadAt bytes offset) × Nothing × IsHandedOut × IsLeft seen told back
   Ends OpenFault = FailedOpening faults old.disks_faults new.disks_faults new.openings.count back × Nothing × (IsHandedOut ⊎ TurnedAway path old.openings new.openings back)
   Ends (Differ session place given kept) = Other (shown session place given kept) × Nothing × IsHandedOut
   Ends NoMemory = (Nothing × IsNotAsked) ⊎ ((Nothing ⊎ Part) × IsHandedOut)
+
+  -- ---- where nothing goes wrong
+  -- There is a script without a fault, which the source tells or which is made; neither the source, of which a script that is
+  -- made takes nothing, nor the sink, the disks or the disk fails; and what the path holds is told, and nowhere bad.
+  pub record IsWell : Type 0 where
+    pub script : HasScript w.make old.left
+    pub source : w.make ≡ None → Rose old.source_faults new.source_faults → ⊥
+    pub sink : Rose old.sink_faults new.sink_faults → ⊥
+    pub disks : Rose old.disks_faults new.disks_faults → ⊥
+    pub disk : (d : D) → back ≡ Some d → Rose new.openings.count (faults d) → ⊥
+    pub bytes : List ℕ
+    pub tells : told ≡ Some bytes
+    pub good : (offset : ℕ) → BadAt bytes offset → ⊥
+
+  -- the whole output was written: each statement is answered once, and no entry shows that the disk failed
+  pub record WroteWell : Type 0 where
+    pub all : All
+    pub once : AnswerOnce all.wrote.gives.program all.wrote.gives.entries
+    pub unfailed : failures_shown all.wrote.gives.entries ≡ 0
+
+  -- Then all is answered and written, or memory is wanting; or, with threads alone, what came back from them differs.
+  abbrev pub Completes : Status → Type 0
+  Completes status = ((status ≡ Done) × WroteWell) ⊎ (status ≡ NoMemory)
+      ⊎ (IsTrue w.threads × (session : ℕ) × (place : ℕ) × (given : List ℕ) × (kept : List ℕ) × (status ≡ Differ session place given kept))

@@ -7,7 +7,7 @@ ghost use Rattle.lv_words.specs.declared.words.Words.{Words as SaidWords};
 ghost use Rattle.lv_words.specs.Range.{IsInRange};
 ghost use Rattle.lv_words.specs.Words.{said};
 ghost use Rattle.lv_runner.specs.Differing.{shown};
-ghost use Rattle.lv_runner.specs.Ends.{DidAll, DidDiffer, DidPart, Ends, FailedOpening, HandedOut, NotAsked, Refused, TurnedAway, unread_as};
+ghost use Rattle.lv_runner.specs.Ends.{Completes, DidAll, DidDiffer, DidPart, Ends, FailedOpening, HandedOut, HasProgram, IsLeft, IsWell, NotAsked, Refused, TurnedAway, unread_as};
 
 use crate::opening::open_and_run;
 use crate::ran::Ran;
@@ -50,6 +50,7 @@ fn answer<R: Threads + Wait + Sync, S: Source, K: Sink, O: Disks, G: Gate + Sync
         (record { left = S.left source.old; source_faults = S.faults source.old; written = K.written sink.old; is_flushed = K.is_flushed sink.old; sink_faults = K.faults sink.old; disks_faults = O.failures disks.old; openings = O.openings disks.old })
         (record { left = S.left source.new; source_faults = S.faults source.new; written = K.written sink.new; is_flushed = K.is_flushed sink.new; sink_faults = K.faults sink.new; disks_faults = O.failures disks.new; openings = O.openings disks.new })
         result.disk result.status }
+    ensures read { (result.status ≡ Status.OpenFault) ⊎ ((offset : ℕ) × (result.status ≡ Status.BadJournal offset)) → HasProgram words.now.make (S.left source.old) (S.left source.new) }
     ensures source_count { S.faults source.old ≤ S.faults source.new }
     ensures sink_count { K.faults sink.old ≤ K.faults sink.new }
     ensures disks_count { O.failures disks.old ≤ O.failures disks.new }
@@ -95,6 +96,8 @@ pub fn run<R: Threads + Wait + Sync, S: Source, K: Sink, O: Disks, G: Gate + Syn
     ensures done { (w : SaidWords) → said words.now ≡ Some w → result.status ≡ Status.Done → DidAll O.Disk.seen O.Disk.may_leave O.Disk.moment O.Disk.left_since O.Disk.failures w (O.holds disks.old w.log) (S.left source.old) (S.left source.new) (K.written sink.old) (K.written sink.new) (O.openings disks.new).count result.disk }
     ensures flushed { result.status ≡ Status.Done → IsTrue (K.is_flushed sink.new) }
     ensures words { result.status ≡ Status.Words → said words.now ≡ None }
+    // Words that are not accepted are all that was read.
+    ensures turned_down { said words.now ≡ None → (S.left source.new ≡ S.left source.old) × Keeps (K.written sink.old) (K.written sink.new) × NotAsked (O.openings disks.old) (O.openings disks.new) result.disk }
     ensures refused { said words.now ≡ None → (result.status ≡ Status.Words) ⊎ (result.status ≡ Status.NoMemory) }
     // No script that is made is refused, and it leaves the source alone.
     ensures script { (w : SaidWords) (line kind : ℕ) → said words.now ≡ Some w → result.status ≡ Status.Script line kind → (w.make ≡ None) × Refused (S.left source.old) (S.left source.new) line kind }
@@ -103,12 +106,26 @@ pub fn run<R: Threads + Wait + Sync, S: Source, K: Sink, O: Disks, G: Gate + Syn
     ensures sink { result.status ≡ Status.SinkFault → Rose (K.faults sink.old) (K.faults sink.new) }
     ensures part { (w : SaidWords) → said words.now ≡ Some w → result.status ≡ Status.SinkFault → DidPart O.Disk.seen O.Disk.may_leave O.Disk.moment O.Disk.left_since O.Disk.failures w (O.holds disks.old w.log) (S.left source.old) (S.left source.new) (K.written sink.old) (K.written sink.new) (O.openings disks.new).count result.disk }
     ensures bad { (w : SaidWords) (offset : ℕ) → said words.now ≡ Some w → result.status ≡ Status.BadJournal offset → IfSome (O.holds disks.old w.log) (λ bytes. BadAt bytes offset) }
+    // The journal that is bad stays as it is.
+    ensures alone { (w : SaidWords) (offset : ℕ) → said words.now ≡ Some w → result.status ≡ Status.BadJournal offset → IsLeft O.Disk.seen (O.holds disks.old w.log) result.disk }
     ensures open { result.status ≡ Status.OpenFault → FailedOpening O.Disk.failures (O.failures disks.old) (O.failures disks.new) (O.openings disks.new).count result.disk }
+    // No journal is opened before there is a program.
+    ensures read { (w : SaidWords) → said words.now ≡ Some w → (result.status ≡ Status.OpenFault) ⊎ ((offset : ℕ) × (result.status ≡ Status.BadJournal offset)) → HasProgram w.make (S.left source.old) (S.left source.new) }
     // With threads alone: what came back is not what was handed in.
     ensures differs { (w : SaidWords) (session place : ℕ) (given kept : List ℕ) → said words.now ≡ Some w → result.status ≡ Status.Differ session place given kept → DidDiffer O.Disk.seen O.Disk.may_leave O.Disk.moment O.Disk.left_since O.Disk.failures w (O.holds disks.old w.log) (S.left source.old) (S.left source.new) (K.written sink.old) (K.written sink.new) (O.openings disks.new).count (shown session place given kept) result.disk }
     // Want of memory has no cause; before the first event it writes nothing.
     ensures short { (w : SaidWords) → said words.now ≡ Some w → result.status ≡ Status.NoMemory → Keeps (K.written sink.old) (K.written sink.new)
         ⊎ DidPart O.Disk.seen O.Disk.may_leave O.Disk.moment O.Disk.left_since O.Disk.failures w (O.holds disks.old w.log) (S.left source.old) (S.left source.new) (K.written sink.old) (K.written sink.new) (O.openings disks.new).count result.disk }
+    // Where nothing goes wrong, all is answered and written, but for want of memory.
+    ensures complete { (w : SaidWords) → said words.now ≡ Some w
+        → IsWell O.Disk.seen O.Disk.may_leave O.Disk.moment O.Disk.left_since O.Disk.failures w (O.holds disks.old w.log) w.log
+        (record { left = S.left source.old; source_faults = S.faults source.old; written = K.written sink.old; is_flushed = K.is_flushed sink.old; sink_faults = K.faults sink.old; disks_faults = O.failures disks.old; openings = O.openings disks.old })
+        (record { left = S.left source.new; source_faults = S.faults source.new; written = K.written sink.new; is_flushed = K.is_flushed sink.new; sink_faults = K.faults sink.new; disks_faults = O.failures disks.new; openings = O.openings disks.new })
+        result.disk
+        → Completes O.Disk.seen O.Disk.may_leave O.Disk.moment O.Disk.left_since O.Disk.failures w (O.holds disks.old w.log) w.log
+        (record { left = S.left source.old; source_faults = S.faults source.old; written = K.written sink.old; is_flushed = K.is_flushed sink.old; sink_faults = K.faults sink.old; disks_faults = O.failures disks.old; openings = O.openings disks.old })
+        (record { left = S.left source.new; source_faults = S.faults source.new; written = K.written sink.new; is_flushed = K.is_flushed sink.new; sink_faults = K.faults sink.new; disks_faults = O.failures disks.new; openings = O.openings disks.new })
+        result.disk result.status }
     ensures nothing { (result.status ≡ Status.Done → ⊥) → (result.status ≡ Status.SinkFault → ⊥) → (result.status ≡ Status.NoMemory → ⊥) → Keeps (K.written sink.old) (K.written sink.new) }
     // Which openings were asked, and when the disk comes back.
     ensures unasked { (result.status ≡ Status.Words) ⊎ ((line kind : ℕ) × (result.status ≡ Status.Script line kind)) ⊎ (result.status ≡ Status.SourceFault) → NotAsked (O.openings disks.old) (O.openings disks.new) result.disk }
