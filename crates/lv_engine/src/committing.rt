@@ -1,5 +1,5 @@
 //! COMMIT: the store takes all memory, the record is written, and the store takes the commit.
-ghost use Rattle.std.specs.Prelude.{◌≡◌, ◌≤◌, ◌<◌, ℕ, List, Err, length};
+ghost use Rattle.std.specs.Prelude.{◌≡◌, ◌≢◌, ◌≤◌, ◌<◌, ℕ, List, Err, length, OnErr};
 ghost use Rattle.lv_outside.specs.Causes.{Rose};
 ghost use Rattle.lv_schema.specs.declared.action.Action.{Action};
 ghost use Rattle.lv_schema.specs.declared.rec.Rec.TheVariants as variant;
@@ -13,6 +13,7 @@ ghost use Rattle.lv_store.specs.Kept.{IsStore, store_of};
 ghost use Rattle.lv_engine.specs.Answering.{LogsCase, Meets, commit_fault, create_fault, fails};
 ghost use Rattle.lv_engine.specs.Committing.{WritesCommit};
 ghost use Rattle.lv_engine.specs.Kept.{Stands, engine_of};
+ghost use Rattle.lv_engine.specs.Writing.{IsUntouched};
 
 use crate::fault::{CommitFault, CreateFault};
 use crate::writing::write;
@@ -54,6 +55,7 @@ fn write_commit<D: Disk>(
     ensures points { (store_of store.new).upkeep.points ≡ (store_of store.old).upkeep.points }
     ensures settings { (store_of store.new).settings ≡ (store_of store.old).settings }
     ensures later { D.failures journal.old.disk ≤ D.failures journal.new.disk }
+    ensures untouched { result ≢ Err CreateFault.Store → OnErr result (IsUntouched D.seen D.may_leave D.failures journal.old.disk journal.new.disk) }
     ensures cause { result ≡ Err CreateFault.Store → Rose (D.failures journal.old.disk) (D.failures journal.new.disk) }
     ensures whole { IsStore store.new }
 {
@@ -86,6 +88,7 @@ pub(crate) fn commit<D: Disk>(
     ensures points { (store_of store.new).upkeep.points ≡ (store_of store.old).upkeep.points }
     ensures settings { (store_of store.new).settings ≡ (store_of store.old).settings }
     ensures later { D.failures journal.old.disk ≤ D.failures journal.new.disk }
+    ensures untouched { result ≢ Err CommitFault.Store → OnErr result (IsUntouched D.seen D.may_leave D.failures journal.old.disk journal.new.disk) }
     ensures cause { result ≡ Err CommitFault.Store → Rose (D.failures journal.old.disk) (D.failures journal.new.disk) }
     ensures whole { IsStore store.new }
 {

@@ -1,5 +1,5 @@
 //! CREATE TABLE and CREATE VIEW: the store takes all memory, the record is written, and the store takes what is made.
-ghost use Rattle.std.specs.Prelude.{◌≡◌, ◌≤◌, [], Err, IfOk};
+ghost use Rattle.std.specs.Prelude.{◌≡◌, ◌≢◌, ◌≤◌, [], Err, IfOk, OnErr};
 ghost use Rattle.lv_outside.specs.Causes.{Rose};
 ghost use Rattle.lv_schema.specs.declared.rec.Rec.TheVariants as variant;
 ghost use Rattle.lv_schema.specs.declared.table.TableDef.{TableDef};
@@ -13,6 +13,7 @@ ghost use Rattle.lv_txn.specs.Kept.{live_kept};
 ghost use Rattle.lv_store.specs.Kept.{IsStore, store_of};
 ghost use Rattle.lv_engine.specs.Answering.{LogsCase, Meets, create_fault, fails};
 ghost use Rattle.lv_engine.specs.Kept.{Stands, engine_of};
+ghost use Rattle.lv_engine.specs.Writing.{IsUntouched};
 
 use crate::fault::CreateFault;
 use crate::writing::write;
@@ -66,6 +67,7 @@ pub(crate) fn create_table<D: Disk>(
         → let made = table_made (outcome_of settings (fails create_fault result) w.upkeep) def w.visible in LogsCase D.seen D.may_leave D.moment D.left_since create_fault result made.attempted made.written journal.old journal.new }
     ensures settings { (store_of store.new).settings ≡ (store_of store.old).settings }
     ensures later { D.failures journal.old.disk ≤ D.failures journal.new.disk }
+    ensures untouched { result ≢ Err CreateFault.Store → OnErr result (IsUntouched D.seen D.may_leave D.failures journal.old.disk journal.new.disk) }
     ensures cause { result ≡ Err CreateFault.Store → Rose (D.failures journal.old.disk) (D.failures journal.new.disk) }
     ensures whole { IsStore store.new }
 {
@@ -95,6 +97,7 @@ pub(crate) fn create_view<D: Disk, L: Ledger>(
         → let made = view_made (outcome_of settings (fails create_fault result) w.upkeep) def w.visible in LogsCase D.seen D.may_leave D.moment D.left_since create_fault result made.attempted made.written journal.old journal.new }
     ensures settings { (store_of store.new).settings ≡ (store_of store.old).settings }
     ensures later { D.failures journal.old.disk ≤ D.failures journal.new.disk }
+    ensures untouched { result ≢ Err CreateFault.Store → OnErr result (IsUntouched D.seen D.may_leave D.failures journal.old.disk journal.new.disk) }
     ensures cause { result ≡ Err CreateFault.Store → Rose (D.failures journal.old.disk) (D.failures journal.new.disk) }
     ensures whole { IsStore store.new }
 {

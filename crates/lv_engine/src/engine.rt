@@ -1,11 +1,12 @@
 //! The engine.
-ghost use Rattle.std.specs.Prelude.{◌≡◌, ◌≤◌, ◌≢◌, ℕ, ◌<◌, Ok, Some, None, Err, true, is_some, map, length, slice_index, slice_set, option_map, [], IfOk, OnErr, ◌+◌};
+ghost use Rattle.std.specs.Prelude.{◌≡◌, ◌≤◌, ◌≢◌, ◌↔◌, ℕ, ◌<◌, Ok, Some, None, Err, true, is_some, map, length, slice_index, slice_set, option_map, [], IfOk, OnErr, ◌+◌};
 ghost use Rattle.std.specs.List.{AllZip};
 ghost use Rattle.lv_journal.specs.declared.writer.Writer.{Writer};
 ghost use Rattle.lv_outside.specs.Causes.{Rose};
 ghost use Rattle.lv_schema.specs.declared.rec.Rec.{Rec};
 ghost use Rattle.lv_schema.specs.Bound.{IsBoundTable, IsBoundView, IsBoundChange, IsBoundQuery};
 ghost use Rattle.lv_schema.specs.Cases.{table_made, view_made, began, rolled_back, changed, committed};
+ghost use Rattle.lv_schema.specs.Policies.{unclaimed};
 ghost use Rattle.lv_schema.specs.Tasks.{pending_tasks};
 ghost use Rattle.lv_schema.specs.UpkeepCases.{cleaning, fetching, forced_by, installing, marking, outcome_of, released};
 ghost use Rattle.lv_schema.specs.WholeWorld.{maintained, querying, with_upkeep, world_after};
@@ -19,6 +20,7 @@ ghost use Rattle.lv_store.specs.Maintaining.{KeepsNoneBelow, TakesGiven, TakesIn
 ghost use Rattle.lv_engine.specs.Answering.{GivesCleaned, GivesFetch, GivesInstall, GivesQuery, LogsCase, Meets, MeetsMark, commit_fault, create_fault, fails};
 ghost use Rattle.lv_replay.specs.Runs.{mark_written};
 ghost use Rattle.lv_engine.specs.Kept.{IsSame, Stands, StandsForSome, length_of};
+ghost use Rattle.lv_engine.specs.Writing.{IsUntouched};
 ghost use Rattle.lv_stands.specs.Moves.{least_read};
 ghost use Rattle.lv_upkeep.specs.Kept.{claim_kept};
 
@@ -163,6 +165,7 @@ impl<D: Disk> Engine<D> {
             → let made = table_made (outcome_of settings (fails create_fault result) w.upkeep) def w.visible in LogsCase D.seen D.may_leave D.moment D.left_since create_fault result made.attempted made.written self.old.journal self.new.journal }
         ensures settings { self.new.store.settings ≡ self.old.store.settings }
         ensures later { D.failures self.old.journal.disk ≤ D.failures self.new.journal.disk }
+        ensures untouched { result ≢ Err CreateFault.Store → OnErr result (IsUntouched D.seen D.may_leave D.failures self.old.journal.disk self.new.journal.disk) }
         ensures cause { result ≡ Err CreateFault.Store → Rose (D.failures self.old.journal.disk) (D.failures self.new.journal.disk) }
     {
         create_table(alloc, &mut self.store, &mut self.journal, def)
@@ -184,6 +187,7 @@ impl<D: Disk> Engine<D> {
             → let made = view_made (outcome_of settings (fails create_fault result) w.upkeep) def w.visible in LogsCase D.seen D.may_leave D.moment D.left_since create_fault result made.attempted made.written self.old.journal self.new.journal }
         ensures settings { self.new.store.settings ≡ self.old.store.settings }
         ensures later { D.failures self.old.journal.disk ≤ D.failures self.new.journal.disk }
+        ensures untouched { result ≢ Err CreateFault.Store → OnErr result (IsUntouched D.seen D.may_leave D.failures self.old.journal.disk self.new.journal.disk) }
         ensures cause { result ≡ Err CreateFault.Store → Rose (D.failures self.old.journal.disk) (D.failures self.new.journal.disk) }
     {
         create_view(alloc, &mut self.store, &mut self.journal, def, steps)
@@ -249,6 +253,7 @@ impl<D: Disk> Engine<D> {
         ensures points { self.new.store.upkeep.points ≡ self.old.store.upkeep.points }
         ensures settings { self.new.store.settings ≡ self.old.store.settings }
         ensures later { D.failures self.old.journal.disk ≤ D.failures self.new.journal.disk }
+        ensures untouched { result ≢ Err CommitFault.Store → OnErr result (IsUntouched D.seen D.may_leave D.failures self.old.journal.disk self.new.journal.disk) }
         ensures cause { result ≡ Err CommitFault.Store → Rose (D.failures self.old.journal.disk) (D.failures self.new.journal.disk) }
     {
         commit(alloc, &mut self.store, &mut self.journal, session)
@@ -265,6 +270,7 @@ impl<D: Disk> Engine<D> {
         ensures sessions { self.new.store.sessions ≡ self.old.store.sessions }
         ensures settings { self.new.store.settings ≡ self.old.store.settings }
         ensures later { D.failures self.old.journal.disk ≤ D.failures self.new.journal.disk }
+        ensures untouched { result ≢ Err CreateFault.Store → OnErr result (IsUntouched D.seen D.may_leave D.failures self.old.journal.disk self.new.journal.disk) }
         ensures cause { result ≡ Err CreateFault.Store → Rose (D.failures self.old.journal.disk) (D.failures self.new.journal.disk) }
     {
         mark(alloc, &mut self.store, &mut self.journal, view)
@@ -347,6 +353,7 @@ impl<D: Disk> Engine<D> {
         requires free { claim_kept self.old.store.upkeep worker ≡ None }
         ensures done { (w : World) (settings : schema.Settings) → settings.combine ≡ self.old.store.settings.combine → settings.policy ≡ picker.now.kind → Stands w self.old
             → IfOk result (λ input. GivesFetch w.visible (maintained (fetching settings worker w) w) input self.new) }
+        ensures none { (w : World) → Stands w self.old → IfOk result (λ input. (input ≡ None) ↔ (unclaimed w ≡ [])) }
         ensures most { (w : World) (settings : schema.Settings) → settings.combine ≡ self.old.store.settings.combine → settings.policy ≡ picker.now.kind → Stands w self.old
             → TakesGiven w.visible (fetching settings worker w).0 steps.old steps.new }
         ensures refused { OnErr result (self.new ≡ self.old) }

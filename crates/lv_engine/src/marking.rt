@@ -1,5 +1,5 @@
 //! A mark: its record is written, and then the view is marked.
-ghost use Rattle.std.specs.Prelude.{◌≡◌, ◌≤◌, ◌<◌, Err, length};
+ghost use Rattle.std.specs.Prelude.{◌≡◌, ◌≢◌, ◌≤◌, ◌<◌, Err, length, OnErr};
 ghost use Rattle.lv_outside.specs.Causes.{Rose};
 ghost use Rattle.lv_schema.specs.UpkeepCases.{marking, outcome_of};
 ghost use Rattle.lv_schema.specs.World.{World};
@@ -8,6 +8,7 @@ ghost use Rattle.lv_replay.specs.Runs.{mark_written};
 ghost use Rattle.lv_store.specs.Kept.{IsStore, store_of};
 ghost use Rattle.lv_engine.specs.Answering.{LogsCase, MeetsMark, create_fault, fails};
 ghost use Rattle.lv_engine.specs.Kept.{Stands, engine_of};
+ghost use Rattle.lv_engine.specs.Writing.{IsUntouched};
 
 use crate::fault::CreateFault;
 use crate::writing::write;
@@ -34,6 +35,7 @@ pub(crate) fn mark<D: Disk>(
     ensures sessions { (store_of store.new).sessions ≡ (store_of store.old).sessions }
     ensures settings { (store_of store.new).settings ≡ (store_of store.old).settings }
     ensures later { D.failures journal.old.disk ≤ D.failures journal.new.disk }
+    ensures untouched { result ≢ Err CreateFault.Store → OnErr result (IsUntouched D.seen D.may_leave D.failures journal.old.disk journal.new.disk) }
     ensures cause { result ≡ Err CreateFault.Store → Rose (D.failures journal.old.disk) (D.failures journal.new.disk) }
     ensures whole { IsStore store.new }
 {

@@ -1,5 +1,5 @@
 //! A record on its way to the journal.
-ghost use Rattle.std.specs.Prelude.{◌≡◌, ◌≤◌, Err, OnErr, OnOk};
+ghost use Rattle.std.specs.Prelude.{◌≡◌, ◌≢◌, ◌≤◌, Err, OnErr, OnOk};
 ghost use Rattle.lv_outside.specs.Causes.{Rose};
 ghost use Rattle.lv_record.specs.Kept.{IsKept};
 ghost use Rattle.lv_schema.specs.UpkeepCases.{need, outcome_of};
@@ -7,7 +7,7 @@ ghost use Rattle.lv_schema.specs.World as schema;
 ghost use Rattle.lv_schema.specs.World.{Upkeep};
 ghost use Rattle.lv_engine.specs.Answering.{create_fault, fails};
 ghost use Rattle.lv_engine.specs.Kept.{length_of};
-ghost use Rattle.lv_engine.specs.Writing.{LogsWrite, TellsOutcome};
+ghost use Rattle.lv_engine.specs.Writing.{IsUntouched, LogsWrite, TellsOutcome};
 
 use crate::fault::CreateFault;
 use lv_journal::Journal;
@@ -32,6 +32,8 @@ pub(crate) fn write<D: Disk>(
     ensures stays { OnErr result (length_of journal.new ≡ length_of journal.old) }
     ensures log { LogsWrite D.seen D.may_leave D.moment D.left_since result rec.now journal.old journal.new }
     ensures later { D.failures journal.old.disk ≤ D.failures journal.new.disk }
+    // A record that is refused for its length or for want of memory never reaches the disk.
+    ensures untouched { result ≢ Err CreateFault.Store → OnErr result (IsUntouched D.seen D.may_leave D.failures journal.old.disk journal.new.disk) }
     ensures cause { result ≡ Err CreateFault.Store → Rose (D.failures journal.old.disk) (D.failures journal.new.disk) }
 {
     let size = size(rec);

@@ -30,6 +30,7 @@ fn start<D: Disk>(disk: &mut D) -> Result<(), JFault>
     ensures told { OnOk result (D.seen disk.old ≡ Some [] → D.seen disk.new ≡ Some (magic ++ 0 ∷ [])) }
     ensures images { OnOk result (OnlyTold (D.seen disk.new) (D.may_leave disk.new)) }
     ensures good { (offset : ℕ) → result ≡ Err (JFault.Bad offset) → ⊥ }
+    ensures memory { result ≡ Err JFault.NoMemory → D.seen disk.new ≡ D.seen disk.old }
     ensures later { D.failures disk.old ≤ D.failures disk.new }
     ensures cause { result ≡ Err JFault.Failed → Rose (D.failures disk.old) (D.failures disk.new) }
 {
@@ -65,7 +66,9 @@ fn prepare<D: Disk>(disk: &mut D) -> Result<u64, JFault>
     ensures long { IfOk result (λ n. 8 ≤ n) }
     ensures new { OnOk result (D.seen disk.old ≡ Some [] → D.seen disk.new ≡ Some (magic ++ 0 ∷ [])) }
     ensures same { IfSome (D.seen disk.old) (λ f. 0 < length f → D.seen disk.new ≡ Some f) }
+    ensures memory { result ≡ Err JFault.NoMemory → D.seen disk.new ≡ D.seen disk.old }
     ensures images { OnOk result (OnlyTold (D.seen disk.new) (D.may_leave disk.new)) }
+    ensures crash { IfSome (D.seen disk.old) (λ f. 0 < length f → NoMore (D.may_leave disk.old) (D.may_leave disk.new)) }
     ensures bad { (offset : ℕ) → result ≡ Err (JFault.Bad offset) → (offset ≡ 0) × IfSome (D.seen disk.old) (λ f. (0 < length f) × (take 8 f ≢ magic)) }
     ensures later { D.failures disk.old ≤ D.failures disk.new }
     ensures cause { result ≡ Err JFault.Failed → Rose (D.failures disk.old) (D.failures disk.new) }
@@ -101,13 +104,18 @@ impl<D: Disk> Model for JournalReader<D> {
 impl<D: Disk> JournalReader<D> {
     /// Begins at a disk. An empty disk is a new journal: the magic and a closed gate are written and synced. Any other is
     /// synced first, so that a crash leaves nothing else than what is read; it is `Bad` at 0 exactly where it does
-    /// not begin with the magic. Cost: constant.
+    /// not begin with the magic. A disk that is not empty keeps its bytes, also where it is refused. Cost: constant.
     pub fn attach(alloc: Global, disk: D) -> Result<JournalReader<D>, Attach<D>>
         ensures begins { IfOk result (λ r. IsRead D.seen D.may_leave r []) }
         ensures new { IfOk result (λ r. D.seen disk ≡ Some [] → D.seen r.disk ≡ Some (magic ++ 0 ∷ [])) }
         ensures same { IfOk result (λ r. IfSome (D.seen disk) (λ f. 0 < length f → D.seen r.disk ≡ Some f)) }
+        ensures crash { IfOk result (λ r. IfSome (D.seen disk) (λ f. 0 < length f → NoMore (D.may_leave disk) (D.may_leave r.disk))) }
         ensures first { IfOk result (λ r. (r.place ≡ 0) × (r.ended ≡ false)) }
         ensures bad { (offset : ℕ) → IfErr result (λ a. a.cause ≡ JFault.Bad offset → (offset ≡ 0) × IfSome (D.seen disk) (λ f. (0 < length f) × (take 8 f ≢ magic) × (D.seen a.disk ≡ Some f))) }
+        // A disk that has bytes keeps them, whatever is answered; of an empty one want of memory makes nothing.
+        ensures stays { IfErr result (λ a. IfSome (D.seen disk) (λ f. 0 < length f → D.seen a.disk ≡ Some f)) }
+        ensures no_more { IfErr result (λ a. IfSome (D.seen disk) (λ f. 0 < length f → NoMore (D.may_leave disk) (D.may_leave a.disk))) }
+        ensures memory { IfErr result (λ a. a.cause ≡ JFault.NoMemory → D.seen a.disk ≡ D.seen disk) }
         ensures later { IfOk result (λ r. D.failures disk ≤ D.failures r.disk) }
         ensures after { IfErr result (λ a. D.failures disk ≤ D.failures a.disk) }
         ensures cause { IfErr result (λ a. a.cause ≡ JFault.Failed → Rose (D.failures disk) (D.failures a.disk)) }

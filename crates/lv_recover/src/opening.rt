@@ -1,8 +1,10 @@
 //! From a disk to an engine.
-ghost use Rattle.std.specs.Prelude.{◌≡◌, ◌≤◌, ◌<◌, ℕ, List, [], IfOk, IfErr, IfSome, MatchResult, Some, true};
+ghost use Rattle.std.specs.Prelude.{◌≡◌, ◌⊎◌, ◌≤◌, ◌<◌, ℕ, List, [], ◌∷◌, ◌++◌, IfOk, IfErr, IfSome, MatchResult, Some, length, true};
 ghost use Rattle.lv_schema.specs.declared.rec.Rec.{Rec};
+ghost use Rattle.lv_journal.specs.Bytes.{magic};
 ghost use Rattle.lv_journal.specs.Reading.{IsRead};
 ghost use Rattle.lv_outside.specs.Causes.{Rose};
+ghost use Rattle.lv_outside.specs.Images.{NoMore};
 ghost use Rattle.lv_store.specs.Kept.{kept};
 ghost use Rattle.lv_engine.specs.Fresh.{IsFresh};
 ghost use Rattle.lv_engine.specs.Kept.{length_of};
@@ -62,6 +64,7 @@ fn load<D: Disk, L: Ledger>(
     ensures fresh { IfOk result (λ e. IsFreshAt e.store) }
     ensures bad { (offset : ℕ) → IfErr result (λ r. r.cause ≡ JFault.Bad offset → IfSome (D.seen reader.disk) (λ bytes. (recs : List Rec) × IsBadBehind bytes recs offset)) }
     ensures bytes { IfErr result (λ r. D.seen r.disk ≡ D.seen reader.disk) }
+    ensures crash { IfErr result (λ r. NoMore (D.may_leave reader.disk) (D.may_leave r.disk)) }
     ensures later { MatchResult result (λ e. D.failures reader.disk ≤ D.failures e.journal.disk) (λ r. D.failures reader.disk ≤ D.failures r.disk) }
     ensures cause { IfErr result (λ r. r.cause ≡ JFault.Failed → Rose (D.failures reader.disk) (D.failures r.disk)) }
 {
@@ -79,7 +82,7 @@ fn load<D: Disk, L: Ledger>(
 /// Opens the engine that a disk's journal keeps: it stands for the world that the journal's records make, nobody is live, and
 /// nothing is claimed or dropped. An empty disk is a journal with no record, which is written. `Failed` only where the
 /// disk's count rose in this call; `Bad` exactly where the bytes are no journal, or a frame's payload spells no record that
-/// applies, and then the disk tells what it told; and the disk comes back in each case.
+/// applies. The disk comes back in each case, and tells what it told, but where it was empty.
 /// Cost: linear in the journal but for searches in the tables, and for each view the cost of its rows.
 pub fn reopen<D: Disk, L: Ledger>(
     alloc: Global,
@@ -93,6 +96,10 @@ pub fn reopen<D: Disk, L: Ledger>(
     ensures fresh { IfOk result (λ e. IsFresh (kept (length_of e.journal) e.store)) }
     ensures bad { (offset : ℕ) → IfErr result (λ r. r.cause ≡ JFault.Bad offset → IfSome (D.seen disk) (λ bytes. BadAt bytes offset)) }
     ensures stays { (offset : ℕ) → IfErr result (λ r. r.cause ≡ JFault.Bad offset → IfSome (D.seen disk) (λ bytes. D.seen r.disk ≡ Some bytes)) }
+    // A disk that has bytes keeps them, whatever the refusal; of an empty one want of memory leaves nothing or a new journal.
+    ensures left { IfErr result (λ r. IfSome (D.seen disk) (λ f. 0 < length f → D.seen r.disk ≡ Some f)) }
+    ensures no_more { IfErr result (λ r. IfSome (D.seen disk) (λ f. 0 < length f → NoMore (D.may_leave disk) (D.may_leave r.disk))) }
+    ensures begun { IfErr result (λ r. r.cause ≡ JFault.NoMemory → D.seen disk ≡ Some [] → (D.seen r.disk ≡ Some []) ⊎ (D.seen r.disk ≡ Some (magic ++ 0 ∷ []))) }
     ensures later { MatchResult result (λ e. D.failures disk ≤ D.failures e.journal.disk) (λ r. D.failures disk ≤ D.failures r.disk) }
     ensures cause { IfErr result (λ r. r.cause ≡ JFault.Failed → Rose (D.failures disk) (D.failures r.disk)) }
 {

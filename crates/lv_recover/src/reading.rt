@@ -2,6 +2,7 @@
 ghost use Rattle.std.specs.Prelude.{◌≡◌, ◌≤◌, ◌++◌, ◌∷◌, [], ℕ, List, Ok, Err, OnOk, IfSome, true, false};
 ghost use Rattle.lv_schema.specs.declared.rec.Rec.{Rec};
 ghost use Rattle.lv_outside.specs.Causes.{Rose};
+ghost use Rattle.lv_outside.specs.Images.{NoMore};
 ghost use Rattle.lv_loading.specs.Loads.{Loads};
 ghost use Rattle.lv_record.specs.Spelling.{Spells};
 ghost use Rattle.lv_replay.specs.Applies.{applies};
@@ -40,6 +41,7 @@ fn read_one<D: Disk>(
     ensures flag { result ≡ Ok false → reader.new.ended ≡ true }
     ensures bad { (recs : List Rec) (offset : ℕ) → HasRead D.seen D.may_leave recs reader.old loading.old → result ≡ Err (JFault.Bad offset) → IfSome (D.seen reader.old.disk) (λ bytes. IsBadBehind bytes recs offset) }
     ensures bytes { D.seen reader.new.disk ≡ D.seen reader.old.disk }
+    ensures crash { NoMore (D.may_leave reader.old.disk) (D.may_leave reader.new.disk) }
     ensures later { D.failures reader.old.disk ≤ D.failures reader.new.disk }
     ensures cause { result ≡ Err JFault.Failed → Rose (D.failures reader.old.disk) (D.failures reader.new.disk) }
 {
@@ -67,6 +69,7 @@ pub(crate) fn read_all<D: Disk>(
     ensures flag { OnOk result (reader.new.ended ≡ true) }
     ensures bad { (offset : ℕ) → result ≡ Err (JFault.Bad offset) → IfSome (D.seen reader.old.disk) (λ bytes. (recs : List Rec) × IsBadBehind bytes recs offset) }
     ensures bytes { D.seen reader.new.disk ≡ D.seen reader.old.disk }
+    ensures crash { NoMore (D.may_leave reader.old.disk) (D.may_leave reader.new.disk) }
     ensures later { D.failures reader.old.disk ≤ D.failures reader.new.disk }
     ensures cause { result ≡ Err JFault.Failed → Rose (D.failures reader.old.disk) (D.failures reader.new.disk) }
 {

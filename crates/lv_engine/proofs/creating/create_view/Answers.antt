@@ -1,4 +1,5 @@
-use Rattle.std.proofs.Common.{◌≡◌, false, List, Ok, refl, sym, ap, ◌∙◌, subst}
+use Rattle.std.proofs.Common.{◌≡◌, false, List, Ok, OnErr, refl, sym, ap, ◌∙◌, subst}
+use Rattle.std.specs.Prelude.{Result}
 use Rattle.std.proofs.Math.Path.{subst₂}
 use Rattle.lv_record.specs.Kept.{IsKept}
 use Rattle.lv_schema.specs.declared.rec.Rec.{Rec}
@@ -13,7 +14,8 @@ use Rattle.lv_store.specs.Answering.{wrote}
 use Rattle.lv_store.specs.Kept as store
 use Rattle.lv_store.specs.Kept.{StoreKept, store_of}
 use Rattle.lv_engine.specs.Kept.{engine_of, length_of}
-use Rattle.lv_engine.specs.Writing.{LogsWrite}
+use Rattle.lv_engine.specs.declared.fault.CreateFault.{CreateFault}
+use Rattle.lv_engine.specs.Writing.{IsUntouched, LogsWrite}
 use Rattle.lv_engine.proofs.Writes.{done, err_is, logged_at, logs_at, logs_done, memory_logs, memory_wanted, refused_at, tells_at, view_rec}
 use Rattle.lv_engine.proofs.creating.create_view.Goals as goal
 
@@ -77,3 +79,8 @@ returns-clause-log g c = λ w settings limit is.
     (subst (λ (rec : Rec). outcome_of settings false w.upkeep rec ≡ good) rec_is
     (c.in_ok-write.ensures.outcome settings w.upkeep (limit ∙ sym (ap (λ (e : StoreKept). e.settings.log_limit) c.prepare_view.ensures.kept)) is.journal_is))
     (subst (λ (rec : Rec). LogsWrite g.D.Disk.seen g.D.Disk.may_leave g.D.Disk.moment g.D.Disk.left_since (Ok tt) rec c.args.journal.now c.write.new.journal) rec_is c.in_ok-write.ensures.log)
+
+pub returns-in_err-write-clause-untouched : goal.returns-in_err-write-clause-untouched
+returns-in_err-write-clause-untouched g c = λ other.
+    let same = err_is _ _ c.from_residual-in_err-write.ensures.1 in
+    subst (λ (r : Result (Unit {0}) CreateFault). OnErr r (IsUntouched g.D.Disk.seen g.D.Disk.may_leave g.D.Disk.failures c.args.journal.now.disk c.write.new.journal.disk)) (sym same) (c.in_err-write.ensures.untouched (λ store. other (same ∙ store)))

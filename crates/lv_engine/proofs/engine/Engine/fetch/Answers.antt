@@ -1,5 +1,8 @@
-use Rattle.std.proofs.Common.{◌≡◌, subst, sym}
+use Rattle.std.proofs.Common.{◌≡◌, None, refl, subst, sym, ◌∙◌}
+use Rattle.lv_schema.specs.UpkeepCases.{claim_of}
+use Rattle.lv_schema.specs.World.{Settings}
 use Rattle.lv_engine.specs.Kept.{EngineView, Stands}
+use Rattle.lv_engine.proofs.NoneLeft.{claim_is, given_none}
 use Rattle.lv_engine.proofs.Wrapped.{fetched_stands, if_ok}
 use Rattle.lv_engine.proofs.engine.Engine.fetch.Goals as goal
 
@@ -8,3 +11,10 @@ returns-clause-done g c = λ w settings same policy is.
     let here = subst (λ (e : EngineView g.row.D.Denot). Stands w e) (sym c.self.view_is) is in
     if_ok c.fetch.result (λ input gives. fetched_stands w settings c.args.worker input _ c.self.inside.journal here.journal_is gives)
     (c.fetch.ensures.done w settings (subst (λ (e : EngineView g.row.D.Denot). settings.combine ≡ e.store.settings.combine) (sym c.self.view_is) same) policy here.store_stands)
+
+pub returns-clause-none : goal.returns-clause-none
+returns-clause-none g c = λ w is.
+    let here = subst (λ (e : EngineView g.row.D.Denot). Stands w e) (sym c.self.view_is) is in
+    let settings : Settings = record { combine = c.self.inside.store.settings.combine; limit = 0; policy = c.args.picker.now.kind } in
+    let free : claim_of w.upkeep c.args.worker ≡ None = sym (claim_is w c.args.self.now c.args.worker is) ∙ c.requires.free in
+    if_ok c.fetch.result (λ input gives. given_none settings c.args.worker w free input gives.input_is) (c.fetch.ensures.done w settings refl refl here.store_stands)
