@@ -1,14 +1,13 @@
 -- Differences of views that are pending: what the views show with them, and their install.
-use Rattle.std.proofs.Common.{◌≡◌, ℕ, zero, suc, ◌+◌, ◌<◌, ◌≤◌, Bool, true, false, List, [], ◌∷◌, ◌++◌, length, refl, sym, ap, ◌∙◌, subst, arith, length-append}
+use Rattle.std.proofs.Common.{◌≡◌, ℕ, zero, suc, ◌+◌, ◌<◌, ◌≤◌, Bool, true, false, List, [], ◌∷◌, ◌++◌, length, refl, sym, ap, ◌∙◌, subst, arith}
 use Rattle.std.specs.Prelude.{◌==◌, slice_set}
 use Rattle.std.proofs.lemmas.Bool.Decides.{nat_tests}
-use Rattle.std.proofs.lemmas.List.{get_or-set_other, get_or-set_same, length-set}
+use Rattle.std.proofs.lemmas.List.{get_or-set_other, get_or-set_same}
 use Rattle.lv_schema.specs.declared.signed.SignedRow.{SignedRow}
-use Rattle.lv_schema.specs.declared.view.ViewDef.{ViewDef}
 use Rattle.lv_viewrows.specs.Changed.{CanInstall, groups_with}
 use Rattle.lv_viewrows.specs.Kept.{ViewKept, groups_at, rows_listed, shown}
 use Rattle.lv_store.specs.declared.pending.Difference.{Difference}
-use Rattle.lv_store.specs.Pending.{AllTake, AreUpTo, CanAllTake, CanTakeEach, HaveRoom, TakesEach, changed_rows, pending_at}
+use Rattle.lv_store.specs.Pending.{AllTake, AreUpTo, CanAllTake, CanTakeEach, TakesEach, changed_rows, pending_at}
 use Rattle.lv_store.specs.Querying.{OnlyRoom, RowsInstall}
 use Rattle.lv_store.specs.Kept.{no_rows, rows_in}
 use Rattle.lv_store.proofs.Steps.{any_room, any_room_installs}
@@ -100,64 +99,7 @@ taken_start pending old can = record {
   done = λ v lt le. absurd (omega (arith, lt, le, can.all));
 }
 
-module _ (pending left popped : List (List Difference)) (ds : List Difference) (old rows : List ViewKept) (is : left ≡ popped ++ ds ∷ []) (taken : TakenFrom pending left old rows) where
-  longer : length left ≡ length popped + 1
-  longer = ap length is ∙ length-append popped (ds ∷ [])
-
-  pub popped_inside : length popped < length rows
-  popped_inside = omega (arith, longer, taken.long, taken.all)
-
-  its_own : ds ≡ pending_at pending (length popped)
-  its_own = sym (last_at popped ds) ∙ ap (λ l. pending_at l (length popped)) (sym is) ∙ (taken.same (length popped) (omega (arith, longer))).0
-
-  its_rows : rows_in rows (length popped) ≡ rows_in old (length popped)
-  its_rows = (taken.same (length popped) (omega (arith, longer))).1
-
-  pub popped_can : CanAllTake pending old → CanTakeEach ds (rows_in rows (length popped))
-  popped_can can =
-      subst (CanTakeEach ds) (sym its_rows)
-      (subst (λ l. CanTakeEach l (rows_in old (length popped))) (sym its_own) (can.each (length popped) (omega (arith, popped_inside, taken.all))))
-
-  pub popped_room : HaveRoom pending old → changed_rows ds ≤ (rows_in rows (length popped)).spare
-  popped_room room =
-      subst (λ (k : ViewKept). changed_rows ds ≤ k.spare) (sym its_rows)
-      (subst (λ l. changed_rows l ≤ (rows_in old (length popped)).spare) (sym its_own) (room (length popped) (omega (arith, popped_inside, taken.all))))
-
-  pub taken_next : (new : List ViewKept) (k : ViewKept) → TakesEach ds (rows_in rows (length popped)) k → new ≡ slice_set rows (length popped) k → TakenFrom pending popped old new
-  taken_next new k take set =
-      subst (TakenFrom pending popped old) (sym set)
-      (record {
-        all = length-set rows (length popped) k ∙ taken.all;
-        long = omega (arith, longer, taken.long);
-        same = λ v lt. (
-          sym (before_at popped ds v lt) ∙ ap (λ l. pending_at l v) (sym is) ∙ (taken.same v (omega (arith, lt, longer))).0,
-          get_or-set_other rows (length popped) v k no_rows (λ e. omega (arith, e, lt)) ∙ (taken.same v (omega (arith, lt, longer))).1,
-        );
-        done = λ v lt.
-            set_each (λ n x. length popped ≤ n → TakesEach (pending_at pending n) (rows_in old n) x) rows (length popped) k popped_inside
-            (λ le. subst (λ l. TakesEach l (rows_in old (length popped)) k) its_own (subst (λ (r : ViewKept). TakesEach ds r k) its_rows take))
-            (λ n ln ne le. taken.done n (omega (arith, ln, taken.all)) (after n le ne)) v (omega (arith, lt, taken.all));
-      })
-    where
-      after : (n : ℕ) → length popped ≤ n → (n ≡ length popped → ⊥) → length left ≤ n
-      after n le ne = by (n == length popped) refl
-        where
-          by : (b : Bool) → (n == length popped) ≡ b → length left ≤ n
-          by true e = absurd (ne (is_same n (length popped) e))
-          by false e = let more : length popped < n = grind (arith, nat_tests) in omega (arith, longer, more)
-
-pub taken_all : (pending left : List (List Difference)) (old rows : List ViewKept) → left ≡ [] → TakenFrom pending left old rows → AllTake pending old rows
-taken_all pending left old rows none taken = record {
-  all = taken.all;
-  each = λ v lt. taken.done v lt (omega (arith, ap length none));
-}
-
 -- ---- what a view shows
-pub preview_shows : (rows next new : ViewKept) (hi n : ℕ) (changes : List SignedRow) → RowsInstall hi changes rows next → new ≡ record next { spare = new.spare } → hi ≤ n
-    → rows_listed rows.def (groups_with changes (groups_at rows.at rows.versions)) ≡ shown n new
-preview_shows rows next new hi n changes h is le =
-    sym (ap (shown n) is ∙ ap (λ (d : ViewDef). rows_listed d (groups_at n next.versions)) h.def_stays ∙ ap (rows_listed rows.def) (h.from n le))
-
 installed_at : (hi : ℕ) (changes : List SignedRow) (old next : ViewKept) → RowsInstall hi changes old next → groups_at next.at next.versions ≡ groups_with changes (groups_at old.at old.versions)
 installed_at hi changes old next h = h.from next.at (omega (arith, h.at_is))
 

@@ -9,8 +9,7 @@ use Rattle.lv_schema.specs.declared.signed.SignedRow.{SignedRow}
 use Rattle.lv_schema.specs.declared.view.ViewDef.{ViewDef}
 use Rattle.lv_schema.specs.Applicable.{with_changes}
 use Rattle.lv_schema.specs.UpkeepCases.{with_steps}
-use Rattle.lv_schema.specs.Differences.{difference, view_difference}
-use Rattle.lv_schema.specs.Jobs.{new_sides, old_sides}
+use Rattle.lv_schema.specs.Differences.{view_difference}
 use Rattle.lv_schema.specs.World.{Visible, World, snap, view_at}
 use Rattle.lv_schema.proofs.Apart.{all_weaker}
 use Rattle.lv_viewrows.specs.Changed.{CanInstall}
@@ -20,9 +19,7 @@ use Rattle.lv_stands.specs.Moves.{StepsFollow, StepsRun, ViewInstalls, engine_st
 use Rattle.lv_stands.specs.Stands.{StandsFor}
 use Rattle.lv_stands.proofs.Installs.{step_installs}
 use Rattle.lv_stands.proofs.Steps.{step_stands}
-use Rattle.lv_maint.specs.Inputs.{Input}
-use Rattle.lv_store.specs.declared.store.Store.{Store}
-use Rattle.lv_store.specs.Querying.{CanInstallAll, IsInputIn, OnlyRoom, RowsInstall, StepsInstall, changes_in, upkeep_after}
+use Rattle.lv_store.specs.Querying.{CanInstallAll, OnlyRoom, RowsInstall, StepsInstall, upkeep_after}
 use Rattle.lv_store.specs.Kept.{no_rows, rows_in, rows_of}
 
 -- what holds of each element holds of the one at a place
@@ -35,10 +32,6 @@ pub at_any : {X : Type 0} (xs : List X) (i : ℕ) (d e : X) → i < length xs �
 at_any [] i d e lt = absurd (omega (arith, lt))
 at_any (x ∷ xs) zero d e lt = refl
 at_any (x ∷ xs) (suc i) d e lt = at_any xs i d e (omega (arith, lt))
-
--- the difference that an input gives
-pub gives_changes : (p : Store) (f : Forced) (input : Input) (changes : List SignedRow) → changes ≡ difference input.def (old_sides input.parts) (new_sides input.parts) → IsInputIn p f input → changes ≡ changes_in p f
-gives_changes p f input changes is made = is ∙ made.difference_is
 
 -- whether a difference can be installed does not depend on the room
 pub any_room : (a b : ViewKept) (hi : ℕ) (list : List SignedRow) → b ≡ record a { spare = b.spare } → CanInstall a hi list → CanInstall b hi list
