@@ -10,6 +10,7 @@ pub mod Marks
 pub mod OneView
 pub mod OwnReads
 pub mod PendingRows
+pub mod TriedRows
 pub mod PendingSteps
 pub mod Queries
 pub mod Rels

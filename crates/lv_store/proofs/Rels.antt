@@ -33,7 +33,7 @@ use Rattle.lv_store.specs.Kept.{Stands, rows_in, store_of}
 use Rattle.lv_store.proofs.OwnReads.{own_is, own_view_is, transaction_stands}
 use Rattle.lv_store.proofs.Views.{IfView, both}
 
--- ---- a query of one table keeps the same tuples of the part of its rows that it tries
+-- ---- a query of one table or view keeps the same tuples of the part of its rows that it tries
 abbrev alone : List Value → Tuple
 alone row = row ∷ []
 
@@ -46,10 +46,10 @@ selected_one c (row ∷ rows) = by (holds c (row ∷ [])) (selected_one c rows)
     by true e = ap (λ l. (row ∷ []) ∷ l) e
     by false e = e
 
-pub tried_one : (c : Cond) (read : Rel → List (List Value)) (rels : List Rel) (t : ℕ) (part : List (List Value)) (parts : List (List (List Value))) → rels ≡ Table t ∷ []
-    → parts ≡ [] ++ part ∷ [] → matching c part ≡ matching c (read (Table t)) → selected c parts ≡ selected c (map read rels)
-tried_one c read rels t part parts only is all =
-    ap (selected c) is ∙ selected_one c part ∙ ap (map alone) all ∙ sym (selected_one c (read (Table t))) ∙ ap (λ l. selected c (map read l)) (sym only)
+pub tried_one : (c : Cond) (read : Rel → List (List Value)) (rels : List Rel) (rel : Rel) (part : List (List Value)) (parts : List (List (List Value))) → rels ≡ rel ∷ []
+    → parts ≡ [] ++ part ∷ [] → matching c part ≡ matching c (read rel) → selected c parts ≡ selected c (map read rels)
+tried_one c read rels rel part parts only is all =
+    ap (selected c) is ∙ selected_one c part ∙ ap (map alone) all ∙ sym (selected_one c (read rel)) ∙ ap (λ l. selected c (map read l)) (sym only)
 
 not_written : (actions : List Action) (tables : List ℕ) → write_none actions tables ≡ not (list_any (writes_table actions) tables)
 not_written actions [] = refl

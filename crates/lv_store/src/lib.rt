@@ -15,6 +15,7 @@ mod installing;
 mod joining;
 mod marking;
 mod own;
+mod passing;
 mod pending;
 mod planning;
 mod querying;

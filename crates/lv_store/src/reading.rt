@@ -1,7 +1,8 @@
 //! The rows that a query reads, where differences of its views are pending.
-ghost use Rattle.std.specs.Prelude.{◌≡◌, ◌≢◌, ◌<◌, ◌∷◌, ℕ, List, [], true, false, length, map, not, IfOk, MatchOption};
+ghost use Rattle.std.specs.Prelude.{◌≡◌, ◌≢◌, ◌<◌, ◌∷◌, ℕ, List, [], true, false, filter, length, map, not, IfOk, MatchOption};
 ghost use Rattle.std.specs.List.{list_all};
-ghost use Rattle.lv_schema.specs.declared.query.Rel.TheVariants.{Table};
+ghost use Rattle.lv_schema.specs.declared.query.Rel.{Rel as ARel};
+ghost use Rattle.lv_schema.specs.Effects.{matching};
 ghost use Rattle.lv_schema.specs.Answers.{answer_over};
 ghost use Rattle.lv_schema.specs.Bound.{rel_in_use};
 ghost use Rattle.lv_schema.specs.JoinViews.{selected};
@@ -11,40 +12,42 @@ ghost use Rattle.lv_store.specs.Querying.{has_written, reads_kept, rel_rows_in, 
 ghost use Rattle.lv_store.specs.Pending.{AllTake, CanRead};
 ghost use Rattle.lv_store.specs.Kept.{IsStore};
 
+use crate::passing::{Any, KeptBy};
 use crate::pending::{Pending, rows_with};
 use crate::store::Store;
 use lv_query::answer;
-use lv_schema::{Query, Rel};
-use lv_values::{Items, NoMemory, Rows, Steps};
+use lv_schema::{Cond, Query, Rel};
+use lv_values::{Items, NoMemory, Row, Rows, Steps, Test};
 use std::alloc::Global;
 use std::sync::ledger::Ledger;
 
-/// The table of a query that reads one table and nothing else.
-fn only_table(rels: &[Rel]) -> Option<u32>
-    ensures { MatchOption result ((table : ℕ) → rels.now ≢ Table table ∷ []) (λ table. rels.now ≡ Table table ∷ []) }
+/// What a query reads that names one table or view and nothing else.
+fn only_rel(rels: &[Rel]) -> Option<Rel>
+    ensures { MatchOption result ((rel : ARel) → rels.now ≢ rel ∷ []) (λ rel. rels.now ≡ rel ∷ []) }
 {
     match rels {
-        [Rel::Table(table)] => Some(*table),
+        [rel] => Some(*rel),
         _ => None,
     }
 }
 
 impl Store {
-    /// A view's rows, as the transaction of a session reads them. Cost: that of `rows_with`, where the transaction
-    /// wrote none of its tables; else that of its definition.
-    fn view_rows<L: Ledger>(
+    /// Rows of which the same pass as of a view's rows, as the transaction of a session reads them. Cost: that of
+    /// `rows_with`, where the transaction wrote none of its tables; else that of its definition.
+    fn view_rows<L: Ledger, T: Test<Row>>(
         &self,
         alloc: Global,
         session: u32,
         pending: &Pending,
         view: u32,
+        test: &T,
         steps: &mut Steps<L>,
     ) -> Result<Rows, NoMemory>
         requires whole { IsStore self.now }
         requires live { IsLive self.now.txns session }
         requires pending { CanRead self.now session pending.now }
         requires view { view < length self.now.schema.views }
-        ensures rows { (last : List ViewKept) → AllTake pending.now self.now.rows.list last → IfOk result (λ rows. rows ≡ view_rows_in self.now session last view) }
+        ensures rows { (last : List ViewKept) → AllTake pending.now self.now.rows.list last → IfOk result (λ rows. filter (T.passed test.now) rows ≡ filter (T.passed test.now) (view_rows_in self.now session last view)) }
         ensures cost { has_written self.now session view ≡ false → steps.new ≡ steps.old }
     {
         if self.has_written(session, view) {
@@ -52,7 +55,8 @@ impl Store {
         }
         let snapshot = self.snapshot(session);
         let rows = self.rows.get(view as usize);
-        rows_with(alloc, snapshot, rows, pending.get(view as usize).as_slice())
+        let differences = pending.get(view as usize).as_slice();
+        rows_with(alloc, snapshot, rows, differences, test)
     }
 
     /// The rows that a table or a view stands for.
@@ -73,7 +77,7 @@ impl Store {
     {
         match rel {
             Rel::Table(table) => self.own_rows(alloc, session, *table, steps),
-            Rel::View(view) => self.view_rows(alloc, session, pending, *view, steps),
+            Rel::View(view) => self.view_rows(alloc, session, pending, *view, &Any, steps),
         }
     }
 
@@ -100,8 +104,33 @@ impl Store {
         Ok(parts)
     }
 
-    /// Rows of each alias of a query, of which its condition keeps the same tuples as of all. Where it reads one table,
-    /// and its condition fixes the key, they are the row with that key.
+    /// Rows of a table or a view of which a condition keeps the same as of all: of a table the row with a key, where the
+    /// condition fixes it; of a view whose tables the transaction did not write those that the condition keeps.
+    fn rel_rows_to_try<L: Ledger>(
+        &self,
+        alloc: Global,
+        session: u32,
+        pending: &Pending,
+        rel: Rel,
+        cond: &Cond,
+        steps: &mut Steps<L>,
+    ) -> Result<Rows, NoMemory>
+        requires whole { IsStore self.now }
+        requires live { IsLive self.now.txns session }
+        requires pending { CanRead self.now session pending.now }
+        requires in_use { rel_in_use self.now.schema.tables self.now.schema.views rel ≡ true }
+        ensures rows { (last : List ViewKept) → AllTake pending.now self.now.rows.list last → IfOk result (λ tried. matching cond.now tried ≡ matching cond.now (rel_rows_in self.now session last rel)) }
+        ensures cost { reads_kept self.now session rel ≡ true → steps.new ≡ steps.old }
+    {
+        match rel {
+            Rel::Table(table) => self.own_rows_to_try(alloc, session, table, cond, steps),
+            Rel::View(view) => {
+                self.view_rows(alloc, session, pending, view, &KeptBy { cond }, steps)
+            }
+        }
+    }
+
+    /// Rows of each alias of a query, of which its condition keeps the same tuples as of all.
     fn parts_to_try<L: Ledger>(
         &self,
         alloc: Global,
@@ -117,11 +146,11 @@ impl Store {
         ensures parts { (last : List ViewKept) → AllTake pending.now self.now.rows.list last → IfOk result (λ parts. selected query.now.cond parts ≡ selected query.now.cond (map (rel_rows_in self.now session last) query.now.rels)) }
         ensures cost { list_all (reads_kept self.now session) query.now.rels ≡ true → steps.new ≡ steps.old }
     {
-        let Some(table) = only_table(query.rels.as_slice()) else {
+        let Some(rel) = only_rel(query.rels.as_slice()) else {
             return self.query_parts(alloc, session, pending, query.rels.as_slice(), steps);
         };
         let mut parts = Items::new(alloc);
-        parts.push(self.own_rows_to_try(alloc, session, table, &query.cond, steps)?)?;
+        parts.push(self.rel_rows_to_try(alloc, session, pending, rel, &query.cond, steps)?)?;
         Ok(parts)
     }
 

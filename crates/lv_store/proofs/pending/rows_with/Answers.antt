@@ -1,9 +1,10 @@
-use Rattle.std.proofs.Common.{◌≡◌, subst}
+use Rattle.std.proofs.Common.{◌≡◌, filter, subst}
 use Rattle.std.specs.Prelude.{IfOk}
 use Rattle.lv_store.proofs.PendingRows.{copy_shows}
 use Rattle.lv_store.proofs.pending.rows_with.Goals as goal
 
 pub returns-in_ok-copy_with-in_default : goal.returns-in_ok-copy_with-in_default
-returns-in_ok-copy_with-in_default c = λ new take.
-    subst (λ rows. IfOk c.read_at-in_default-2.result (λ list. list ≡ rows))
-    (copy_shows c.args.differences.now c.args.rows.now c.in_ok-copy_with-in_default.field-0 new c.args.n c.requires.upto c.in_ok-copy_with-in_default.ensures take) c.read_at-in_default-2.ensures
+returns-in_ok-copy_with-in_default g c = λ new take.
+    let p = g.T.Test.passed c.args.test.now in
+    subst (λ rows. IfOk c.read_passing-in_default-2.result (λ list. list ≡ filter p rows))
+    (copy_shows c.args.differences.now c.args.rows.now c.in_ok-copy_with-in_default.field-0 new c.args.n c.requires.upto c.in_ok-copy_with-in_default.ensures take) c.read_passing-in_default-2.ensures
