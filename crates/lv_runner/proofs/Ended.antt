@@ -1,6 +1,6 @@
 -- What each status says, of words that are accepted.
 use Rattle.std.proofs.Common.{◌≡◌, ℕ, zero, suc, ◌<◌, ◌+◌, ◌-◌, ◌^◌, ◌≤◌, min, List, [], ◌++◌, length, Option, Some, None, inl, inr, refl, sym, ap, ◌∙◌, subst, arith}
-use Rattle.std.specs.Prelude.{◌⊎◌, IsTrue, IfSome, Ok}
+use Rattle.std.specs.Prelude.{◌⊎◌, Bool, false, IsTrue, IfSome, Ok}
 use Rattle.std.specs.Io.KnownBytes.{Consumes, IsAtEnd, Keeps}
 use Rattle.std.proofs.lemmas.List.{append-nil, length-append}
 use Rattle.lv_core.specs.Run.{failures_shown}
@@ -13,7 +13,7 @@ use Rattle.lv_runner.specs.declared.status.Status.{Status}
 use Rattle.lv_runner.specs.declared.status.Status.TheVariants.{Done, Words, Script, SourceFault, SinkFault, BadJournal, OpenFault, Differ, NoMemory}
 use Rattle.lv_runner.specs.Differing.{shown}
 use Rattle.lv_plain.specs.declared.program.Program.{Program}
-use Rattle.lv_runner.specs.Ends.{All, Completes, Ends, FailedOpening, HandedOut, HasScript, IsLeft, IsWell, NotAsked, Other, Outside, Part, Refused, TurnedAway, WroteWell}
+use Rattle.lv_runner.specs.Ends.{All, Completes, Ends, FailedOpening, HandedOut, HasScript, IsLeft, IsSpared, IsUnbegun, IsWell, NotAsked, Other, Outside, Part, Refused, TurnedAway, WroteWell}
 use Rattle.lv_runner.specs.Output.{IsBad, limit}
 use Rattle.lv_order.proofs.Once.{answer_once}
 use Rattle.lv_runner.proofs.Read.{too_long}
@@ -103,7 +103,21 @@ module _ {D : Type 0} (seen : D → Option (List ℕ)) (may_leave : D → List �
     where
       by : Ends seen may_leave moment left_since faults w (holds w.log) w.log old new back NoMemory → Keeps old.written new.written ⊎ Part seen may_leave moment left_since faults w (holds w.log) w.log old new back
       by (inl none) = inl none.0
-      by (inr handed) = handed.0
+      by (inr (inl kept, out)) = inl kept.0
+      by (inr (inr wrote, out)) = inr wrote
+
+  -- without threads nothing is written only where no disk was handed out, or nothing was run over it
+  pub is_early : (w : SaidWords) → said words ≡ Some w → w.threads ≡ false → s ≡ NoMemory → NotAsked old.openings new.openings back ⊎ IsUnbegun seen (holds w.log) back ⊎ Part seen may_leave moment left_since faults w (holds w.log) w.log old new back
+  is_early w there alone e = by (at w there NoMemory e)
+    where
+      by : Ends seen may_leave moment left_since faults w (holds w.log) w.log old new back NoMemory → NotAsked old.openings new.openings back ⊎ IsUnbegun seen (holds w.log) back ⊎ Part seen may_leave moment left_since faults w (holds w.log) w.log old new back
+      by (inl none) = inl none.1
+      by (inr (inl (kept, inl threads), out)) = absurd (cc (alone, threads))
+      by (inr (inl (kept, inr unbegun), out)) = inr (inl unbegun)
+      by (inr (inr wrote, out)) = inr (inr wrote)
+
+  pub is_spared : (w : SaidWords) → said words ≡ Some w → s ≡ OpenFault → IsSpared seen (holds w.log) back
+  is_spared w there e = (at w there OpenFault e).3
 
   -- ---- the openings
   pub asked_none : (s ≡ Words) ⊎ ((line kind : ℕ) × (s ≡ Script line kind)) ⊎ (s ≡ SourceFault) → NotAsked old.openings new.openings back

@@ -1,9 +1,10 @@
 -- How a run ends, from the disk's hand-out on.
-use Rattle.std.proofs.Common.{◌≡◌, ℕ, Bool, true, false, List, Option, Some, None, inl, inr, refl, sym, ap, ◌∙◌, subst}
-use Rattle.std.specs.Prelude.{◌⊎◌, IfSome}
+use Rattle.std.proofs.Common.{◌≡◌, ℕ, ◌<◌, Bool, true, false, List, [], ◌∷◌, ◌++◌, length, Option, Some, None, inl, inr, refl, sym, ap, ◌∙◌, subst, arith}
+use Rattle.std.specs.Prelude.{◌⊎◌, IfSome, IsTrue}
 use Rattle.std.specs.Io.KnownBytes.{Keeps}
 use Rattle.std.proofs.KnownBytes.{Keeps-refl}
 use Rattle.lv_engine.specs.Kept.{EngineView}
+use Rattle.lv_journal.specs.Bytes.{magic}
 use Rattle.lv_journal.specs.declared.fault.JFault.{JFault}
 use Rattle.lv_journal.specs.declared.fault.JFault.TheVariants as journal
 use Rattle.lv_outside.specs.Causes.{Rose}
@@ -17,7 +18,7 @@ use Rattle.lv_runner.specs.declared.reading.Unread.TheVariants as why
 use Rattle.lv_runner.specs.declared.status.Status.{Status}
 use Rattle.lv_runner.specs.declared.status.Status.TheVariants.{Done, Words, Script, SourceFault, SinkFault, BadJournal, OpenFault, Differ, NoMemory}
 use Rattle.lv_words.specs.declared.words.Words.{Words as SaidWords}
-use Rattle.lv_runner.specs.Begun.{EndsOpened, EndsOver, IsShort, TellsAtLeast, unopened_as}
+use Rattle.lv_runner.specs.Begun.{EndsOpened, EndsOver, IsKeptBy, IsShort, IsUntried, TellsAtLeast, unopened_as}
 use Rattle.lv_runner.specs.Ends.{Ends, HasInput, Outside, Part, WhyNone, unread_as}
 use Rattle.lv_runner.specs.Written.{HasWrittenPart}
 
@@ -25,6 +26,21 @@ use Rattle.lv_runner.specs.Written.{HasWrittenPart}
 retold : (told there : Option (List ℕ)) (P : List ℕ → Type 0) → ((bytes : List ℕ) → told ≡ Some bytes → there ≡ Some bytes) → IfSome there P → IfSome told P
 retold None there P h some = tt
 retold (Some bytes) there P h some = subst (λ o. IfSome o P) (h bytes refl) some
+
+-- a disk that has bytes keeps them, as told of its path
+kept_as_told : (told there now : Option (List ℕ)) → ((bytes : List ℕ) → told ≡ Some bytes → there ≡ Some bytes) → IsKeptBy now there → IsKeptBy now told
+kept_as_told told there now tells kept = retold told there (λ bytes. 0 < length bytes → now ≡ Some bytes) tells kept
+
+-- one over which nothing was run tells what was told, or is a new journal
+untried_as_told : (told there now : Option (List ℕ)) → ((bytes : List ℕ) → told ≡ Some bytes → there ≡ Some bytes) → IsKeptBy now there → (there ≡ Some [] → (now ≡ Some []) ⊎ (now ≡ Some (magic ++ 0 ∷ []))) → IsUntried now told
+untried_as_told None there now tells kept begun = tt
+untried_as_told (Some []) there now tells kept begun = by (begun (tells [] refl))
+  where
+    by : (now ≡ Some []) ⊎ (now ≡ Some (magic ++ 0 ∷ [])) → IsUntried now (Some [])
+    by (inl same) = inl same
+    by (inr new) = inr (refl, new)
+untried_as_told (Some (byte ∷ bytes)) there now tells kept begun =
+    inl (subst (λ (o : Option (List ℕ)). IfSome o (λ f. 0 < length f → now ≡ Some f)) (tells (byte ∷ bytes) refl) kept (omega arith))
 
 module _ {D : Type 0} (seen : D → Option (List ℕ)) (may_leave : D → List ℕ → Type 0) (moment : D → ℕ) (left_since : D → ℕ → List ℕ → Type 0) (faults : D → ℕ) where
   pub reopened_as_told : (told : Option (List ℕ)) (disk : D) (recs : List Rec) (e : EngineView D) → TellsAtLeast seen may_leave moment left_since faults told disk → IsReopened seen may_leave (seen disk) recs e
@@ -44,28 +60,30 @@ module _ {D : Type 0} (seen : D → Option (List ℕ)) (may_leave : D → List �
     over_opened written0 written1 is_flushed sink0 sink1 (BadJournal offset) (Some disk) h = absurd h
     over_opened written0 written1 is_flushed sink0 sink1 OpenFault (Some disk) h = absurd h
     over_opened written0 written1 is_flushed sink0 sink1 (Differ session place given kept) (Some disk) h = h
-    over_opened written0 written1 is_flushed sink0 sink1 NoMemory (Some disk) h = by w.threads h
+    over_opened written0 written1 is_flushed sink0 sink1 NoMemory (Some disk) h = by w.threads refl h
       where
-        by : (b : Bool) → IsShort seen may_leave moment left_since faults w told bytes count written0 written1 is_flushed sink0 sink1 b disk → Keeps written0 written1 ⊎ HasWrittenPart seen may_leave moment left_since faults w told bytes written0 written1 count disk
-        by false wrote = inr wrote
-        by true either = either
+        by : (b : Bool) → w.threads ≡ b → IsShort seen may_leave moment left_since faults w told bytes count written0 written1 is_flushed sink0 sink1 b disk
+            → (Keeps written0 written1 × (IsTrue w.threads ⊎ IsUntried (seen disk) told)) ⊎ HasWrittenPart seen may_leave moment left_since faults w told bytes written0 written1 count disk
+        by false is wrote = inr wrote
+        by true is (inl kept) = inl (kept, inl (is))
+        by true is (inr wrote) = inr wrote
 
     -- one that was not
     pub ends_unopened : (there : D) (written : Option (List ℕ)) (is_flushed : Bool) (sink : ℕ) (cause : JFault) (disk : D) (status : Status) → status ≡ unopened_as cause
         → TellsAtLeast seen may_leave moment left_since faults told there
         → ((offset : ℕ) → cause ≡ journal.Bad offset → IfSome (seen there) (λ f. BadAt f offset)) → ((offset : ℕ) → cause ≡ journal.Bad offset → IfSome (seen there) (λ f. seen disk ≡ Some f))
-        → (cause ≡ journal.Failed → Rose count (faults disk))
+        → (cause ≡ journal.Failed → Rose count (faults disk)) → IsKeptBy (seen disk) (seen there) → (cause ≡ journal.NoMemory → seen there ≡ Some [] → (seen disk ≡ Some []) ⊎ (seen disk ≡ Some (magic ++ 0 ∷ [])))
         → EndsOpened seen may_leave moment left_since faults w told bytes count written written is_flushed sink sink status (Some disk)
-    ends_unopened there written is_flushed sink cause disk status is tells bad stays failed =
-        subst (λ s. EndsOpened seen may_leave moment left_since faults w told bytes count written written is_flushed sink sink s (Some disk)) (sym is) (by cause bad stays failed)
+    ends_unopened there written is_flushed sink cause disk status is tells bad stays failed left begun =
+        subst (λ s. EndsOpened seen may_leave moment left_since faults w told bytes count written written is_flushed sink sink s (Some disk)) (sym is) (by cause bad stays failed begun)
       where
         by : (cause : JFault) → ((offset : ℕ) → cause ≡ journal.Bad offset → IfSome (seen there) (λ f. BadAt f offset)) → ((offset : ℕ) → cause ≡ journal.Bad offset → IfSome (seen there) (λ f. seen disk ≡ Some f))
-            → (cause ≡ journal.Failed → Rose count (faults disk))
+            → (cause ≡ journal.Failed → Rose count (faults disk)) → (cause ≡ journal.NoMemory → seen there ≡ Some [] → (seen disk ≡ Some []) ⊎ (seen disk ≡ Some (magic ++ 0 ∷ [])))
             → EndsOpened seen may_leave moment left_since faults w told bytes count written written is_flushed sink sink (unopened_as cause) (Some disk)
-        by (journal.Bad offset) bad stays failed =
+        by (journal.Bad offset) bad stays failed begun =
             (retold told (seen there) (λ f. BadAt f offset) tells (bad offset refl), Keeps-refl written, retold told (seen there) (λ f. seen disk ≡ Some f) tells (stays offset refl))
-        by journal.Failed bad stays failed = (failed refl, Keeps-refl written)
-        by journal.NoMemory bad stays failed = inl (Keeps-refl written)
+        by journal.Failed bad stays failed begun = (failed refl, Keeps-refl written, kept_as_told told (seen there) (seen disk) tells left)
+        by journal.NoMemory bad stays failed begun = inl (Keeps-refl written, inr (untried_as_told told (seen there) (seen disk) tells left (begun refl)))
 
   -- ---- the source, the sink and the disks
   module _ (w : SaidWords) (told path : Option (List ℕ)) (old new : Outside) (bytes : List ℕ) (input : HasInput w.make old.left new.left bytes) where
@@ -86,11 +104,11 @@ module _ {D : Type 0} (seen : D → Option (List ℕ)) (may_leave : D → List �
     at_end out SourceFault (Some disk) h = absurd h
     at_end out SinkFault (Some disk) h = (part disk h.0, h.1, out)
     at_end out (BadJournal offset) (Some disk) h = (h.0, h.1, out, h.2)
-    at_end out OpenFault (Some disk) h = (h.0, h.1, inl out)
+    at_end out OpenFault (Some disk) h = (h.0, h.1, inl out, h.2)
     at_end out (Differ session place given kept) (Some disk) h = (record { bytes = bytes; input = input; disk = disk; comes_back = refl; differed = h.0 }, h.1, out)
     at_end out NoMemory (Some disk) h = by h
       where
-        by : Keeps old.written new.written ⊎ HasWrittenPart seen may_leave moment left_since faults w told bytes old.written new.written new.openings.count disk → Ends seen may_leave moment left_since faults w told path old new (Some disk) NoMemory
+        by : (Keeps old.written new.written × (IsTrue w.threads ⊎ IsUntried (seen disk) told)) ⊎ HasWrittenPart seen may_leave moment left_since faults w told bytes old.written new.written new.openings.count disk → Ends seen may_leave moment left_since faults w told path old new (Some disk) NoMemory
         by (inl kept) = inr (inl kept, out)
         by (inr wrote) = inr (inr (part disk wrote), out)
 

@@ -1,7 +1,8 @@
 -- A run over a disk that was handed out: what is known when it begins, and how it ends.
-use Rattle.std.specs.Prelude.{◌≡◌, ◌≤◌, ◌⊎◌, ℕ, Bool, true, false, IsTrue, List, Option, Some, None, IfSome, Ok}
+use Rattle.std.specs.Prelude.{◌≡◌, ◌≤◌, ◌<◌, ◌⊎◌, ℕ, Bool, true, false, IsTrue, List, [], ◌∷◌, ◌++◌, length, Option, Some, None, IfSome, Ok}
 use Rattle.std.specs.Io.KnownBytes.{Keeps}
 use Rattle.lv_engine.specs.Kept.{EngineView}
+use Rattle.lv_journal.specs.Bytes.{magic}
 use Rattle.lv_journal.specs.declared.fault.JFault.{JFault}
 use Rattle.lv_journal.specs.declared.fault.JFault.TheVariants as journal
 use Rattle.lv_lines.specs.Script.{script_of}
@@ -31,6 +32,14 @@ abbrev pub unopened_as : JFault → Status
 unopened_as (journal.Bad offset) = BadJournal offset
 unopened_as journal.Failed = OpenFault
 unopened_as journal.NoMemory = NoMemory
+
+-- a disk that has bytes tells them still
+abbrev pub IsKeptBy : Option (List ℕ) → Option (List ℕ) → Type 0
+IsKeptBy seen told = IfSome told (λ bytes. 0 < length bytes → seen ≡ Some bytes)
+
+-- a disk over which nothing was run tells what it told; an empty one may be a new journal
+abbrev pub IsUntried : Option (List ℕ) → Option (List ℕ) → Type 0
+IsUntried seen told = IfSome told (λ bytes. (seen ≡ Some bytes) ⊎ ((bytes ≡ []) × (seen ≡ Some (magic ++ 0 ∷ []))))
 
 module _ {D : Type 0} (seen : D → Option (List ℕ)) (may_leave : D → List ℕ → Type 0) (moment : D → ℕ) (left_since : D → ℕ → List ℕ → Type 0) (faults : D → ℕ) where
   -- the disk told what the path was told to hold, if that was told
@@ -85,9 +94,9 @@ module _ {D : Type 0} (seen : D → Option (List ℕ)) (may_leave : D → List �
     EndsOpened Done (Some disk) = EndsOver Done (Some disk)
     EndsOpened SinkFault (Some disk) = EndsOver SinkFault (Some disk)
     EndsOpened (BadJournal offset) (Some disk) = IfSome told (λ f. BadAt f offset) × Keeps written0 written1 × IfSome told (λ f. seen disk ≡ Some f)
-    EndsOpened OpenFault (Some disk) = Rose count (faults disk) × Keeps written0 written1
+    EndsOpened OpenFault (Some disk) = Rose count (faults disk) × Keeps written0 written1 × IsKeptBy (seen disk) told
     EndsOpened (Differ session place given kept) (Some disk) = EndsOver (Differ session place given kept) (Some disk)
-    EndsOpened NoMemory (Some disk) = Keeps written0 written1 ⊎ HasWrittenPart seen may_leave moment left_since faults w told bytes written0 written1 count disk
+    EndsOpened NoMemory (Some disk) = (Keeps written0 written1 × (IsTrue w.threads ⊎ IsUntried (seen disk) told)) ⊎ HasWrittenPart seen may_leave moment left_since faults w told bytes written0 written1 count disk
     EndsOpened status (Some disk) = ⊥
 
   -- how a run of a program over an engine ends, whatever its disk was told to hold, and whichever bytes say the program

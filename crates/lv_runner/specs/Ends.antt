@@ -15,7 +15,7 @@ use Rattle.lv_runner.specs.declared.reading.Unread.{Unread}
 use Rattle.lv_runner.specs.declared.reading.Unread.TheVariants as why
 use Rattle.lv_runner.specs.declared.status.Status.{Status}
 use Rattle.lv_runner.specs.declared.status.Status.TheVariants.{Done, Words, Script, SourceFault, SinkFault, BadJournal, OpenFault, Differ, NoMemory}
-use Rattle.lv_runner.specs.Begun.{HasDiffered}
+use Rattle.lv_runner.specs.Begun.{HasDiffered, IsKeptBy, IsUntried}
 use Rattle.lv_runner.specs.Differing.{shown}
 use Rattle.lv_order.specs.Once.{AnswerOnce}
 use Rattle.lv_runner.specs.Output.{limit, IsBad}
@@ -118,6 +118,16 @@ abbrev pub IsLeft : {D : Type 0} → (D → Option (List ℕ)) → Option (List 
 IsLeft seen told None = ⊥
 IsLeft seen told (Some disk) = IfSome told (λ bytes. seen disk ≡ Some bytes)
 
+-- so it does where it comes back and has bytes
+abbrev pub IsSpared : {D : Type 0} → (D → Option (List ℕ)) → Option (List ℕ) → Option D → Type 0
+IsSpared seen told None = Unit {0}
+IsSpared seen told (Some disk) = IsKeptBy (seen disk) told
+
+-- nothing was run over the disk that comes back: it tells what was told of its path, or is a new journal where it was empty
+abbrev pub IsUnbegun : {D : Type 0} → (D → Option (List ℕ)) → Option (List ℕ) → Option D → Type 0
+IsUnbegun seen told None = ⊥
+IsUnbegun seen told (Some disk) = IsUntried (seen disk) told
+
 -- ---- the run
 
 module _ {D : Type 0} (seen : D → Option (List ℕ)) (may_leave : D → List ℕ → Type 0) (moment : D → ℕ) (left_since : D → ℕ → List ℕ → Type 0) (faults : D → ℕ) (w : SaidWords) (told left0 left1 written0 written1 : Option (List ℕ)) (count : ℕ) where
@@ -172,9 +182,9 @@ module _ {D : Type 0} (seen : D → Option (List ℕ)) (may_leave : D → List �
   Ends SourceFault = (w.make ≡ None) × Rose old.source_faults new.source_faults × Nothing × IsNotAsked
   Ends SinkFault = Part × Rose old.sink_faults new.sink_faults × IsHandedOut
   Ends (BadJournal offset) = IfSome told (λ bytes. BadAt bytes offset) × Nothing × IsHandedOut × IsLeft seen told back
-  Ends OpenFault = FailedOpening faults old.disks_faults new.disks_faults new.openings.count back × Nothing × (IsHandedOut ⊎ TurnedAway path old.openings new.openings back)
+  Ends OpenFault = FailedOpening faults old.disks_faults new.disks_faults new.openings.count back × Nothing × (IsHandedOut ⊎ TurnedAway path old.openings new.openings back) × IsSpared seen told back
   Ends (Differ session place given kept) = Other (shown session place given kept) × Nothing × IsHandedOut
-  Ends NoMemory = (Nothing × IsNotAsked) ⊎ ((Nothing ⊎ Part) × IsHandedOut)
+  Ends NoMemory = (Nothing × IsNotAsked) ⊎ (((Nothing × (IsTrue w.threads ⊎ IsUnbegun seen told back)) ⊎ Part) × IsHandedOut)
 
   -- ---- where nothing goes wrong
   -- There is a script without a fault, which the source tells or which is made; neither the source, of which a script that is

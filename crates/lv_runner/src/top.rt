@@ -1,5 +1,5 @@
 //! The top call.
-ghost use Rattle.std.specs.Prelude.{◌≡◌, ◌≤◌, ◌<◌, ◌-◌, ◌^◌, ◌↔◌, ◌⊎◌, ◌∷◌, ℕ, [], IsTrue, None, Some, IfSome, List, map};
+ghost use Rattle.std.specs.Prelude.{◌≡◌, ◌≤◌, ◌<◌, ◌-◌, ◌^◌, ◌↔◌, ◌⊎◌, ◌∷◌, ℕ, [], false, IsTrue, None, Some, IfSome, List, map};
 ghost use Rattle.std.specs.Io.KnownBytes.{Keeps};
 ghost use Rattle.lv_outside.specs.Causes.{Rose};
 ghost use Rattle.lv_recover.specs.Opening.{BadAt};
@@ -7,7 +7,7 @@ ghost use Rattle.lv_words.specs.declared.words.Words.{Words as SaidWords};
 ghost use Rattle.lv_words.specs.Range.{IsInRange};
 ghost use Rattle.lv_words.specs.Words.{said};
 ghost use Rattle.lv_runner.specs.Differing.{shown};
-ghost use Rattle.lv_runner.specs.Ends.{Completes, DidAll, DidDiffer, DidPart, Ends, FailedOpening, HandedOut, HasProgram, IsLeft, IsWell, NotAsked, Refused, TurnedAway, unread_as};
+ghost use Rattle.lv_runner.specs.Ends.{Completes, DidAll, DidDiffer, DidPart, Ends, FailedOpening, HandedOut, HasProgram, IsLeft, IsSpared, IsUnbegun, IsWell, NotAsked, Refused, TurnedAway, unread_as};
 
 use crate::opening::open_and_run;
 use crate::ran::Ran;
@@ -108,6 +108,7 @@ pub fn run<R: Threads + Wait + Sync, S: Source, K: Sink, O: Disks, G: Gate + Syn
     ensures bad { (w : SaidWords) (offset : ℕ) → said words.now ≡ Some w → result.status ≡ Status.BadJournal offset → IfSome (O.holds disks.old w.log) (λ bytes. BadAt bytes offset) }
     // The journal that is bad stays as it is.
     ensures alone { (w : SaidWords) (offset : ℕ) → said words.now ≡ Some w → result.status ≡ Status.BadJournal offset → IsLeft O.Disk.seen (O.holds disks.old w.log) result.disk }
+    ensures spared { (w : SaidWords) → said words.now ≡ Some w → result.status ≡ Status.OpenFault → IsSpared O.Disk.seen (O.holds disks.old w.log) result.disk }
     ensures open { result.status ≡ Status.OpenFault → FailedOpening O.Disk.failures (O.failures disks.old) (O.failures disks.new) (O.openings disks.new).count result.disk }
     // No journal is opened before there is a program.
     ensures read { (w : SaidWords) → said words.now ≡ Some w → (result.status ≡ Status.OpenFault) ⊎ ((offset : ℕ) × (result.status ≡ Status.BadJournal offset)) → HasProgram w.make (S.left source.old) (S.left source.new) }
@@ -126,6 +127,10 @@ pub fn run<R: Threads + Wait + Sync, S: Source, K: Sink, O: Disks, G: Gate + Syn
         (record { left = S.left source.old; source_faults = S.faults source.old; written = K.written sink.old; is_flushed = K.is_flushed sink.old; sink_faults = K.faults sink.old; disks_faults = O.failures disks.old; openings = O.openings disks.old })
         (record { left = S.left source.new; source_faults = S.faults source.new; written = K.written sink.new; is_flushed = K.is_flushed sink.new; sink_faults = K.faults sink.new; disks_faults = O.failures disks.new; openings = O.openings disks.new })
         result.disk result.status }
+    // Without threads nothing is written then only where nothing was run over the disk.
+    ensures early { (w : SaidWords) → said words.now ≡ Some w → w.threads ≡ false → result.status ≡ Status.NoMemory → NotAsked (O.openings disks.old) (O.openings disks.new) result.disk
+        ⊎ IsUnbegun O.Disk.seen (O.holds disks.old w.log) result.disk
+        ⊎ DidPart O.Disk.seen O.Disk.may_leave O.Disk.moment O.Disk.left_since O.Disk.failures w (O.holds disks.old w.log) (S.left source.old) (S.left source.new) (K.written sink.old) (K.written sink.new) (O.openings disks.new).count result.disk }
     ensures nothing { (result.status ≡ Status.Done → ⊥) → (result.status ≡ Status.SinkFault → ⊥) → (result.status ≡ Status.NoMemory → ⊥) → Keeps (K.written sink.old) (K.written sink.new) }
     // Which openings were asked, and when the disk comes back.
     ensures unasked { (result.status ≡ Status.Words) ⊎ ((line kind : ℕ) × (result.status ≡ Status.Script line kind)) ⊎ (result.status ≡ Status.SourceFault) → NotAsked (O.openings disks.old) (O.openings disks.new) result.disk }

@@ -29,4 +29,4 @@ pub returns-in-Err-clause-ends : goal.returns-in-Err-clause-ends
 returns-in-Err-clause-ends g c told bytes tells script =
     let back = c.in-Err.field-0 in
     ends_unopened g.D.Disk.seen g.D.Disk.may_leave g.D.Disk.moment g.D.Disk.left_since g.D.Disk.failures c.args.words.now told bytes (g.D.Disk.failures c.args.disk) c.args.disk (g.K.Sink.written c.args.sink.now) (g.K.Sink.is_flushed c.args.sink.now)
-    (g.K.Sink.faults c.args.sink.now) back.cause back.disk c.unopened.result c.unopened.ensures tells c.in-Err.ensures.bad c.in-Err.ensures.stays c.in-Err.ensures.cause
+    (g.K.Sink.faults c.args.sink.now) back.cause back.disk c.unopened.result c.unopened.ensures tells c.in-Err.ensures.bad c.in-Err.ensures.stays c.in-Err.ensures.cause c.in-Err.ensures.left c.in-Err.ensures.begun
