@@ -1,5 +1,5 @@
 //! The tasks of one view.
-ghost use Rattle.std.specs.Prelude.{◌≡◌, ◌≤◌, ◌<◌, ◌+◌, ◌^◌, ◌++◌, ◌∷◌, [], length, map, take, drop, OnOk, OnErr};
+ghost use Rattle.std.specs.Prelude.{◌≡◌, ◌≤◌, ◌<◌, ◌+◌, ◌^◌, ◌++◌, ◌∷◌, [], length, map, take, drop, OnOk, IfOk};
 ghost use Rattle.std.specs.VecDeque.{deque_capacity};
 ghost use Rattle.lv_schema.specs.StepPlans.{step_end};
 ghost use Rattle.lv_tasks.specs.declared.task.Task.{Task};
@@ -162,13 +162,14 @@ impl Queue {
         })
     }
 
-    /// Puts the view's number and each task's commit behind others.
-    pub(crate) fn list_into(&self, view: u32, out: &mut Items<(u32, u64)>) -> Result<(), NoMemory>
-        ensures { OnOk result (out.new ≡ out.old ++ pairs_of view self.now.list) }
+    /// The view's number and the commit of each task.
+    pub(crate) fn list(&self, alloc: Global, view: u32) -> Result<Items<(u32, u64)>, NoMemory>
+        ensures { IfOk result (λ list. list ≡ pairs_of view self.now.list) }
     {
+        let mut list = Items::new(alloc);
         for at in 0..self.tasks.len() {
-            out.push((view, self.tasks[at].commit))?;
+            list.push((view, self.tasks[at].commit))?;
         }
-        Ok(())
+        Ok(list)
     }
 }

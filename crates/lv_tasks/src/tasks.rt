@@ -1,5 +1,5 @@
 //! The tasks of all views.
-ghost use Rattle.std.specs.Prelude.{◌≡◌, ◌≤◌, ◌<◌, ◌+◌, ◌^◌, ◌++◌, ◌∷◌, [], length, map, slice_set, OnOk, OnErr, IfOk};
+ghost use Rattle.std.specs.Prelude.{◌≡◌, ◌≤◌, ◌<◌, ◌+◌, ◌^◌, ◌++◌, ◌∷◌, [], length, map, slice_set, OnOk, IfOk};
 ghost use Rattle.lv_values.specs.Room.{Roomy};
 ghost use Rattle.lv_schema.specs.StepPlans.{step_end};
 ghost use Rattle.lv_tasks.specs.declared.task.Task.{Task};
@@ -142,13 +142,13 @@ impl Tasks {
         queue.pending(view)
     }
 
-    /// Puts a view's number and the commit of each of its tasks behind others. Cost: linear in the view's tasks.
-    pub fn list_into(&self, view: u32, out: &mut Items<(u32, u64)>) -> Result<(), NoMemory>
-        ensures { OnOk result (out.new ≡ out.old ++ pairs_of view (tasks_kept self.now.tasks view)) }
+    /// A view's number and the commit of each of its tasks, in order. Cost: linear in the view's tasks.
+    pub fn list(&self, alloc: Global, view: u32) -> Result<Items<(u32, u64)>, NoMemory>
+        ensures { IfOk result (λ list. list ≡ pairs_of view (tasks_kept self.now.tasks view)) }
     {
         match self.queues.get(view as usize) {
-            Some(queue) => queue.list_into(view, out),
-            None => Ok(()),
+            Some(queue) => queue.list(alloc, view),
+            None => Ok(Items::new(alloc)),
         }
     }
 }

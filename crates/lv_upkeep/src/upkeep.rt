@@ -207,7 +207,7 @@ impl Upkeep {
     {
         let mut list = Items::new(alloc);
         for view in 0..self.views.len() {
-            self.tasks.list_into(view as u32, &mut list)?;
+            list.append(self.tasks.list(alloc, view as u32)?)?;
         }
         Ok(list)
     }
