@@ -5,20 +5,7 @@ ghost use Rattle.lv_shelf.specs.Shelves.{HaveRoom, is_taken, lists_of, passes_in
 
 use crate::slots::passes_in;
 use lv_places::Places;
-use lv_values::{NoMemory, Test};
-
-/// Passed by each element.
-struct Any;
-
-impl<T> Test<T> for Any {
-    ghost use Rattle.std.specs.Prelude.{true};
-
-    ghost passed = { λ _ _. true };
-
-    fn passes(&self, _: &T) -> bool {
-        true
-    }
-}
+use lv_values::{Any, NoMemory, Test};
 
 /// Keeps the numbers of the slots whose elements pass. Cost: one pass over the numbers.
 fn keep_passing<T, P: Test<T>>(test: &P, slots: &[Option<T>], order: &mut Places)

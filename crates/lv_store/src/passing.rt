@@ -5,20 +5,6 @@ use lv_values::{Row, Test};
 use std::marker::Model;
 use std::slice::from_ref;
 
-/// Passed by each row.
-#[derive(Drop)]
-pub(crate) struct Any;
-
-impl Test<Row> for Any {
-    ghost use Rattle.std.specs.Prelude.{true};
-
-    ghost passed = { λ _ _. true };
-
-    fn passes(&self, _: &Row) -> bool {
-        true
-    }
-}
-
 /// Passed by the rows that a condition keeps.
 #[derive(Drop)]
 pub(crate) struct KeptBy<'a> {

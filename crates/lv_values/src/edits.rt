@@ -21,6 +21,20 @@ pub trait Test<T> {
         ensures { result ≡ passed self.now item.now };
 }
 
+/// Passed by each element.
+#[derive(Drop)]
+pub struct Any;
+
+impl<T> Test<T> for Any {
+    ghost use Rattle.std.specs.Prelude.{true};
+
+    ghost passed = { λ _ _. true };
+
+    fn passes(&self, _: &T) -> bool {
+        true
+    }
+}
+
 /// Changes each element in place.
 pub(crate) fn edit_all<T, E: Edit<T>>(edit: &E, items: &mut Vec<T>)
     ensures edited { items.new.items ≡ map (E.edited edit.now) items.old.items }

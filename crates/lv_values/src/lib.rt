@@ -14,7 +14,7 @@ mod text;
 mod value;
 
 pub use boxed::Boxed;
-pub use edits::{Edit, Test};
+pub use edits::{Any, Edit, Test};
 pub use exact::Exact;
 pub use items::{Copying, Items};
 pub use memory::NoMemory;

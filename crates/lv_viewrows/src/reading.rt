@@ -17,20 +17,6 @@ use lv_values::{Copying, NoMemory, Row, Rows, Test};
 use std::alloc::Global;
 use std::cmp::Ordering;
 
-/// Passed by each row.
-#[derive(Drop)]
-pub(crate) struct Any;
-
-impl Test<Row> for Any {
-    ghost use Rattle.std.specs.Prelude.{true};
-
-    ghost passed = { λ _ _. true };
-
-    fn passes(&self, _: &Row) -> bool {
-        true
-    }
-}
-
 /// Appends the row that a view lists of a group, if it passes. A row of a join view that does not pass is not copied.
 fn push_group<T: Test<Row>>(
     alloc: Global,

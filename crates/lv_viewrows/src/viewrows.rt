@@ -12,12 +12,12 @@ ghost use Rattle.lv_viewrows.specs.Changed.{CanInstall, groups_with};
 ghost use Rattle.lv_viewrows.specs.Kept.{groups_at, one_row, rows_listed, shown, version_from};
 
 use crate::changing::apply_all;
-use crate::reading::{Any, rows_passing};
+use crate::reading::rows_passing;
 use crate::version::{EndsAfter, GroupVersion};
 use lv_group::Groups;
 use lv_schema::{Signed, SignedRow, Sums, ViewDef};
 use lv_shelf::Shelf;
-use lv_values::{Copying, NoMemory, Row, Rows, Test};
+use lv_values::{Any, Copying, NoMemory, Row, Rows, Test};
 use std::alloc::Global;
 use std::marker::Model;
 
