@@ -2,6 +2,7 @@ pub mod AddedUp
 pub mod Changes
 pub mod Ending
 pub mod Entries
+pub mod Galloping
 pub mod Installing
 pub mod Keeping
 pub mod Merging
@@ -9,4 +10,5 @@ pub mod Order
 pub mod Passing
 pub mod RowsOfJoins
 pub mod Sums
+pub mod Unchanged
 pub mod Walking

@@ -2,7 +2,7 @@
 use Rattle.std.proofs.Common.{◌≡◌, ℕ, ◌≤◌, Bool, true, false, cond, List, [], ◌∷◌, ◌++◌, filter, Option, Some, None, refl, sym, ap, ◌∙◌, subst, append_assoc, arith}
 use Rattle.std.specs.Prelude.{nat_lt, nat_le}
 use Rattle.std.specs.List.{AllByRecursion}
-use Rattle.std.specs.Ordering.{ordering_reverse}
+use Rattle.std.specs.Ordering.{is_gt, ordering_reverse}
 use Rattle.std.specs.declared.cmp.Ordering.{Ordering}
 use Rattle.std.specs.declared.cmp.Ordering.TheVariants.{Less, Equal, Greater}
 use Rattle.std.specs.FinMap.Entries.{by_order}
@@ -20,11 +20,12 @@ use Rattle.lv_schema.proofs.NetsLead.{same_row}
 use Rattle.lv_group.specs.Gathered.{has_tuples}
 use Rattle.lv_viewrows.specs.declared.version.GroupVersion.{GroupVersion}
 use Rattle.lv_viewrows.specs.Changed.{group_with, groups_with}
-use Rattle.lv_viewrows.specs.Merged.{AllFitAt, FitsInto, if_some, left_by, merged, up_to}
+use Rattle.lv_viewrows.specs.Merged.{AllFitAt, FitsInto, if_some, is_below, left_by, merged, up_to}
 use Rattle.lv_viewrows.specs.Standing.{EndsAtMost, IsBy, MeetAll, Meets, meets_by}
 use Rattle.lv_viewrows.proofs.Changes.{RowsAscend, none_above, settled}
 use Rattle.lv_viewrows.proofs.Ending.{both}
 use Rattle.lv_viewrows.proofs.Entries.{AtMostOne, at_most_one, below_all, filter_ascends, filters_swap, groups_with_is}
+use Rattle.lv_viewrows.proofs.Order.{is_over}
 
 -- ---- one change and one group
 merged_less : (s : SignedRow) (list : List SignedRow) (g : SignedRow) (groups : List SignedRow) → row_cmp s.row g.row ≡ Less → merged (s ∷ list) (g ∷ groups) ≡ if_some s ++ merged list (g ∷ groups)
@@ -42,6 +43,12 @@ merged_greater s list g groups e = λ i. by_order (e i) (if_some s ++ up_to g li
 pub merged_none : (groups : List SignedRow) → merged [] groups ≡ groups
 merged_none [] = refl
 merged_none (g ∷ groups) = ap (λ l. g ∷ l) (merged_none groups)
+
+-- groups below the changes come first, and stay as they are
+pub merged_below : (list gs groups : List SignedRow) → AllByRecursion (λ g. is_below list g ≡ true) gs → merged list (gs ++ groups) ≡ gs ++ merged list groups
+merged_below [] gs groups a = merged_none (gs ++ groups) ∙ ap (λ l. gs ++ l) (sym (merged_none groups))
+merged_below (s ∷ list) [] groups a = refl
+merged_below (s ∷ list) (g ∷ gs) groups a = merged_greater s list g (gs ++ groups) (is_over (row_cmp s.row g.row) a.0) ∙ ap (λ l. g ∷ l) (merged_below (s ∷ list) gs groups a.1)
 
 -- ---- the entries of a row
 entries_some : (q : List Value) (s : SignedRow) (b : Bool) → row_eq q s.row ≡ b → entries_of q (if_some s) ≡ cond b (if_some s) []

@@ -33,10 +33,15 @@ greater_of x y lt = by (nat_cmp x y) refl
     by : (o : Ordering) → nat_cmp x y ≡ o → nat_cmp x y ≡ Greater
     by o e = grind (arith, nat_tests)
 
-is_less : (o : Ordering) → is_lt o ≡ true → o ≡ Less
+pub is_less : (o : Ordering) → is_lt o ≡ true → o ≡ Less
 is_less Less h = refl
 is_less Equal h = cc
 is_less Greater h = cc
+
+pub is_over : (o : Ordering) → is_gt o ≡ true → o ≡ Greater
+is_over Less h = cc
+is_over Equal h = cc
+is_over Greater h = refl
 
 -- one version before another is less
 precedes_less : (v w : GroupVersion) → Precedes v w → version_cmp v w ≡ Less
@@ -47,7 +52,7 @@ precedes_less v w h = by (row_cmp v.group.row w.group.row) refl h
     by Equal e h' = ap (λ o. ordering_then o (nat_cmp v.from w.from)) e ∙ less_of v.from w.from h'.0
     by Greater e h' = absurd h'
 
-falls_from : (p : GroupVersion → Bool) (R : GroupVersion → GroupVersion → Type 0) → ((v w : GroupVersion) → R v w → p w ≡ true → p v ≡ true) → (vs : List GroupVersion) → Apart R vs → Falls p vs
+pub falls_from : (p : GroupVersion → Bool) (R : GroupVersion → GroupVersion → Type 0) → ((v w : GroupVersion) → R v w → p w ≡ true → p v ≡ true) → (vs : List GroupVersion) → Apart R vs → Falls p vs
 falls_from p R f [] a = tt
 falls_from p R f (v ∷ vs) a = (all_weaker (R v) (λ later. p later ≡ true → p v ≡ true) (λ w r. f v w r) vs a.0, falls_from p R f vs a.1)
 

@@ -1,5 +1,5 @@
 -- The rows listed of groups that pass a test.
-use Rattle.std.proofs.Common.{◌≡◌, Bool, true, false, cond, List, [], ◌∷◌, map, filter, refl, sym, ap, ◌∙◌}
+use Rattle.std.proofs.Common.{◌≡◌, Bool, true, false, cond, List, [], ◌∷◌, ◌++◌, map, filter, refl, sym, ap, ◌∙◌}
 use Rattle.std.specs.Prelude.{if◌then◌else◌}
 use Rattle.std.specs.List.{AllByRecursion}
 use Rattle.std.specs.Ordering.{is_gt}
@@ -7,6 +7,8 @@ use Rattle.std.specs.Cmp.{IsTotalOrder}
 use Rattle.std.specs.declared.cmp.Ordering.{Ordering}
 use Rattle.std.specs.declared.cmp.Ordering.TheVariants.{Less, Equal, Greater}
 use Rattle.std.proofs.lemmas.Cmp.{upto}
+use Rattle.std.proofs.lemmas.List.{map-append}
+use Rattle.std.proofs.lemmas.List.Elements.{filter-append}
 use Rattle.lv_values.specs.declared.value.Value.{Value}
 use Rattle.lv_values.specs.Ascending.{ascending, placed}
 use Rattle.lv_values.specs.Order.{row_cmp}
@@ -92,6 +94,9 @@ module _ {A : Type 0} (R : A → A → Ordering) (o : IsTotalOrder R) where
       by false ih = ih
 
 -- ---- the rows that a view lists
+pub passing_append : (view : ViewDef) (p : List Value → Bool) (xs ys : List SignedRow) → passing view p (xs ++ ys) ≡ passing view p xs ++ passing view p ys
+passing_append view p xs ys = ap (filter p) (map-append (row_listed view) xs ys) ∙ filter-append p (map (row_listed view) xs) (map (row_listed view) ys)
+
 pub group_passing : (view : ViewDef) (p : List Value → Bool) (groups : List SignedRow) → view.grouped ≡ true → ascending row_cmp (passing view p groups) ≡ filter p (rows_listed view groups)
 group_passing view p groups e =
     sym (filter_ascending row_cmp row_total p (map (row_listed view) groups))

@@ -15,7 +15,7 @@ walk_step f cons i so_far x xs e =
     ∙ ap (λ l. so_far ++ l) (cons x (drop (i + 1) xs) ∙ ap (λ y. f (y ∷ drop (i + 1) xs)) (sym (got xs i x x e)) ∙ ap f (sym (drop_more xs i x (got_within xs i x e))))
 
 -- the groups that are there at a commit, of a version and of those behind it
-there_cons : (n : ℕ) (v : GroupVersion) (vs : List GroupVersion) → groups_at n (v ∷ []) ++ groups_at n vs ≡ groups_at n (v ∷ vs)
+pub there_cons : (n : ℕ) (v : GroupVersion) (vs : List GroupVersion) → groups_at n (v ∷ []) ++ groups_at n vs ≡ groups_at n (v ∷ vs)
 there_cons n v vs = by (is_there n v)
   where
     by : (b : Bool) → map (λ (w : GroupVersion). w.group) (cond b (v ∷ []) []) ++ groups_at n vs ≡ map (λ (w : GroupVersion). w.group) (cond b (v ∷ filter (is_there n) vs) (filter (is_there n) vs))

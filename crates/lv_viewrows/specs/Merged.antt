@@ -1,6 +1,7 @@
 -- The groups of a view with changes, by one walk over both in the order of their rows.
 use Rattle.std.specs.Prelude.{◌≡◌, true, Bool, ℕ, ◌+ℤ◌, List, [], ◌∷◌, ◌++◌, map, filter}
 use Rattle.std.specs.List.{AllByRecursion}
+use Rattle.std.specs.Ordering.{is_gt}
 use Rattle.std.specs.declared.cmp.Ordering.TheVariants.{Equal}
 use Rattle.std.specs.FinMap.Entries.{by_order}
 use Rattle.lv_values.specs.declared.value.Value.{Value}
@@ -26,6 +27,11 @@ up_to group (s ∷ list) = by_order (row_cmp s.row group.row) (if_some s ++ up_t
 abbrev pub left_by : SignedRow → List SignedRow → List SignedRow
 left_by group [] = []
 left_by group (s ∷ list) = by_order (row_cmp s.row group.row) (left_by group list) list (s ∷ list)
+
+-- whether the row of a group is below those of ascending changes
+abbrev pub is_below : List SignedRow → SignedRow → Bool
+is_below [] group = true
+is_below (s ∷ list) group = is_gt (row_cmp s.row group.row)
 
 -- ascending groups with ascending changes
 abbrev pub merged : List SignedRow → List SignedRow → List SignedRow

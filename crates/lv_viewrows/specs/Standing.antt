@@ -1,5 +1,5 @@
 -- What holds of the versions of a view's rows, and what a change does to them.
-use Rattle.std.specs.Prelude.{◌≡◌, ℕ, ℤ, pos, ◌<◌, ◌≤◌, ◌^◌, ◌+ℤ◌, Bool, true, false, not, ◌&&◌, if◌then◌else◌, List, [], ◌∷◌, map, filter, Option, Some, None, is_none}
+use Rattle.std.specs.Prelude.{◌≡◌, ℕ, ℤ, pos, ◌<◌, ◌≤◌, ◌^◌, ◌+ℤ◌, Bool, true, false, not, ◌&&◌, if◌then◌else◌, List, [], ◌∷◌, drop, map, filter, Option, Some, None, is_none}
 use Rattle.std.specs.List.{AllByRecursion}
 use Rattle.std.specs.Ordering.{nat_cmp, on, then_cmp, is_lt}
 use Rattle.std.specs.declared.cmp.Ordering.{Ordering}
@@ -56,6 +56,10 @@ version_cmp = then_cmp (on (λ v. v.group.row) row_cmp) (on (λ v. v.from) nat_c
 -- whether a version comes before one of a row from a commit on
 abbrev pub comes_before : List Value → ℕ → GroupVersion → Bool
 comes_before row number v = is_lt (version_cmp v (version_from number (one_row row)))
+
+-- no version from a place on comes before one of a row from a commit on
+abbrev pub NoneBefore : List Value → ℕ → ℕ → List GroupVersion → Type 0
+NoneBefore row number at versions = AllByRecursion (λ v. comes_before row number v ≡ false) (drop at versions)
 
 -- whether a version has not ended, whether it has a row and has not ended, and the groups of those that are so
 abbrev pub has_no_end : GroupVersion → Bool

@@ -5,6 +5,7 @@ mod changing;
 mod laws;
 mod numbers;
 mod reading;
+mod searching;
 mod version;
 mod viewrows;
 

@@ -1,14 +1,16 @@
 //! Rows of versions.
-ghost use Rattle.std.specs.Prelude.{◌≡◌, ◌+ℤ◌, ◌++◌, ◌∷◌, [], List, drop, filter, IfOk, OnOk};
+ghost use Rattle.std.specs.Prelude.{◌≡◌, ◌+ℤ◌, ◌++◌, ◌∷◌, ◌≤◌, [], List, drop, take, length, filter, IfOk, OnOk};
 ghost use Rattle.std.specs.List.{AllByRecursion};
 ghost use Rattle.lv_schema.specs.declared.signed.SignedRow.{SignedRow as ASignedRow};
 ghost use Rattle.lv_group.specs.Gathered.{has_tuples};
+ghost use Rattle.lv_shelf.specs.Cuts.{Apart};
 ghost use Rattle.lv_viewrows.specs.Changed.{group_with};
 ghost use Rattle.lv_viewrows.specs.Kept.{groups_at, rows_listed};
 ghost use Rattle.lv_viewrows.specs.Merged.{AllFitAt, FitsInto, if_some, left_by, merged, passing, up_to};
-ghost use Rattle.lv_viewrows.specs.Standing.{IsCount};
+ghost use Rattle.lv_viewrows.specs.Standing.{IsCount, Precedes};
 
 use crate::numbers::{has_tuples, with_group};
+use crate::searching::{NEAR, end_below};
 use crate::version::GroupVersion;
 use lv_group::listed_row;
 use lv_schema::{Signed, SignedRow, ViewDef};
@@ -128,6 +130,69 @@ fn push_version<T: Test<Row>>(
     }
 }
 
+/// Appends the row of a version's group, if the version is there at commit n.
+fn push_if_there<T: Test<Row>>(
+    alloc: Global,
+    view: &ViewDef,
+    test: &T,
+    n: u64,
+    version: &GroupVersion,
+    rows: &mut Rows,
+) -> Result<(), NoMemory>
+    ensures { OnOk result (rows.new ≡ rows.old ++ passing view.now (T.passed test.now) (groups_at n (version.now ∷ []))) }
+{
+    if version.is_there(n) {
+        push_group(alloc, view, test, &version.group, rows)?;
+    }
+    Ok(())
+}
+
+/// Appends the rows of the groups that are there at commit n, of the versions from one place up to another.
+fn push_unchanged<T: Test<Row>>(
+    alloc: Global,
+    view: &ViewDef,
+    test: &T,
+    n: u64,
+    versions: &Shelf<GroupVersion>,
+    from: usize,
+    end: usize,
+    rows: &mut Rows,
+) -> Result<(), NoMemory>
+    requires { end ≤ length versions.now.list }
+    ensures { OnOk result (rows.new ≡ rows.old ++ passing view.now (T.passed test.now) (groups_at n (drop from (take end versions.now.list)))) }
+{
+    for at in from..end {
+        push_if_there(alloc, view, test, n, versions.get(at), rows)?;
+    }
+    Ok(())
+}
+
+/// Appends the rows of the groups that are there at commit n, of the versions from one place up to another, with the
+/// changes from a place on, and answers from where on changes are left. Cost: as that of `push_up_to` for each.
+fn push_compared<T: Test<Row>>(
+    alloc: Global,
+    view: &ViewDef,
+    test: &T,
+    n: u64,
+    versions: &Shelf<GroupVersion>,
+    from: usize,
+    end: usize,
+    changes: &Signed,
+    next: usize,
+    rows: &mut Rows,
+) -> Result<usize, NoMemory>
+    requires fit { AllByRecursion (AllFitAt n changes.now) versions.now.list }
+    requires order { from ≤ end }
+    requires within { end ≤ length versions.now.list }
+    ensures { IfOk result (λ left. rows.new ++ passing view.now (T.passed test.now) (merged (drop left changes.now) (groups_at n (drop end versions.now.list))) ≡ rows.old ++ passing view.now (T.passed test.now) (merged (drop next changes.now) (groups_at n (drop from versions.now.list)))) }
+{
+    let mut left = next;
+    for at in from..end {
+        left = push_version(alloc, view, test, n, versions.get(at), changes, left, rows)?;
+    }
+    Ok(left)
+}
+
 /// Appends the rows of the changes from a place on.
 fn push_rest<T: Test<Row>>(
     alloc: Global,
@@ -154,21 +219,19 @@ fn rows_in_order<T: Test<Row>>(
     versions: &Shelf<GroupVersion>,
     changes: &Signed,
 ) -> Result<Rows, NoMemory>
-    requires { AllByRecursion (AllFitAt n changes.now) versions.now.list }
+    requires order { Apart Precedes versions.now.list }
+    requires fit { AllByRecursion (AllFitAt n changes.now) versions.now.list }
     ensures { IfOk result (λ rows. rows ≡ passing view.now (T.passed test.now) (merged changes.now (groups_at n versions.now.list))) }
 {
     let mut rows = Rows::new(alloc);
     let mut next = 0;
-    for at in 0..versions.len() {
-        next = push_version(
-            alloc,
-            view,
-            test,
-            n,
-            versions.get(at),
-            changes,
-            next,
-            &mut rows,
+    let mut at = 0;
+    while at < versions.len() {
+        let near = end_below(at, changes, next, versions);
+        push_unchanged(alloc, view, test, n, versions, at, near, &mut rows)?;
+        at = near.saturating_add(NEAR).min(versions.len());
+        next = push_compared(
+            alloc, view, test, n, versions, near, at, changes, next, &mut rows,
         )?;
     }
     push_rest(alloc, view, test, changes, next, &mut rows)?;
@@ -186,7 +249,8 @@ pub(crate) fn rows_passing<T: Test<Row>>(
     versions: &Shelf<GroupVersion>,
     changes: &Signed,
 ) -> Result<Rows, NoMemory>
-    requires { AllByRecursion (AllFitAt n changes.now) versions.now.list }
+    requires order { Apart Precedes versions.now.list }
+    requires fit { AllByRecursion (AllFitAt n changes.now) versions.now.list }
     ensures { IfOk result (λ rows. rows ≡ filter (T.passed test.now) (rows_listed view.now (merged changes.now (groups_at n versions.now.list)))) }
 {
     let mut rows = rows_in_order(alloc, view, test, n, versions, changes)?;

@@ -1,9 +1,24 @@
-use Rattle.std.proofs.Common.{subst, sym}
-use Rattle.lv_shelf.specs.Cuts.{Apart}
-use Rattle.lv_viewrows.specs.Standing.{Precedes}
-use Rattle.lv_viewrows.proofs.Changes.{ended_order}
+use Rattle.std.proofs.Common.{◌≡◌, List, subst, sym, ap, ◌∙◌}
+use Rattle.lv_values.specs.declared.value.Value.{Value}
+use Rattle.lv_shelf.specs.Cuts.{IsCut}
+use Rattle.lv_schema.specs.declared.signed.SignedRow.{SignedRow}
+use Rattle.lv_viewrows.specs.Standing.{comes_before, current}
+use Rattle.lv_viewrows.proofs.Changes.{joined_row}
+use Rattle.lv_viewrows.proofs.Galloping.{cut_ended}
 use Rattle.lv_viewrows.proofs.changing.apply.Goals as goal
 
-pub put_change-requires-clause-order : goal.put_change-requires-clause-order
-put_change-requires-clause-order c =
-    subst (Apart Precedes) (sym c.end_current-group.ensures.ended) (ended_order c.args.number c.args.change.row c.args.versions.now.list c.requires.order)
+pub put_change-requires-clause-cut : goal.put_change-requires-clause-cut
+put_change-requires-clause-cut c =
+    let s = c.args.change in
+    let number = c.args.number in
+    let at = c.place_of-at.result in
+    let vs = c.args.versions.now.list in
+    let row = ap (λ (g : SignedRow). g.row) c.end_current-group.ensures.joined ∙ joined_row (current s.row vs) s in
+    subst (λ (r : List Value). IsCut (comes_before r number) at c.end_current-group.new.versions.list) (sym row)
+    (subst (IsCut (comes_before s.row number) at) (sym c.end_current-group.ensures.ended) (cut_ended number s.row at vs c.place_of-at.ensures.cut))
+
+pub returns-clause-cut : goal.returns-clause-cut
+returns-clause-cut c =
+    let s = c.args.change in
+    let row = ap (λ (g : SignedRow). g.row) c.end_current-group.ensures.joined ∙ joined_row (current s.row c.args.versions.now.list) s in
+    subst (λ (r : List Value). IsCut (comes_before r c.args.number) c.place_of-at.result c.put_change.new.versions.list) row c.put_change.ensures.cut

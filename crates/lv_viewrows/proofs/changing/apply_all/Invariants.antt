@@ -1,7 +1,7 @@
-use Rattle.std.proofs.Common.{◌≡◌, ◌+◌, ◌≤◌, length}
+use Rattle.std.proofs.Common.{◌≡◌, ◌+◌, ◌≤◌, ◌<◌, length}
 use Rattle.std.specs.List.{AllByRecursion}
 use Rattle.lv_shelf.specs.Cuts.{Apart}
-use Rattle.lv_viewrows.specs.Standing.{IsBy, MeetAll, Precedes, changed_all}
+use Rattle.lv_viewrows.specs.Standing.{IsBy, MeetAll, NoneBefore, Precedes, changed_all}
 use Rattle.lv_viewrows.proofs.Changes.{RowsAscend}
 use Rattle.lv_viewrows.proofs.changing.apply_all.Given as goal
 
@@ -14,6 +14,9 @@ invariant-loop-change l = record {
   changed : changed_all l.number l.changes l.versions.list ≡ changed_all l.initial.number l.initial.changes l.initial.versions.list;
   room : length l.changes ≤ l.versions.spare;
   taken : l.initial.versions.spare + length l.changes ≤ l.versions.spare + length l.initial.changes;
+  step : 0 < l.step;
+  within : l.high ≤ length l.versions.list;
+  above : AllByRecursion (λ s. NoneBefore s.row l.number l.high l.versions.list) l.changes;
 }
 
 abbrev pub decreases-loop-change : goal.decreases-loop-change

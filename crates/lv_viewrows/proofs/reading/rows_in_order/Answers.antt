@@ -1,15 +1,21 @@
-use Rattle.std.proofs.Common.{◌++◌, List, drop}
-use Rattle.lv_schema.specs.declared.signed.SignedRow.{SignedRow}
+use Rattle.std.proofs.Common.{◌++◌, drop, ap, ◌∙◌, arith}
 use Rattle.lv_viewrows.specs.Kept.{groups_at}
 use Rattle.lv_viewrows.specs.Merged.{merged, passing}
-use Rattle.lv_viewrows.proofs.Walking.{walk_there}
+use Rattle.lv_viewrows.proofs.Unchanged.{rows_unchanged}
 use Rattle.lv_viewrows.proofs.reading.rows_in_order.Goals as goal
 
 pub loop-at-preserved : goal.loop-at-preserved
 loop-at-preserved g c =
     let view = c.args.view.now in
     let p = g.T.Test.passed c.args.test.now in
-    let changes = c.args.changes.now in
+    let n = c.args.n in
     let list = c.args.versions.now.list in
-    walk_there c.args.n c.loop-at.at c.get.result.now list c.get.ensures (λ (groups : List SignedRow). c.loop-at.rows ++ passing view p (merged (drop c.loop-at.next changes) groups))
-    (λ (groups : List SignedRow). c.push_version.new.rows ++ passing view p (merged (drop c.in_ok-next.next changes) groups)) c.in_ok-next.ensures.rows (passing view p (merged changes (groups_at c.args.n list))) c.loop-at.invariant
+    let left = drop c.loop-at.next c.args.changes.now in
+    let near = c.end_below-near in
+    record {
+      within = grind (arith, c.min-at.ensures, c.len-in-loop-at.ensures);
+      rows = c.in_ok-next.ensures
+          ∙ ap (λ l. l ++ passing view p (merged left (groups_at n (drop near.result list)))) c.in_ok-push_unchanged.ensures
+          ∙ rows_unchanged view p n c.loop-at.at near.result left list c.loop-at.rows near.ensures.forward near.ensures.within near.ensures.below
+          ∙ c.loop-at.invariant.rows;
+    }

@@ -10,8 +10,8 @@ use Rattle.lv_viewrows.proofs.Keeping.{meet}
 use Rattle.lv_viewrows.proofs.Merging.{all_fit, merged_is}
 use Rattle.lv_viewrows.proofs.viewrows.ViewRows.preview_passing.Goals as goal
 
-pub rows_passing-requires : goal.rows_passing-requires
-rows_passing-requires g c =
+pub rows_passing-requires-clause-fit : goal.rows_passing-requires-clause-fit
+rows_passing-requires-clause-fit g c =
     let s = c.self.inside in
     let hi = c.args.hi in
     let list = c.args.changes.now in

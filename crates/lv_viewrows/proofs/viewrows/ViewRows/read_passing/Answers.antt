@@ -9,8 +9,8 @@ use Rattle.lv_viewrows.specs.Merged.{AllFitAt, merged}
 use Rattle.lv_viewrows.proofs.Merging.{merged_none}
 use Rattle.lv_viewrows.proofs.viewrows.ViewRows.read_passing.Goals as goal
 
-pub rows_passing-requires : goal.rows_passing-requires
-rows_passing-requires g c =
+pub rows_passing-requires-clause-fit : goal.rows_passing-requires-clause-fit
+rows_passing-requires-clause-fit g c =
     let list = c.self.inside.versions.list in
     subst (λ (l : List SignedRow). AllByRecursion (AllFitAt c.args.n l) list) (sym c.new-changes.ensures) (all_true (AllFitAt c.args.n []) (λ v there. tt) list)
 

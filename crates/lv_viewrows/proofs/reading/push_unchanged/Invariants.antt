@@ -1,0 +1,9 @@
+use Rattle.std.proofs.Common.{◌≡◌, ◌++◌, drop, take}
+use Rattle.lv_viewrows.specs.Kept.{groups_at}
+use Rattle.lv_viewrows.specs.Merged.{passing}
+use Rattle.lv_viewrows.proofs.reading.push_unchanged.Given as goal
+
+abbrev pub invariant-loop-at : goal.invariant-loop-at
+invariant-loop-at g l =
+    let part = take l.end l.versions.list in
+    l.rows ++ passing l.view (g.T.Test.passed l.test) (groups_at l.n (drop l.at part)) ≡ l.initial.rows ++ passing l.view (g.T.Test.passed l.test) (groups_at l.n (drop l.from part))
