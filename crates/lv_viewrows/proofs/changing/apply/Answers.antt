@@ -1,4 +1,4 @@
-use Rattle.std.proofs.Common.{◌≡◌, List, subst, sym, ap, ◌∙◌}
+use Rattle.std.proofs.Common.{List, subst, sym, ap, ◌∙◌}
 use Rattle.lv_values.specs.declared.value.Value.{Value}
 use Rattle.lv_shelf.specs.Cuts.{IsCut}
 use Rattle.lv_schema.specs.declared.signed.SignedRow.{SignedRow}

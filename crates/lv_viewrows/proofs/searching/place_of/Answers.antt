@@ -1,4 +1,4 @@
-use Rattle.std.proofs.Common.{◌≡◌, ◌+◌, ◌-◌, ◌<◌, ◌≤◌, false, sym, ◌∙◌, ap, length, arith}
+use Rattle.std.proofs.Common.{◌≡◌, ◌-◌, ◌<◌, ◌≤◌, false, sym, ◌∙◌, ap, length, arith}
 use Rattle.lv_shelf.proofs.Cutting.{cut_from, fails_at, falls_at, got}
 use Rattle.lv_viewrows.specs.Standing.{comes_before}
 use Rattle.lv_viewrows.proofs.Galloping.{all_behind}
