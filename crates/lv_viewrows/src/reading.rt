@@ -210,7 +210,8 @@ fn push_rest<T: Test<Row>>(
     Ok(())
 }
 
-/// The rows of the groups that are there at commit n, with changes, that pass, in the order of the groups.
+/// The rows of the groups that are there at commit n, with changes, that pass, in the order of the groups. Rows up to near
+/// the next change are handed out as they are, and those near it are compared with it.
 fn rows_in_order<T: Test<Row>>(
     alloc: Global,
     view: &ViewDef,
@@ -239,8 +240,9 @@ fn rows_in_order<T: Test<Row>>(
 }
 
 /// The rows of the groups that are there at commit n, with changes, that pass, in ascending order. Cost: a pass over the
-/// versions, with a comparison for each while changes are left; of a join view a copy of each row that passes; of a
-/// grouped view a copy of each row and of each change whose group stays, and n log n comparisons of the rows that pass.
+/// versions; for each change a search from the one before it and at most 16 comparisons, in all no more than one for each
+/// version, one for each 16 of them and one for each change; of a join view a copy of each row that passes; of a grouped
+/// view a copy of each row and of each change whose group stays, and n log n comparisons of the rows that pass.
 pub(crate) fn rows_passing<T: Test<Row>>(
     alloc: Global,
     view: &ViewDef,

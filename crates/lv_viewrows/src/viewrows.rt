@@ -207,8 +207,8 @@ impl ViewRows {
     }
 
     /// The rows that `read_at` gives from commit `hi` on once this change is installed there. Nothing is installed. Cost:
-    /// that of `read_at`, with a comparison of rows for each version and each change, and of a grouped view a copy of each
-    /// change.
+    /// that of `read_at`, with a search and at most 16 comparisons of rows for each change, and never many more in all than
+    /// one for each version and each change; of a grouped view a copy of each change too.
     pub fn preview(&self, alloc: Global, hi: u64, changes: &Signed) -> Result<Rows, NoMemory>
         requires { CanInstall self.now hi changes.now }
         ensures { IfOk result (λ rows. rows ≡ rows_listed self.now.def (groups_with changes.now (groups_at self.now.at self.now.versions))) }
@@ -232,8 +232,9 @@ impl ViewRows {
     }
 
     /// Installs a change, whose commits end at `hi`: from there on the rows are those before with it, and below they stay.
-    /// It takes no memory. Cost: two binary searches for each changed row, and for each that comes a move of at most 512
-    /// four-byte places, and of one more for each 1,024 versions behind.
+    /// It takes no memory. Cost: for each changed row a search from the place of the one before it, of about
+    /// log (versions / changed rows) comparisons where these are spread evenly and never more than twice log (versions); and
+    /// for each that comes a move of at most 512 four-byte places, and of one more for each 1,024 versions behind.
     pub fn install(&mut self, hi: u64, changes: Signed)
         requires change { CanInstall self.old hi changes }
         requires room { length changes ≤ self.old.spare }
