@@ -1,4 +1,4 @@
-use Rattle.std.proofs.Common.{◌++◌, ◌+◌, drop, take, ap, ◌∙◌, arith}
+use Rattle.std.proofs.Common.{◌++◌, drop, take, arith}
 use Rattle.lv_viewrows.specs.Kept.{groups_at}
 use Rattle.lv_viewrows.specs.Merged.{passing}
 use Rattle.lv_viewrows.proofs.Unchanged.{step_unchanged}
@@ -6,9 +6,8 @@ use Rattle.lv_viewrows.proofs.reading.push_unchanged.Goals as goal
 
 pub loop-at-preserved : goal.loop-at-preserved
 loop-at-preserved g c =
+    let view = c.args.view.now in
     let p = g.T.Test.passed c.args.test.now in
     let list = c.args.versions.now.list in
-    let at = c.loop-at.at in
-    ap (λ l. l ++ passing c.args.view.now p (groups_at c.args.n (drop (at + 1) (take c.args.end list)))) c.in_ok-push_if_there.ensures
-    ∙ step_unchanged c.args.view.now p c.args.n at c.args.end c.get.result.now list c.loop-at.rows (omega arith) c.get.ensures
-    ∙ c.loop-at.invariant
+    step_unchanged view p c.args.n c.loop-at.at c.args.end c.get.result.now list c.loop-at.rows c.push_if_there.new.rows (c.args.rows.now ++ passing view p (groups_at c.args.n (drop c.args.from (take c.args.end list)))) (omega arith) c.get.ensures
+    c.in_ok-push_if_there.ensures c.loop-at.invariant
