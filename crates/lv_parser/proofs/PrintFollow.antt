@@ -1,6 +1,6 @@
 -- Printed tokens can stand one behind another.
 use Rattle.std.proofs.Common.{◌≡◌, ℕ, suc, ℤ, pos, negsuc, Bool, true, false, cond, List, [], ◌∷◌, ◌++◌, map, length, Option, Some, None, nat_eq, nat_le, refl, sym, subst, codes}
-use Rattle.std.specs.List.{slice_index}
+use Rattle.std.specs.List.{AllByRecursion, slice_index}
 use Rattle.std.proofs.Math.Bool.{and-false}
 use Rattle.lv_values.specs.declared.value.Value.{Value}
 use Rattle.lv_values.specs.declared.value.Value.TheVariants as v
@@ -97,9 +97,6 @@ Free xs = Row Any Any xs
 abbrev Operand : List Lexeme → Type 0
 Operand xs = Row Opens Any xs
 
-to_any : (x : Lexeme) → Any x → Any x
-to_any x u = u
-
 -- ---- tokens
 
 word_follows : (k : TokenKind) (b w : List ℕ) → can_follow (record { kind = k; text = b }) (word w) ≡ true
@@ -173,26 +170,22 @@ both_shuts : {B : Lexeme → Type 0} {xs : List Lexeme} → Row B Both xs → Ro
 both_shuts {B = B} f = as_row B Shuts f (λ x b. b) (λ x a. a.1)
 
 -- each is such a row
-EachRow : List (List Lexeme) → Type 0
-EachRow [] = Unit {0}
-EachRow (x ∷ xs) = Operand x × EachRow xs
+abbrev EachRow : List (List Lexeme) → Type 0
+EachRow = AllByRecursion Operand
 
 row_comma : Row Any Opens (comma ∷ [])
 row_comma = row_sign 44 refl refl refl
 
 module _ (joint : Lexeme) (opens : Row Any Opens (joint ∷ [])) where
   row_behind : (xs : List (List Lexeme)) → EachRow xs → Free (behind joint xs)
-  unfolding EachRow
   row_behind [] each = none Any
   row_behind (x ∷ xs) each = then (then opens each.0) (row_behind xs each.1)
 
   row_between : (xs : List (List Lexeme)) → EachRow xs → Operand (between joint xs)
-  unfolding EachRow
   row_between [] each = weak (none Opens)
   row_between (x ∷ xs) each = then each.0 (row_behind xs each.1)
 
 each_map : {A : Type 0} (tokens : A → List Lexeme) → ((a : A) → Operand (tokens a)) → (items : List A) → EachRow (map tokens items)
-unfolding EachRow
 each_map tokens row [] = tt
 each_map tokens row (a ∷ items) = (row a, each_map tokens row items)
 
@@ -267,16 +260,13 @@ row_part in_and x h = by (is_wrapped in_and x.chain)
     by false = h.tokens
 
 abbrev EachShown : List Shown → Type 0
-EachShown [] = Unit {0}
-EachShown (x ∷ xs) = RowShown x × EachShown xs
+EachShown = AllByRecursion RowShown
 
 each_part_row : (in_and : Bool) (xs : List Shown) → EachShown xs → EachRow (map (part_tokens in_and) xs)
-unfolding EachRow
 each_part_row in_and [] each = tt
 each_part_row in_and (x ∷ xs) each = (row_part in_and x each.0, each_part_row in_and xs each.1)
 
 each_tokens_row : (xs : List Shown) → EachShown xs → EachRow (map (λ x. x.tokens) xs)
-unfolding EachRow
 each_tokens_row [] each = tt
 each_tokens_row (x ∷ xs) each = (each.0.tokens, each_tokens_row xs each.1)
 
@@ -290,18 +280,14 @@ each_shown : (ys : List ((q : CondTree) × RowCond q)) → EachShown (map shown 
 each_shown [] = tt
 each_shown (y ∷ ys) = (y.1, each_shown ys)
 
-no_parts : EachRow []
-unfolding EachRow
-no_parts = tt
-
 row_layer : (y : CondTree-F ((q : CondTree) × RowCond q)) → RowShown (shown_step (map-CondTree CondTree Shown shown (map-CondTree ((q : CondTree) × RowCond q) CondTree (λ e. e.0) y)))
-row_layer CondTree-F.True = record { tokens = weak (none Opens); parts = no_parts }
-row_layer (CondTree-F.Cmp op l r) = record { tokens = row_comparison op l r; parts = no_parts }
+row_layer CondTree-F.True = record { tokens = weak (none Opens); parts = tt }
+row_layer (CondTree-F.Cmp op l r) = record { tokens = row_comparison op l r; parts = tt }
 row_layer (CondTree-F.And ys) =
     record { tokens = row_between (the "and") (row_the (codes "and")) _ (each_part_row true (map shown (map (λ e. e.0) ys)) (each_shown ys)); parts = each_tokens_row (map shown (map (λ e. e.0) ys)) (each_shown ys) }
 row_layer (CondTree-F.Or ys) =
-    record { tokens = row_between (the "or") (row_the (codes "or")) _ (each_part_row false (map shown (map (λ e. e.0) ys)) (each_shown ys)); parts = no_parts }
-row_layer (CondTree-F.Not y) = record { tokens = then (from_any Opens (row_the (codes "not"))) (row_part true (shown y.0) y.1); parts = no_parts }
+    record { tokens = row_between (the "or") (row_the (codes "or")) _ (each_part_row false (map shown (map (λ e. e.0) ys)) (each_shown ys)); parts = tt }
+row_layer (CondTree-F.Not y) = record { tokens = then (from_any Opens (row_the (codes "not"))) (row_part true (shown y.0) y.1); parts = tt }
 
 row_cond : (q : CondTree) → RowCond q
 row_cond = ind-CondTree RowCond (λ x y is.
@@ -321,19 +307,16 @@ row_join : (r : RefTree) (on : List Lexeme) → Operand on → Free (p.join_toke
 row_join r on f = then (then (weak (row_the (codes "join"))) (weak (row_ref r))) (then (row_the (codes "on")) f)
 
 row_where : (parts : List (List Lexeme)) → EachRow parts → Free (p.where_tokens parts)
-unfolding EachRow
 row_where [] each = none Any
 row_where (part ∷ parts) each = then (row_the (codes "where")) each.0
 
 row_joined : (refs : List RefTree) (parts : List (List Lexeme)) → EachRow parts → Free (p.joined_tokens refs parts)
-unfolding EachRow
 row_joined [] parts each = row_where parts each
 row_joined (r ∷ more) [] each = then (then (weak row_comma) (weak (row_ref r))) (row_joined more [] each)
 row_joined (r ∷ more) (q ∷ []) each = then (then (weak row_comma) (weak (row_ref r))) (row_joined more (q ∷ []) each)
 row_joined (r ∷ more) (q ∷ next ∷ parts) each = then (row_join r q each.0) (row_joined more (next ∷ parts) each.1)
 
 row_whole : (chain : Chain) (tokens : List Lexeme) (parts : List (List Lexeme)) → Operand tokens → EachRow (p.whole (record { chain = chain; tokens = tokens; parts = parts }))
-unfolding EachRow
 row_whole Nothing tokens parts h = tt
 row_whole Single tokens parts h = (h, tt)
 row_whole Ands tokens parts h = (h, tt)

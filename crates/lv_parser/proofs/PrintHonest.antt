@@ -21,10 +21,6 @@ pub record IsHonest (t : Terminal) : Type 0 where
   pub spelled : Spells bytes kind
   pub is : t ≡ said kind bytes t.byte
 
-abbrev pub AreHonest : List Terminal → Type 0
-AreHonest [] = Unit {0}
-AreHonest (t ∷ ts) = IsHonest t × AreHonest ts
-
 -- ---- keywords and signs are neither names nor numbers
 
 is_fixed : Class → Bool

@@ -1,6 +1,6 @@
 -- The printed line of a statement reads as the statement, but for places.
 use Rattle.std.proofs.Common.{◌≡◌, ℕ, ◌+◌, false, List, [], ◌∷◌, Option, None, Some, refl, sym, ap, ◌∙◌}
-use Rattle.std.specs.List.{All}
+use Rattle.std.specs.List.{All, AllByRecursion}
 use Rattle.std.specs.Str.{str_to_ascii_lowercase}
 use Rattle.std.proofs.lemmas.List.Elements.{All-head, All-tail}
 use Rattle.lv_lexer.specs.declared.token.Token.{Token}
@@ -19,33 +19,19 @@ use Rattle.lv_parser.specs.Lines as lines
 use Rattle.lv_parser.specs.Lines.{ReadsAs}
 use Rattle.lv_parser.specs.Printed.{stmt_tokens}
 use Rattle.lv_parser.proofs.PrintFollow.{printed_can_be_read}
-use Rattle.lv_parser.proofs.PrintHonest.{AreHonest}
-use Rattle.lv_parser.proofs.PrintShows.{IsSaid, Says}
+use Rattle.lv_parser.proofs.PrintHonest.{IsHonest}
+use Rattle.lv_parser.proofs.PrintShows.{byte_is, is_said, IsSaid, Says}
 use Rattle.lv_parser.proofs.PrintStmts.{line_prints}
 
--- the byte of what is said is the given one
-byte_is : (kind : TokenKind) (bytes : List ℕ) (b : ℕ) → (said kind bytes b).byte ≡ b
-byte_is Word bytes b = by (keyword_of (str_to_ascii_lowercase bytes))
-  where
-    by : (o : Option Class) → (word_at b (str_to_ascii_lowercase bytes) o).byte ≡ b
-    by None = refl
-    by (Some c) = refl
-byte_is Number bytes b = refl
-byte_is Text bytes b = refl
-byte_is Sign bytes b = refl
-
-said_byte : (kind : TokenKind) (bytes : List ℕ) (b : ℕ) → said kind bytes b ≡ said kind bytes (said kind bytes b).byte
-said_byte kind bytes b = ap (said kind bytes) (sym (byte_is kind bytes b))
-
 -- the terminals of a line are honest
-all_honest : (line : List ℕ) (tokens : List Token) → All (IsTokenOf line) tokens → AreHonest (lines.said line tokens)
+all_honest : (line : List ℕ) (tokens : List Token) → All (IsTokenOf line) tokens → AllByRecursion IsHonest (lines.said line tokens)
 all_honest line [] all = tt
 all_honest line (t ∷ more) all = (
   record {
     kind = t.kind;
     bytes = text_in line t;
     spelled = (All-head (IsTokenOf line) t more all).spelled;
-    is = said_byte t.kind (text_in line t) (t.start + 1);
+    is = is_said (record { kind = t.kind; text = text_in line t }) (t.start + 1);
   },
   all_honest line more (All-tail (IsTokenOf line) t more all),
 )
@@ -64,10 +50,10 @@ all_said line (t ∷ tokens) (x ∷ xs) w =
 pub printed_reads : (line : List ℕ) (stmt : Stmt) → ReadsAs line stmt → (found : Stmt) × ReadsAs (line_of (stmt_tokens stmt)) found × (bare found ≡ bare stmt)
 printed_reads line stmt r =
     let honest = all_honest line r.tokens (each_token line 0 line r.tokens None refl r.scan) in
-    let again = line_prints (lines.said line r.tokens) stmt honest r.reading in
+    let again = (line_prints.each (lines.said line r.tokens) stmt [] honest r.reading).1 in
     let xs = stmt_tokens stmt in
     let text = line_of xs in
     let scan = line_again xs (printed_can_be_read stmt again.spelled) in
     let tokens = placed 0 false xs in
-    let found = again.shows.again (lines.said text tokens) [] (all_said text tokens xs scan.1) in
+    let found = again.again (lines.said text tokens) [] (all_said text tokens xs scan.1) in
     (found.0, record { tokens = tokens; scan = scan.0; reading = found.1 }, found.2)

@@ -1,6 +1,8 @@
 -- What is read after FROM, with its condition, is read again where it is printed.
 use Rattle.std.proofs.Common.{◌≡◌, ℕ, suc, ◌+◌, ◌≤◌, List, [], ◌∷◌, ◌++◌, map, length, Option, Some, None, option_map, inl, inr, refl, sym, ap, ◌∙◌, subst, append_assoc, arith}
+use Rattle.std.specs.List.{AllByRecursion}
 use Rattle.std.proofs.lemmas.Bool.{cases_lt}
+use Rattle.std.proofs.lemmas.List.{length-map, map-append}
 use Rattle.lv_lexer.specs.declared.terminals.Class.TheVariants as k
 use Rattle.lv_lexer.specs.declared.terminals.Terminal.{Terminal}
 use Rattle.lv_lexer.specs.Written.{Lexeme}
@@ -18,86 +20,33 @@ use Rattle.lv_parser.specs.Trees.{gathered, cond_or_true, with_on, tables_of, pa
 use Rattle.lv_parser.specs.Grammar as rule
 use Rattle.lv_parser.specs.Bare.{bare_name, bare_ref, bare_cond}
 use Rattle.lv_parser.specs.Printed.{Chain, Nothing, Single, Ands, Ors, Shown, the, comma, shown, name_tokens, alias_tokens, ref_tokens, where_tokens, whole, join_tokens, joined_tokens, placed_parts, from_tokens, filter_tokens}
+use Rattle.lv_parser.proofs.Apart.{filter_behind}
 use Rattle.lv_parser.proofs.BareLemmas.{bare-And}
+use Rattle.lv_parser.proofs.Keeps.{Keeps, token_keeps, pure_keeps, then_keeps, word_keeps, made_keeps, or_keeps, weaker_keeps, OnFound, optional_keeps, many_keeps, each_of}
 use Rattle.lv_parser.proofs.ShownLemmas.{shown-True, shown-Cmp, shown-And, shown-Or, shown-Not, whole-Some, whole-True, placed-And_few, placed-And_many}
-use Rattle.lv_parser.proofs.PrintHonest.{AreHonest}
-use Rattle.lv_parser.proofs.PrintShows.{says_parts, AllSpell, all_spell_append, Shows, then_shows, made_shows, left_shows, right_shows, some_shows, none_shows, weaker, as_tokens_of}
+use Rattle.lv_parser.proofs.PrintHonest.{IsHonest}
+use Rattle.lv_parser.proofs.PrintShows.{Shows, then_shows, word_shows, made_shows, left_shows, right_shows, none_shows, some_shows, option_shows, no_more_shows, more_shows, weaker, as_tokens_of}
 use Rattle.lv_parser.proofs.PrintWords.{the_from, the_join, the_on, the_where, the_comma_sign}
-use Rattle.lv_parser.proofs.PrintRules.{Again, Prints, left_by, same_rest, the_then, name_prints}
-use Rattle.lv_parser.proofs.PrintConds.{Each, each_part, Alike, Levels, IsAlone, IsParted, cond_known, unit_known}
+use Rattle.lv_parser.proofs.PrintRules.{Again, Prints, NameAgain, name_prints}
+use Rattle.lv_parser.proofs.PrintConds.{IsOne, IsWhole, cond_keeps}
 
 -- ---- references
 
-ref_again : (t : Named) (alias : Option Named) → Again rule.name bare_name name_tokens t → (AllSpell (alias_tokens alias) × Shows (optional (optional (token k.As) >> rule.name)) (λ o. option_map bare_name o ≡ option_map bare_name alias) (alias_tokens alias))
-    → Again rule.ref bare_ref ref_tokens (record { name = t; alias = alias })
-unfolding rule.ref
-ref_again t alias n a = record {
-  spelled = all_spell_append (name_tokens t) (alias_tokens alias) n.spelled a.0;
-  shows = then_shows (name_tokens t) (alias_tokens alias) n.shows (λ x ex. made_shows (λ b. bare_ref b ≡ bare_ref (record { name = t; alias = alias })) a.1
-      (λ o eo. ap (λ (y : Named). record { name = y; alias = option_map bare_name o }) ex ∙ ap (λ (y : Option Named). record { name = bare_name t; alias = y }) eo));
-}
-
-no_alias : Shows (optional (optional (token k.As) >> rule.name)) (λ o. option_map bare_name o ≡ None) []
-no_alias = none_shows (λ o. option_map bare_name o ≡ None) refl
-
-an_alias : (a : Named) → Again rule.name bare_name name_tokens a → Shows (optional (optional (token k.As) >> rule.name)) (λ o. option_map bare_name o ≡ Some (bare_name a)) (name_tokens a)
-an_alias a n =
-    some_shows (λ o. option_map bare_name o ≡ Some (bare_name a)) (then_shows [] (name_tokens a) (none_shows (λ o. Unit {0}) tt) (λ o u. n.shows))
-    (λ b e. ap (λ (y : Named). Some y) e)
-
-as_left : (ts mid : List Terminal) (o : Option Terminal) → AreHonest ts → ReadsIf (token k.As) ts o mid → AreHonest mid
-as_left ts mid None h r = same_rest ts mid r h
-as_left ts mid (Some t) h (e, is) = (left_by ts t mid e h).1
+alias_again : (alias : Option Named) → OnFound NameAgain alias → Shows (optional (optional (token k.As) >> rule.name)) (λ o. option_map bare_name o ≡ option_map bare_name alias) (alias_tokens alias)
+alias_again None h = none_shows (λ o. option_map bare_name o ≡ None) refl
+alias_again (Some n) h = option_shows bare_name n (then_shows (none_shows (λ o. Unit {0}) tt) (λ o u. h))
 
 pub ref_prints : Prints rule.ref bare_ref ref_tokens
 unfolding rule.ref
-ref_prints ts r rest h (t, mid, n, (None, mid2, s, (made, end))) =
-    let name = name_prints ts t mid h n in
-    let P : RefTree → Type 0 = λ x. Again rule.ref bare_ref ref_tokens x in
-    (same_rest mid2 rest end (same_rest mid mid2 s name.0), subst P (sym made) (ref_again t None name.1 (tt, no_alias)))
-ref_prints ts r rest h (t, mid, n, (Some a, mid2, (o, mid3, s, m), (made, end))) =
-    let name = name_prints ts t mid h n in
-    let alias = name_prints mid3 a mid2 (as_left mid mid3 o name.0 s) m in
-    let P : RefTree → Type 0 = λ x. Again rule.ref bare_ref ref_tokens x in
-    (same_rest mid2 rest end alias.0, subst P (sym made) (ref_again t (Some a) name.1 (alias.1.spelled, an_alias a alias.1)))
-
--- ---- conditions
-
--- printed as a condition by itself
-pub record IsOne (within : Within) (p : CondTree) : Type 0 where
-  pub spelled : AllSpell (shown p).tokens
-  pub shows : Shows (rule.cond within) (Alike p) (shown p).tokens
-
--- a whole condition
-pub record IsWhole (within : Within) (p : CondTree) : Type 0 where
-  pub parted : IsParted (IsOne within) p
-  pub one : IsOne within p
-
-one_of : (within : Within) (p : CondTree) → IsAlone within rule.max_nesting p → IsOne within p
-unfolding rule.cond
-one_of within p h = record { spelled = h.spelled; shows = h.cond }
-
-parted_of : (within : Within) (p : CondTree) → IsParted (IsAlone within rule.max_nesting) p → IsParted (IsOne within) p
-parted_of within p h = record { some = h.some; parts = λ ps e. each_part (IsAlone within rule.max_nesting) (IsOne within) (one_of within) ps (h.parts ps e); two = h.two }
-
-whole_of : (within : Within) (chain : Chain) (p : CondTree) → Levels within rule.max_nesting chain p → IsWhole within p
-whole_of within Nothing p u = record { parted = parted_of within p u.parted; one = one_of within p (record { spelled = u.spelled; cond = u.cond }) }
-whole_of within Single p u = record { parted = parted_of within p u.parted; one = one_of within p (record { spelled = u.spelled; cond = u.cond }) }
-whole_of within Ands p u = record { parted = parted_of within p u.parted; one = one_of within p (record { spelled = u.spelled; cond = u.cond }) }
-whole_of within Ors p u = record { parted = parted_of within p u.parted; one = one_of within p (record { spelled = u.spelled; cond = u.cond }) }
-
-pub whole_known : (within : Within) (ts : List Terminal) (p : CondTree) (rest : List Terminal) → AreHonest ts → (rule.cond within).reads ts p rest → AreHonest rest × IsWhole within p
-unfolding rule.cond
-whole_known within ts p rest h r =
-    let known = cond_known within rule.max_nesting (unit_known within rule.max_nesting) ts p rest h r in
-    (known.0, whole_of within (shown p).chain p known.1)
+ref_prints =
+    then_keeps name_prints (λ t n. made_keeps (optional_keeps (then_keeps (optional_keeps (token_keeps k.As)) (λ o u. name_prints))) (λ alias h. then_shows n (λ x ex. made_shows (alias_again alias h)
+    (λ o eo. ap (λ (y : Named). record { name = y; alias = option_map bare_name o }) ex ∙ ap (λ (y : Option Named). record { name = bare_name t; alias = y }) eo))))
 
 -- ---- WHERE
 
 filter_some : (within : Within) (p : CondTree) → IsOne within p → Shows (rule.filter within) (λ o. option_map bare_cond o ≡ Some (bare_cond p)) (the "where" ∷ (shown p).tokens)
 unfolding rule.filter
-filter_some within p h =
-    some_shows (λ o. option_map bare_cond o ≡ Some (bare_cond p)) (the_then (the "where") k.Where the_where (shown p).tokens h.shows) (λ a e. ap (λ (x : CondTree). Some x) e)
+filter_some within p one = option_shows bare_cond p (word_shows the_where one)
 
 filter_none : (within : Within) → Shows (rule.filter within) (λ o. option_map bare_cond o ≡ None) []
 unfolding rule.filter
@@ -105,13 +54,11 @@ filter_none within = none_shows (λ o. option_map bare_cond o ≡ None) refl
 
 -- what WHERE gave
 abbrev pub IsFilter : Within → Option CondTree → Type 0
-IsFilter within None = Unit {0}
-IsFilter within (Some p) = IsWhole within p
+IsFilter within = OnFound (IsWhole within)
 
-pub filter_known : (within : Within) (ts : List Terminal) (o : Option CondTree) (rest : List Terminal) → AreHonest ts → (rule.filter within).reads ts o rest → AreHonest rest × IsFilter within o
+pub filter_keeps : (within : Within) → Keeps IsHonest (rule.filter within) (IsFilter within)
 unfolding rule.filter
-filter_known within ts None rest h r = (same_rest ts rest r h, tt)
-filter_known within ts (Some p) rest h (t, mid, (e, is), r) = whole_known within mid p rest (left_by ts t mid e h).1 r
+filter_keeps within = optional_keeps (word_keeps k.Where (cond_keeps within))
 
 -- ---- the references behind the first
 
@@ -166,14 +113,6 @@ left_map f (r ∷ more) (p ∷ q ∷ parts) = left_map f more (q ∷ parts)
 abbrev ons : List Joined → List CondTree
 ons joined = parts_of joined None
 
-parts_are : (joined : List Joined) (kept : Option CondTree) → parts_of joined kept ≡ ons joined ++ with_on kept []
-parts_are [] kept = refl
-parts_are (j ∷ more) kept = by j.on (parts_are more kept)
-  where
-    by : (on : Option CondTree) → parts_of more kept ≡ ons more ++ with_on kept [] → with_on on (parts_of more kept) ≡ with_on on (ons more) ++ with_on kept []
-    by None e = e
-    by (Some p) e = ap (λ (xs : List CondTree). p ∷ xs) e
-
 -- what a reference behind the first is
 abbrev another : Within → Rule Joined
 another within =
@@ -184,20 +123,17 @@ another within =
 abbrev AlikeJoined : RefTree → Option CondTree → Joined → Type 0
 AlikeJoined r on j = (bare_ref j.table ≡ bare_ref r) × (option_map bare_cond j.on ≡ option_map bare_cond on)
 
-comma_shows : (within : Within) (r : RefTree) → Again rule.ref bare_ref ref_tokens r → Shows (another within) (AlikeJoined r None) (comma ∷ ref_tokens r)
-comma_shows within r h = left_shows (the_then comma k.Comma the_comma_sign (ref_tokens r) (made_shows (AlikeJoined r None) h.shows (λ a e. (e, refl))))
-
-join_shows : (within : Within) (r : RefTree) (p : CondTree) → Again rule.ref bare_ref ref_tokens r → IsOne within p → Shows (another within) (AlikeJoined r (Some p)) (join_tokens r (shown p).tokens)
-join_shows within r p h one =
-    right_shows (then_shows [] (join_tokens r (shown p).tokens) (none_shows (λ o. Unit {0}) tt) (λ o u.
-    the_then (the "join") k.Join the_join (ref_tokens r ++ the "on" ∷ (shown p).tokens)
-    (then_shows (ref_tokens r) (the "on" ∷ (shown p).tokens) h.shows (λ a e.
-    the_then (the "on") k.On the_on (shown p).tokens (made_shows (AlikeJoined r (Some p)) one.shows (λ b f. (e, ap (λ (x : CondTree). Some x) f)))))))
-
 -- each reference can be printed
-abbrev EachRef : List RefTree → Type 0
-EachRef [] = Unit {0}
-EachRef (r ∷ more) = Again rule.ref bare_ref ref_tokens r × EachRef more
+abbrev RefAgain : RefTree → Type 0
+RefAgain = Again rule.ref bare_ref ref_tokens
+
+comma_shows : (within : Within) (r : RefTree) → RefAgain r → Shows (another within) (AlikeJoined r None) (comma ∷ ref_tokens r)
+comma_shows within r h = left_shows (word_shows the_comma_sign (made_shows h (λ a e. (e, refl))))
+
+join_shows : (within : Within) (r : RefTree) (p : CondTree) → RefAgain r → IsOne within p → Shows (another within) (AlikeJoined r (Some p)) (join_tokens r (shown p).tokens)
+join_shows within r p h one =
+    right_shows (then_shows (none_shows (λ o. Unit {0}) tt) (λ o u. word_shows the_join (then_shows h (λ a e. word_shows the_on (made_shows one
+    (λ b f. (e, ap (λ (x : CondTree). Some x) f)))))))
 
 -- found references and their conditions are alike
 abbrev AlikeAll : List RefTree → List CondTree → List Joined → Type 0
@@ -215,42 +151,16 @@ with_some None p xs ys e f = absurd cc
 with_some (Some q) p xs ys e f = let same : bare_cond q ≡ bare_cond p = cc in ap (λ (x : CondTree). x ∷ map bare_cond xs) same ∙ ap (λ (zs : List CondTree). bare_cond p ∷ zs) f
 
 module _ (within : Within) where
-  -- one reference, and then the others
-  many_next : (r : RefTree) (on : Option CondTree) (refs : List RefTree) (Q : List Joined → Type 0) (P : List Joined → Type 0) (xs ys : List Lexeme) → Shows (another within) (AlikeJoined r on) xs → Shows (many (another within)) P ys
-      → ((j : Joined) (found : List Joined) → AlikeJoined r on j → P found → Q (j ∷ found)) → Shows (many (another within)) Q (xs ++ ys)
-  many_next r on refs Q P xs ys first others q = record {
-    again = λ ts rest s.
-        let parts = says_parts xs ys ts rest s in
-        let a = first.again ts parts.0 parts.1 in
-        let b = others.again parts.0 rest parts.2 in
-        (a.0 ∷ b.0, (parts.0, a.1, b.1), q a.0 b.0 a.2 b.2);
-  }
-
-  others_show : (refs : List RefTree) (parts : List CondTree) → EachRef refs → Each (IsOne within) parts → Shows (many (another within)) (AlikeAll refs parts) (joins refs (map (λ p. (shown p).tokens) parts))
-  others_show [] parts each ones = record { again = λ ts rest s. ([], sym s, (refl, refl)) }
+  others_show : (refs : List RefTree) (parts : List CondTree) → AllByRecursion RefAgain refs → AllByRecursion (IsOne within) parts → Shows (many (another within)) (AlikeAll refs parts) (joins refs (map (λ p. (shown p).tokens) parts))
+  others_show [] parts each ones = no_more_shows (refl, refl)
   others_show (r ∷ more) [] each ones =
-      many_next r None more (AlikeAll (r ∷ more) []) (AlikeAll more []) (comma ∷ ref_tokens r) (joins more []) (comma_shows within r each.0) (others_show more [] each.1 tt)
-      (λ j found a b. (one_more_table r more j found a.0 b.0, with_none j.on (ons found) (taken more []) a.1 b.1))
+      more_shows (comma_shows within r each.0) (others_show more [] each.1 tt) (λ j found a b. (one_more_table r more j found a.0 b.0, with_none j.on (ons found) (taken more []) a.1 b.1))
   others_show (r ∷ more) (p ∷ []) each ones =
-      many_next r None more (AlikeAll (r ∷ more) (p ∷ [])) (AlikeAll more (p ∷ [])) (comma ∷ ref_tokens r) (joins more ((shown p).tokens ∷ [])) (comma_shows within r each.0) (others_show more (p ∷ []) each.1 ones)
-      (λ j found a b. (one_more_table r more j found a.0 b.0, with_none j.on (ons found) (taken more (p ∷ [])) a.1 b.1))
+      more_shows (comma_shows within r each.0) (others_show more (p ∷ []) each.1 ones) (λ j found a b. (one_more_table r more j found a.0 b.0, with_none j.on (ons found) (taken more (p ∷ [])) a.1 b.1))
   others_show (r ∷ more) (p ∷ q ∷ parts) each ones =
-      many_next r (Some p) more (AlikeAll (r ∷ more) (p ∷ q ∷ parts)) (AlikeAll more (q ∷ parts)) (join_tokens r (shown p).tokens) (joins more (map (λ p. (shown p).tokens) (q ∷ parts)))
-      (join_shows within r p each.0 ones.0) (others_show more (q ∷ parts) each.1 ones.1)
-      (λ j found a b. (one_more_table r more j found a.0 b.0, with_some j.on p (ons found) (taken more (q ∷ parts)) a.1 b.1))
+      more_shows (join_shows within r p each.0 ones.0) (others_show more (q ∷ parts) each.1 ones.1) (λ j found a b. (one_more_table r more j found a.0 b.0, with_some j.on p (ons found) (taken more (q ∷ parts)) a.1 b.1))
 
-  join_spells : (r : RefTree) (p : CondTree) → Again rule.ref bare_ref ref_tokens r → IsOne within p → AllSpell (join_tokens r (shown p).tokens)
-  join_spells r p h one = (the_join.spelled, all_spell_append (ref_tokens r) (the "on" ∷ (shown p).tokens) h.spelled (the_on.spelled, one.spelled))
-
-  joins_spell : (refs : List RefTree) (parts : List CondTree) → EachRef refs → Each (IsOne within) parts → AllSpell (joins refs (map (λ p. (shown p).tokens) parts))
-  joins_spell [] parts each ones = tt
-  joins_spell (r ∷ more) [] each ones = (the_comma_sign.spelled, all_spell_append (ref_tokens r) (joins more []) each.0.spelled (joins_spell more [] each.1 tt))
-  joins_spell (r ∷ more) (p ∷ []) each ones =
-      (the_comma_sign.spelled, all_spell_append (ref_tokens r) (joins more ((shown p).tokens ∷ [])) each.0.spelled (joins_spell more (p ∷ []) each.1 ones))
-  joins_spell (r ∷ more) (p ∷ q ∷ parts) each ones =
-      all_spell_append (join_tokens r (shown p).tokens) (joins more (map (λ p. (shown p).tokens) (q ∷ parts))) (join_spells r p each.0 ones.0) (joins_spell more (q ∷ parts) each.1 ones.1)
-
-  left_each : (refs : List RefTree) (parts : List CondTree) → Each (IsOne within) parts → Each (IsOne within) (left_over refs parts)
+  left_each : (refs : List RefTree) (parts : List CondTree) → AllByRecursion (IsOne within) parts → AllByRecursion (IsOne within) (left_over refs parts)
   left_each [] parts ones = ones
   left_each (r ∷ more) [] ones = left_each more [] ones
   left_each (r ∷ more) (p ∷ []) ones = left_each more (p ∷ []) ones
@@ -272,10 +182,6 @@ gathered_same (x ∷ []) (y ∷ z ∷ ys) e = absurd cc
 gathered_same (x ∷ w ∷ xs) (y ∷ []) e = absurd cc
 gathered_same (x ∷ w ∷ xs) (y ∷ z ∷ ys) e = bare-And (x ∷ w ∷ xs) ∙ ap c.And e ∙ sym (bare-And (y ∷ z ∷ ys))
 
-map_append : (xs ys : List CondTree) → map bare_cond (xs ++ ys) ≡ map bare_cond xs ++ map bare_cond ys
-map_append [] ys = refl
-map_append (x ∷ xs) ys = ap (λ (zs : List CondTree). bare_cond x ∷ zs) (map_append xs ys)
-
 -- ---- FROM and WHERE together
 
 -- alike but for places
@@ -293,27 +199,24 @@ pub record PrintsFrom (within : Within) (refs : List RefTree) (p : CondTree) : T
   pub from_part : List Lexeme
   pub where_part : List Lexeme
   pub tokens : from_tokens refs p ≡ from_part ++ where_part
-  pub from_spelled : AllSpell from_part
-  pub where_spelled : AllSpell where_part
   pub from : Shows (rule.from within) (AlikeRefs first more parts) from_part
   pub filter : (joined : List Joined) → AlikeRefs first more parts joined → Shows (rule.filter within) (AlikeFrom refs p joined) where_part
 
-module _ (within : Within) (first : RefTree) (more : List RefTree) (p : CondTree) (ps : List CondTree) (ref : Again rule.ref bare_ref ref_tokens first) (each : EachRef more) (ones : Each (IsOne within) ps)
+module _ (within : Within) (first : RefTree) (more : List RefTree) (p : CondTree) (ps : List CondTree) (ref : RefAgain first) (each : AllByRecursion RefAgain more) (ones : AllByRecursion (IsOne within) ps)
     (few : length ps ≤ suc (length more)) (placed : placed_parts (suc (length more)) (shown p) ≡ map (λ q. (shown q).tokens) ps) (gathers : p ≡ gathered c.And ps) where
   from_shows : Shows (rule.from within) (AlikeRefs first more ps) (the "from" ∷ ref_tokens first ++ joins more (map (λ q. (shown q).tokens) ps))
   unfolding rule.from
   from_shows =
-      the_then (the "from") k.From the_from (ref_tokens first ++ joins more (map (λ q. (shown q).tokens) ps))
-      (then_shows (ref_tokens first) (joins more (map (λ q. (shown q).tokens) ps)) ref.shows (λ a e. made_shows (AlikeRefs first more ps) (others_show within more ps each ones)
+      word_shows the_from (then_shows ref (λ a e. made_shows (others_show within more ps each ones)
       (λ found alike. (ap (λ (x : RefTree). x ∷ map bare_ref (tables_of found)) e ∙ ap (λ (xs : List RefTree). bare_ref first ∷ xs) alike.0, alike.1))))
 
   -- the parts that were read, in order
   conditions : (joined : List Joined) (kept : Option CondTree) (left : List CondTree) → left_over more ps ≡ left → AlikeRefs first more ps joined → map bare_cond (with_on kept []) ≡ map bare_cond left
       → AlikeFrom (first ∷ more) p joined kept
   conditions joined kept left are alike last =
-      let read : map bare_cond (parts_of joined kept) ≡ map bare_cond (ons joined) ++ map bare_cond (with_on kept []) = ap (map bare_cond) (parts_are joined kept) ∙ map_append (ons joined) (with_on kept []) in
+      let read : map bare_cond (parts_of joined kept) ≡ map bare_cond (ons joined) ++ map bare_cond (with_on kept []) = ap (map bare_cond) (filter_behind joined kept) ∙ map-append bare_cond (ons joined) (with_on kept []) in
       let was : map bare_cond ps ≡ map bare_cond (taken more ps) ++ map bare_cond left =
-      ap (map bare_cond) (taken_and_left more ps ∙ ap (λ (xs : List CondTree). taken more ps ++ xs) are) ∙ map_append (taken more ps) left in
+      ap (map bare_cond) (taken_and_left more ps ∙ ap (λ (xs : List CondTree). taken more ps ++ xs) are) ∙ map-append bare_cond (taken more ps) left in
       let same : map bare_cond (parts_of joined kept) ≡ map bare_cond ps =
       read ∙ ap (λ (xs : List CondTree). xs ++ map bare_cond (with_on kept [])) alike.1 ∙ ap (λ (xs : List CondTree). map bare_cond (taken more ps) ++ xs) last ∙ sym was in
       (alike.0, gathered_same (parts_of joined kept) ps same ∙ ap bare_cond (sym gathers))
@@ -327,20 +230,13 @@ module _ (within : Within) (first : RefTree) (more : List RefTree) (p : CondTree
   kept_none (Some q) e = absurd cc
 
   -- WHERE, by the parts that are left
-  record Filters (left : List CondTree) : Type 0 where
-    spelled : AllSpell (where_tokens (map (λ q. (shown q).tokens) left))
-    shows : (joined : List Joined) → AlikeRefs first more ps joined → Shows (rule.filter within) (AlikeFrom (first ∷ more) p joined) (where_tokens (map (λ q. (shown q).tokens) left))
+  abbrev Filters : List CondTree → Type 0
+  Filters left = (joined : List Joined) → AlikeRefs first more ps joined → Shows (rule.filter within) (AlikeFrom (first ∷ more) p joined) (where_tokens (map (λ q. (shown q).tokens) left))
 
-  filters : (left : List CondTree) → left_over more ps ≡ left → length left ≤ 1 → Each (IsOne within) left → Filters left
-  filters [] are small one = record {
-    spelled = tt;
-    shows = λ joined alike. weaker (AlikeFrom (first ∷ more) p joined) (filter_none within) (λ kept e. conditions joined kept [] are alike (kept_none kept e));
-  }
-  filters (w ∷ []) are small one = record {
-    spelled = (the_where.spelled, one.0.spelled);
-    shows = λ joined alike. weaker (AlikeFrom (first ∷ more) p joined) (filter_some within w one.0) (λ kept e. conditions joined kept (w ∷ []) are alike (kept_is kept w e));
-  }
-  filters (w ∷ x ∷ left) are small one = absurd (omega arith)
+  filters : (left : List CondTree) → left_over more ps ≡ left → length left ≤ 1 → AllByRecursion (IsOne within) left → Filters left
+  filters [] are small one joined alike = weaker (AlikeFrom (first ∷ more) p joined) (filter_none within) (λ kept e. conditions joined kept [] are alike (kept_none kept e))
+  filters (w ∷ []) are small one joined alike = weaker (AlikeFrom (first ∷ more) p joined) (filter_some within w one.0) (λ kept e. conditions joined kept (w ∷ []) are alike (kept_is kept w e))
+  filters (w ∷ x ∷ left) are small one joined alike = absurd (omega arith)
 
   prints_from : PrintsFrom within (first ∷ more) p
   prints_from =
@@ -358,68 +254,45 @@ module _ (within : Within) (first : RefTree) (more : List RefTree) (p : CondTree
         from_part = from_part;
         where_part = where_part;
         tokens = ap (λ (xs : List Lexeme). the "from" ∷ ref_tokens first ++ xs) parts ∙ sym (append_assoc (the "from" ∷ ref_tokens first) (joins more texts) where_part);
-        from_spelled = (the_from.spelled, all_spell_append (ref_tokens first) (joins more texts) ref.spelled (joins_spell within more ps each ones));
-        where_spelled = by_left.spelled;
         from = from_shows;
-        filter = by_left.shows;
+        filter = by_left;
       }
 
 -- ---- what was read
 
 -- a reference that was read, with its ON condition
 abbrev IsJoined : Within → Joined → Type 0
-IsJoined within j = Again rule.ref bare_ref ref_tokens j.table × IsFilter within j.on
+IsJoined within j = RefAgain j.table × IsFilter within j.on
 
-abbrev EachJoined : Within → List Joined → Type 0
-EachJoined within [] = Unit {0}
-EachJoined within (j ∷ more) = IsJoined within j × EachJoined within more
-
-inner_left : (ts mid : List Terminal) (o : Option Terminal) → AreHonest ts → ReadsIf (token k.Inner) ts o mid → AreHonest mid
-inner_left ts mid None h r = same_rest ts mid r h
-inner_left ts mid (Some t) h (e, is) = (left_by ts t mid e h).1
-
-another_known : (within : Within) (ts : List Terminal) (j : Joined) (rest : List Terminal) → AreHonest ts → (another within).reads ts j rest → AreHonest rest × IsJoined within j
-another_known within ts j rest h (inl (t, mid, (e, is), (table, mid2, r, (made, end)))) =
-    let ref = ref_prints mid table mid2 (left_by ts t mid e h).1 r in
-    (same_rest mid2 rest end ref.0, subst (IsJoined within) (sym made) (ref.1, tt))
-another_known within ts j rest h (inr (o, m0, s, (t, mid, (e, is), (table, mid2, r, (u, mid3, (f, is2), (on, mid4, q, (made, end))))))) =
-    let ref = ref_prints mid table mid2 (left_by m0 t mid e (inner_left ts m0 o h s)).1 r in
-    let cond = whole_known within mid3 on mid4 (left_by mid2 u mid3 f ref.0).1 q in
-    (same_rest mid4 rest end cond.0, subst (IsJoined within) (sym made) (ref.1, cond.1))
-
-others_known : (within : Within) (ts : List Terminal) (found : List Joined) (rest : List Terminal) → AreHonest ts → ReadsEach (another within) ts found rest → AreHonest rest × EachJoined within found
-others_known within ts [] rest h r = (same_rest ts rest r h, tt)
-others_known within ts (j ∷ more) rest h (mid, r, others) =
-    let one = another_known within ts j mid h r in
-    let all = others_known within mid more rest one.0 others in
-    (all.0, (one.1, all.1))
+another_keeps : (within : Within) → Keeps IsHonest (another within) (IsJoined within)
+another_keeps within =
+    or_keeps (word_keeps k.Comma (made_keeps ref_prints (λ table h. (h, tt))))
+    (then_keeps (optional_keeps (token_keeps k.Inner)) (λ o u. word_keeps k.Join (then_keeps ref_prints (λ table h. word_keeps k.On (made_keeps (cond_keeps within) (λ on cond. (h, cond)))))))
 
 -- what FROM gave: a first reference, and others with their conditions
 pub record IsFrom (within : Within) (joined : List Joined) : Type 0 where
   first : RefTree
   more : List Joined
   is : joined ≡ record { table = first; on = None } ∷ more
-  ref : Again rule.ref bare_ref ref_tokens first
-  each : EachJoined within more
+  ref : RefAgain first
+  each : AllByRecursion (IsJoined within) more
 
-pub from_known : (within : Within) (ts : List Terminal) (joined : List Joined) (rest : List Terminal) → AreHonest ts → (rule.from within).reads ts joined rest → AreHonest rest × IsFrom within joined
+pub from_keeps : (within : Within) → Keeps IsHonest (rule.from within) (IsFrom within)
 unfolding rule.from
-from_known within ts joined rest h (t, mid, (e, is), (first, mid2, r, (more, mid3, q, (made, end)))) =
-    let ref = ref_prints mid first mid2 (left_by ts t mid e h).1 r in
-    let others = others_known within mid2 more mid3 ref.0 q in
-    (same_rest mid3 rest end others.0, record { first = first; more = more; is = made; ref = ref.1; each = others.1 })
+from_keeps within =
+    word_keeps k.From (then_keeps ref_prints (λ first h. made_keeps (many_keeps (another_keeps within)) (λ more others. record { first = first; more = more; is = refl; ref = h; each = others })))
 
-each_ref : (within : Within) (more : List Joined) → EachJoined within more → EachRef (tables_of more)
+each_ref : (within : Within) (more : List Joined) → AllByRecursion (IsJoined within) more → AllByRecursion RefAgain (tables_of more)
 each_ref within [] each = tt
 each_ref within (j ∷ more) each = (each.0.0, each_ref within more each.1)
 
 -- the parts of the condition
-parts_known : (within : Within) (more : List Joined) (kept : Option CondTree) → EachJoined within more → IsFilter within kept → Each (IsWhole within) (parts_of more kept)
+parts_known : (within : Within) (more : List Joined) (kept : Option CondTree) → AllByRecursion (IsJoined within) more → IsFilter within kept → AllByRecursion (IsWhole within) (parts_of more kept)
 parts_known within [] None each filter = tt
 parts_known within [] (Some p) each filter = (filter, tt)
 parts_known within (j ∷ more) kept each filter = by j.on each.0.1 (parts_known within more kept each.1 filter)
   where
-    by : (on : Option CondTree) → IsFilter within on → Each (IsWhole within) (parts_of more kept) → Each (IsWhole within) (with_on on (parts_of more kept))
+    by : (on : Option CondTree) → IsFilter within on → AllByRecursion (IsWhole within) (parts_of more kept) → AllByRecursion (IsWhole within) (with_on on (parts_of more kept))
     by None h rest = rest
     by (Some p) h rest = (h, rest)
 
@@ -432,10 +305,6 @@ parts_few (j ∷ more) kept = by j.on (parts_few more kept)
     by None h = omega arith
     by (Some p) h = omega arith
 
-length_tables : (more : List Joined) → length (tables_of more) ≡ length more
-length_tables [] = refl
-length_tables (j ∷ more) = ap suc (length_tables more)
-
 -- ---- the parts that are printed
 
 texts : List CondTree → List (List Lexeme)
@@ -447,7 +316,7 @@ pub record Placed (within : Within) (refs : ℕ) (p : CondTree) : Type 0 where
   few : length parts ≤ refs
   placed : placed_parts refs (shown p) ≡ map (λ q. (shown q).tokens) parts
   gathers : p ≡ gathered c.And parts
-  ones : Each (IsOne within) parts
+  ones : AllByRecursion (IsOne within) parts
 
 placed_none : (within : Within) (refs : ℕ) → Placed within refs c.True
 placed_none within refs = record { parts = []; few = omega arith; placed = ap (placed_parts refs) shown-True; gathers = refl; ones = tt }
@@ -492,11 +361,8 @@ placed_one within refs p some known = by (out-CondTree p) refl
     by (CondTree-F.Or ps) e = alone_by (c.Or ps) _ (sym (roll-out-CondTree p) ∙ ap roll-CondTree e ∙ rolls-Or ps) (shown-Or ps) refl
     by (CondTree-F.Not q) e = alone_by (c.Not q) _ (sym (roll-out-CondTree p) ∙ ap roll-CondTree e ∙ rolls-Not q) (shown-Not q) refl
 
-whole_one : (within : Within) (p : CondTree) → IsWhole within p → IsOne within p
-whole_one within p h = h.one
-
 -- the condition of these parts
-placed_gathered : (within : Within) (refs : ℕ) (qs : List CondTree) → length qs ≤ refs → Each (IsWhole within) qs → Placed within refs (gathered c.And qs)
+placed_gathered : (within : Within) (refs : ℕ) (qs : List CondTree) → length qs ≤ refs → AllByRecursion (IsWhole within) qs → Placed within refs (gathered c.And qs)
 placed_gathered within refs [] few each = placed_none within refs
 placed_gathered within refs (q ∷ []) few each = placed_one within refs q few each.0
 placed_gathered within refs (q ∷ r ∷ more) few each = record {
@@ -504,7 +370,7 @@ placed_gathered within refs (q ∷ r ∷ more) few each = record {
   few = few;
   placed = placed-And_few refs (q ∷ r ∷ more) few;
   gathers = refl;
-  ones = each_part (IsWhole within) (IsOne within) (whole_one within) (q ∷ r ∷ more) each;
+  ones = each_of (IsWhole within) (IsOne within) (λ p h. h.one) (q ∷ r ∷ more) each;
 }
 
 -- What FROM and WHERE gave is read again where it is printed.
@@ -512,7 +378,7 @@ pub sources_again : (within : Within) (joined : List Joined) (kept : Option Cond
 sources_again within joined kept from filter =
     let all = record { table = from.first; on = None } ∷ from.more in
     let refs = suc (length (tables_of from.more)) in
-    let few : length (parts_of from.more kept) ≤ refs = omega (arith, parts_few from.more kept, length_tables from.more) in
+    let few : length (parts_of from.more kept) ≤ refs = omega (arith, parts_few from.more kept, length-map from.more (λ j. j.table)) in
     let placed = placed_gathered within refs (parts_of from.more kept) few (parts_known within from.more kept from.each filter) in
     let P : List Joined → Type 0 = λ js. PrintsFrom within (tables_of js) (condition_of js kept) in
     subst P (sym from.is) (prints_from within from.first (tables_of from.more) (condition_of all kept) placed.parts from.ref (each_ref within from.more from.each) placed.ones placed.few placed.placed placed.gathers)
@@ -520,17 +386,14 @@ sources_again within joined kept from filter =
 -- ---- a condition alone
 
 -- WHERE of an UPDATE or a DELETE
-pub filter_again : (within : Within) (kept : Option CondTree) → IsFilter within kept → AllSpell (filter_tokens (cond_or_true kept)) × Shows (rule.filter within) (λ o. bare_cond (cond_or_true o) ≡ bare_cond (cond_or_true kept)) (filter_tokens (cond_or_true kept))
-filter_again within None h =
-    let are : where_tokens (whole (shown c.True)) ≡ [] = ap where_tokens whole-True in
-    (subst AllSpell (sym are) tt, as_tokens_of [] (filter_tokens c.True) (sym are) (weaker (λ o. bare_cond (cond_or_true o) ≡ bare_cond c.True) (filter_none within) given))
+pub filter_again : (within : Within) (kept : Option CondTree) → IsFilter within kept → Shows (rule.filter within) (λ o. bare_cond (cond_or_true o) ≡ bare_cond (cond_or_true kept)) (filter_tokens (cond_or_true kept))
+filter_again within None h = as_tokens_of (sym (ap where_tokens whole-True)) (weaker (λ o. bare_cond (cond_or_true o) ≡ bare_cond c.True) (filter_none within) given)
   where
     given : (o : Option CondTree) → option_map bare_cond o ≡ None → bare_cond (cond_or_true o) ≡ bare_cond c.True
     given None e = refl
     given (Some q) e = absurd cc
 filter_again within (Some p) h =
-    let are : where_tokens (whole (shown p)) ≡ the "where" ∷ (shown p).tokens = ap where_tokens (whole-Some p h.parted.some) in
-    (subst AllSpell (sym are) (the_where.spelled, h.one.spelled), as_tokens_of (the "where" ∷ (shown p).tokens) (filter_tokens p) (sym are) (weaker (λ o. bare_cond (cond_or_true o) ≡ bare_cond p) (filter_some within p h.one) given))
+    as_tokens_of (sym (ap where_tokens (whole-Some p h.parted.some))) (weaker (λ o. bare_cond (cond_or_true o) ≡ bare_cond p) (filter_some within p h.one) given)
   where
     given : (o : Option CondTree) → option_map bare_cond o ≡ Some (bare_cond p) → bare_cond (cond_or_true o) ≡ bare_cond p
     given None e = absurd cc

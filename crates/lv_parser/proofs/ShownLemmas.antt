@@ -1,6 +1,8 @@
 -- The printed form of a condition, level by level.
-use Rattle.std.proofs.Common.{◌≡◌, ℕ, ◌≤◌, ◌<◌, Bool, true, false, cond, nat_le, List, [], ◌∷◌, map, length, refl, sym, ap, ◌∙◌, rules, le-leb, suc}
+use Rattle.std.proofs.Common.{◌≡◌, ℕ, ◌≤◌, ◌<◌, Bool, true, false, cond, nat_le, List, [], ◌∷◌, map, length, refl, sym, ap, ◌∙◌, rules, le-leb}
 use Rattle.std.proofs.lemmas.Bool.{lt-leb}
+use Rattle.std.proofs.lemmas.List.{length-map}
+use Rattle.std.proofs.lemmas.Simd.{map-map}
 use Rattle.lv_lexer.specs.Written.{Lexeme}
 use Rattle.lv_parser.specs.declared.tree.Sign.{Sign}
 use Rattle.lv_parser.specs.declared.tree.OperandTree.{OperandTree}
@@ -27,17 +29,12 @@ pub shown-Not : (part : CondTree) → shown (c.Not part) ≡ shown_step (CondTre
 shown-Not part = search (rules, the_lemmas)
 
 length-shown : (parts : List CondTree) → length (map (λ p. p.tokens) (map shown parts)) ≡ length parts
-length-shown [] = refl
-length-shown (p ∷ parts) = ap suc (length-shown parts)
-
-map-shown : (parts : List CondTree) → map (λ p. p.tokens) (map shown parts) ≡ map (λ p. (shown p).tokens) parts
-map-shown [] = refl
-map-shown (p ∷ parts) = ap (λ (xs : List (List Lexeme)). (shown p).tokens ∷ xs) (map-shown parts)
+length-shown parts = length-map (map shown parts) (λ p. p.tokens) ∙ length-map parts shown
 
 -- the parts of an And that are few enough, and of one that has too many
 pub placed-And_few : (refs : ℕ) (parts : List CondTree) → length parts ≤ refs → placed_parts refs (shown (c.And parts)) ≡ map (λ p. (shown p).tokens) parts
 placed-And_few refs parts h =
-    ap (placed_parts refs) (shown-And parts) ∙ few (nat_le (length (map (λ p. p.tokens) (map shown parts))) refs) (ap (λ (n : ℕ). nat_le n refs) (length-shown parts) ∙ le-leb (length parts) refs h) ∙ map-shown parts
+    ap (placed_parts refs) (shown-And parts) ∙ few (nat_le (length (map (λ p. p.tokens) (map shown parts))) refs) (ap (λ (n : ℕ). nat_le n refs) (length-shown parts) ∙ le-leb (length parts) refs h) ∙ map-map (λ p. p.tokens) shown parts
   where
     few : (t : Bool) → t ≡ true → cond t (map (λ p. p.tokens) (map shown parts)) (whole (shown_step (CondTree-F.And (map shown parts)))) ≡ map (λ p. p.tokens) (map shown parts)
     few true e = refl
