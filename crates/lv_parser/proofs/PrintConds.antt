@@ -1,5 +1,5 @@
 -- What is read of a condition is read again where it is printed.
-use Rattle.std.proofs.Common.{◌≡◌, ℕ, zero, suc, Bool, true, false, List, [], ◌∷◌, ◌++◌, map, ◌⊎◌, inl, inr, refl, sym, ap, ◌∙◌, subst, rules, arith, length, ◌≤◌}
+use Rattle.std.proofs.Common.{◌≡◌, ℕ, zero, suc, Bool, true, false, List, [], ◌∷◌, map, ◌⊎◌, inl, inr, refl, sym, ap, ◌∙◌, subst, rules, arith, length, ◌≤◌}
 use Rattle.std.specs.List.{AllByRecursion}
 use Rattle.std.proofs.lemmas.Simd.{map-map}
 use Rattle.lv_lexer.specs.declared.terminals.Class.{Class}
@@ -16,7 +16,7 @@ use Rattle.lv_parser.specs.Rule.{Rule, token, ◌>>◌, ◌<$>◌, separated, Re
 use Rattle.lv_parser.specs.Trees.{gathered}
 use Rattle.lv_parser.specs.Grammar as rule
 use Rattle.lv_parser.specs.Bare.{bare_cond, bare_operand}
-use Rattle.lv_parser.specs.Printed.{Chain, Nothing, Single, Ands, Ors, Shown, between, the, in_parens, shown, is_wrapped, part_tokens, comparison_tokens}
+use Rattle.lv_parser.specs.Printed.{Chain, Nothing, Single, Ands, Ors, Shown, between, the, in_parens, shown, is_wrapped, part_tokens}
 use Rattle.lv_parser.proofs.BareLemmas.{bare-Cmp, bare-And, bare-Or, bare-Not, gathered_alike}
 use Rattle.lv_parser.proofs.Keeps.{Keeps, pure_keeps, then_keeps, word_keeps, made_keeps, or_keeps, weaker_keeps, SomeOf, separated_keeps, each_of}
 use Rattle.lv_parser.proofs.ShownLemmas.{shown-Cmp, shown-And, shown-Or, shown-Not}
@@ -193,9 +193,10 @@ module _ (within : Within) where
   comparison_keeps : Keeps IsHonest (rule.comparison within) KnownComparison
   unfolding rule.comparison
   comparison_keeps =
-      then_keeps (operand_prints within) (λ left l. then_keeps op_prints (λ op o. made_keeps (operand_prints within) (λ right r.
-      (chain_of (c.Cmp op left right) _ (shown-Cmp op left right),
-      as_tokens_of (tokens_of (c.Cmp op left right) _ (shown-Cmp op left right)) (then_shows l (λ a ea. then_shows o (λ x ex. made_shows r (λ b eb. alike x a b op left right ex ea eb))))))))
+      then_keeps (operand_prints within) (λ left l. then_keeps op_prints (λ op o. made_keeps (operand_prints within) (λ right r. (
+        chain_of (c.Cmp op left right) _ (shown-Cmp op left right),
+        as_tokens_of (tokens_of (c.Cmp op left right) _ (shown-Cmp op left right)) (then_shows l (λ a ea. then_shows o (λ x ex. made_shows r (λ b eb. alike x a b op left right ex ea eb)))),
+      ))))
     where
       alike : (x : Sign) (a b : OperandTree) (op : Sign) (left right : OperandTree) → x ≡ op → bare_operand a ≡ bare_operand left → bare_operand b ≡ bare_operand right → bare_cond (c.Cmp x a b) ≡ bare_cond (c.Cmp op left right)
       alike x a b op left right ex ea eb =

@@ -1,14 +1,10 @@
 -- The printed line of a statement reads as the statement, but for places.
-use Rattle.std.proofs.Common.{◌≡◌, ℕ, ◌+◌, false, List, [], ◌∷◌, Option, None, Some, refl, sym, ap, ◌∙◌}
+use Rattle.std.proofs.Common.{◌≡◌, ℕ, ◌+◌, false, List, [], ◌∷◌, None, refl, sym, ap, ◌∙◌}
 use Rattle.std.specs.List.{All, AllByRecursion}
-use Rattle.std.specs.Str.{str_to_ascii_lowercase}
 use Rattle.std.proofs.lemmas.List.Elements.{All-head, All-tail}
 use Rattle.lv_lexer.specs.declared.token.Token.{Token}
 use Rattle.lv_lexer.specs.declared.token.TokenKind.{TokenKind}
-use Rattle.lv_lexer.specs.declared.token.TokenKind.TheVariants.{Word, Number, Text, Sign}
-use Rattle.lv_lexer.specs.declared.terminals.Class.{Class}
-use Rattle.lv_lexer.specs.Keywords.{keyword_of}
-use Rattle.lv_lexer.specs.Meaning.{said, terminal_of, word_at}
+use Rattle.lv_lexer.specs.Meaning.{said, terminal_of}
 use Rattle.lv_lexer.specs.Scan.{IsTokenOf, text_in}
 use Rattle.lv_lexer.specs.Written.{Lexeme, line_of, AreWritten}
 use Rattle.lv_lexer.proofs.Again.{placed, line_again}

@@ -8,16 +8,13 @@ use Rattle.lv_parser.specs.declared.tree.ColName.{ColName}
 use Rattle.lv_parser.specs.declared.tree.Literal.{Literal}
 use Rattle.lv_parser.specs.declared.tree.ColumnKind.{ColumnKind}
 use Rattle.lv_parser.specs.declared.tree.ColumnKind.TheVariants as kind
-use Rattle.lv_parser.specs.declared.tree.ColumnTree.{ColumnTree}
-use Rattle.lv_parser.specs.declared.tree.ItemTree.{ItemTree}
 use Rattle.lv_parser.specs.declared.tree.ItemTree.TheVariants as i
-use Rattle.lv_parser.specs.declared.tree.Assign.{Assign}
 use Rattle.lv_parser.specs.declared.tree.AssignValue.{AssignValue}
 use Rattle.lv_parser.specs.declared.tree.AssignValue.TheVariants as a
 use Rattle.lv_parser.specs.Rule.{Rule, token, pure, ◌>>=◌, ◌>>◌, ◌<$>◌, ◌or◌, optional}
 use Rattle.lv_parser.specs.Trees.{source_of}
 use Rattle.lv_parser.specs.Grammar as rule
-use Rattle.lv_parser.specs.Bare.{bare_name, bare_name_if, bare_col, bare_literal, bare_column, bare_item, bare_value, bare_assign, bare_ord}
+use Rattle.lv_parser.specs.Bare.{bare_name, bare_name_if, bare_col, bare_column, bare_item, bare_value, bare_assign, bare_ord}
 use Rattle.lv_parser.specs.Printed.{in_parens, kind_token, column_tokens, output_if, item_tokens, amount_tokens, assigned_tokens, assign_tokens, falls_tokens, ord_tokens}
 use Rattle.lv_parser.proofs.Keeps.{Keeps, token_keeps, pure_keeps, then_keeps, word_keeps, made_keeps, or_keeps, OnFound, optional_keeps}
 use Rattle.lv_parser.proofs.Parts as part

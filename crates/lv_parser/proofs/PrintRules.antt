@@ -1,5 +1,5 @@
 -- What each rule reads is read again where it is printed.
-use Rattle.std.proofs.Common.{◌≡◌, ℕ, zero, suc, ℤ, pos, negsuc, ◌-ℤ◌, ◌^◌, ◌<◌, List, [], ◌∷◌, ◌++◌, map, Option, Some, None, option_map, refl, sym, ap, ◌∙◌, subst, arith, codes}
+use Rattle.std.proofs.Common.{◌≡◌, ℕ, zero, suc, ℤ, pos, negsuc, ◌-ℤ◌, ◌^◌, ◌<◌, List, [], ◌∷◌, map, Option, Some, None, option_map, refl, sym, ap, ◌∙◌, subst, arith}
 use Rattle.std.specs.List.{AllByRecursion}
 use Rattle.std.proofs.lemmas.Int.{ints}
 use Rattle.lv_values.specs.declared.value.Value.TheVariants as v
@@ -11,10 +11,7 @@ use Rattle.lv_lexer.proofs.Spelling.{number_spells, number_says, text_spells, te
 use Rattle.lv_parser.specs.declared.tree.Named.{Named}
 use Rattle.lv_parser.specs.declared.tree.ColName.{ColName}
 use Rattle.lv_parser.specs.declared.tree.Literal.{Literal}
-use Rattle.lv_parser.specs.declared.tree.Tuple.{Tuple}
-use Rattle.lv_parser.specs.declared.tree.Sign.{Sign}
 use Rattle.lv_parser.specs.declared.tree.Sign.TheVariants as s
-use Rattle.lv_parser.specs.declared.tree.OperandTree.{OperandTree}
 use Rattle.lv_parser.specs.declared.tree.OperandTree.TheVariants as o
 use Rattle.lv_parser.specs.declared.conditions.Within.{Within}
 use Rattle.lv_parser.specs.Rule.{Rule, token, pure, ◌>>◌, ◌or◌, many, separated}

@@ -4,7 +4,6 @@ use Rattle.std.specs.List.{AllByRecursion}
 use Rattle.std.proofs.lemmas.Bool.{cases_lt}
 use Rattle.std.proofs.lemmas.List.{length-map, map-append}
 use Rattle.lv_lexer.specs.declared.terminals.Class.TheVariants as k
-use Rattle.lv_lexer.specs.declared.terminals.Terminal.{Terminal}
 use Rattle.lv_lexer.specs.Written.{Lexeme}
 use Rattle.lv_parser.specs.declared.tree.Named.{Named}
 use Rattle.lv_parser.specs.declared.tree.RefTree.{RefTree}
@@ -15,17 +14,17 @@ use Rattle.lv_parser.specs.declared.tree.CondTree.TheOpen.{CondTree-F}
 use Rattle.lv_parser.specs.declared.tree.CondTree.TheVariants as c
 use Rattle.lv_parser.specs.declared.conditions.Within.{Within}
 use Rattle.lv_parser.specs.declared.sources.Joined.{Joined}
-use Rattle.lv_parser.specs.Rule.{Rule, token, pure, ◌>>=◌, ◌>>◌, ◌or◌, optional, many, ReadsEach, ReadsIf}
+use Rattle.lv_parser.specs.Rule.{Rule, token, pure, ◌>>=◌, ◌>>◌, ◌or◌, optional, many}
 use Rattle.lv_parser.specs.Trees.{gathered, cond_or_true, with_on, tables_of, parts_of, condition_of}
 use Rattle.lv_parser.specs.Grammar as rule
 use Rattle.lv_parser.specs.Bare.{bare_name, bare_ref, bare_cond}
-use Rattle.lv_parser.specs.Printed.{Chain, Nothing, Single, Ands, Ors, Shown, the, comma, shown, name_tokens, alias_tokens, ref_tokens, where_tokens, whole, join_tokens, joined_tokens, placed_parts, from_tokens, filter_tokens}
+use Rattle.lv_parser.specs.Printed.{Shown, the, comma, shown, alias_tokens, ref_tokens, where_tokens, whole, join_tokens, joined_tokens, placed_parts, from_tokens, filter_tokens}
 use Rattle.lv_parser.proofs.Apart.{filter_behind}
 use Rattle.lv_parser.proofs.BareLemmas.{bare-And}
-use Rattle.lv_parser.proofs.Keeps.{Keeps, token_keeps, pure_keeps, then_keeps, word_keeps, made_keeps, or_keeps, weaker_keeps, OnFound, optional_keeps, many_keeps, each_of}
+use Rattle.lv_parser.proofs.Keeps.{Keeps, token_keeps, then_keeps, word_keeps, made_keeps, or_keeps, OnFound, optional_keeps, many_keeps, each_of}
 use Rattle.lv_parser.proofs.ShownLemmas.{shown-True, shown-Cmp, shown-And, shown-Or, shown-Not, whole-Some, whole-True, placed-And_few, placed-And_many}
 use Rattle.lv_parser.proofs.PrintHonest.{IsHonest}
-use Rattle.lv_parser.proofs.PrintShows.{Shows, then_shows, word_shows, made_shows, left_shows, right_shows, none_shows, some_shows, option_shows, no_more_shows, more_shows, weaker, as_tokens_of}
+use Rattle.lv_parser.proofs.PrintShows.{Shows, then_shows, word_shows, made_shows, left_shows, right_shows, none_shows, option_shows, no_more_shows, more_shows, weaker, as_tokens_of}
 use Rattle.lv_parser.proofs.PrintWords.{the_from, the_join, the_on, the_where, the_comma_sign}
 use Rattle.lv_parser.proofs.PrintRules.{Again, Prints, NameAgain, name_prints}
 use Rattle.lv_parser.proofs.PrintConds.{IsOne, IsWhole, cond_keeps}

@@ -2,7 +2,6 @@
 use Rattle.std.proofs.Common.{◌≡◌, Bool, List, [], ◌∷◌, ◌++◌, map, Option, Some, None, option_map, refl, sym, ap, ◌∙◌, append_assoc, arith, codes}
 use Rattle.lv_lexer.specs.declared.terminals.Class.{Class}
 use Rattle.lv_lexer.specs.declared.terminals.Class.TheVariants as k
-use Rattle.lv_lexer.specs.declared.terminals.Terminal.{Terminal}
 use Rattle.lv_lexer.specs.Written.{Lexeme, sign}
 use Rattle.lv_parser.specs.declared.tree.Named.{Named}
 use Rattle.lv_parser.specs.declared.tree.ColName.{ColName}
@@ -19,7 +18,7 @@ use Rattle.lv_parser.specs.Rule.{Rule, token, pure, ◌>>◌, ◌<$>◌, ◌or�
 use Rattle.lv_parser.specs.Trees.{cond_or_true, list_or_none, tables_of, condition_of}
 use Rattle.lv_parser.specs.Grammar as rule
 use Rattle.lv_parser.specs.Bare.{bare, bare_name, bare_col, bare_tuple, bare_column, bare_item, bare_ref, bare_assign, bare_ord, bare_cond}
-use Rattle.lv_parser.specs.Printed.{the, comma, in_parens, name_tokens, col_tokens, tuple_tokens, column_tokens, item_tokens, assign_tokens, ord_tokens, from_tokens, groups_tokens, order_tokens, listed_tokens, key_tokens, view_name_tokens, stmt_tokens}
+use Rattle.lv_parser.specs.Printed.{the, name_tokens, col_tokens, tuple_tokens, column_tokens, item_tokens, assign_tokens, ord_tokens, from_tokens, groups_tokens, order_tokens, listed_tokens, key_tokens, view_name_tokens, stmt_tokens}
 use Rattle.lv_parser.proofs.Keeps.{Keeps, token_keeps, pure_keeps, then_keeps, word_keeps, made_keeps, weaker_keeps, OnFound, optional_keeps, SomeOf, separated_keeps}
 use Rattle.lv_parser.proofs.PrintHonest.{IsHonest}
 use Rattle.lv_parser.proofs.PrintShows.{Shows, pure_shows, token_shows, then_shows, word_shows, made_shows, some_shows, none_shows, as_tokens_of}
