@@ -37,7 +37,7 @@ unfolding rule.column
 column_prints =
     then_keeps name_prints (λ n name. then_keeps kind_prints (λ x kind. made_keeps (optional_keeps (word_keeps k.Not (token_keeps k.Null)))
     (λ o u. then_shows name (λ b e. then_shows kind (λ y f. made_shows (none_shows Any tt)
-    (λ p v. ap (λ (m : Named). record { name = m; kind = y }) e ∙ ap (λ (z : ColumnKind). record { name = bare_name n; kind = z }) f))))))
+    (λ p v. cc))))))
 
 -- ---- items
 
@@ -57,10 +57,10 @@ pub item_prints : Prints rule.item bare_item item_tokens
 unfolding rule.item
 item_prints =
     or_prints (then_keeps col_prints (λ col c. made_keeps (optional_keeps (word_keeps k.As name_prints)) (λ output h. then_shows c (λ b e. made_shows (output_again output h)
-    (λ o f. ap (λ (y : ColName). i.Plain y (bare_name_if o)) e ∙ ap (λ (y : Option Named). i.Plain (bare_col col) y) f)))))
+    (λ o f. cc)))))
     (or_prints
     (word_keeps k.Sum (word_keeps k.LeftParen (then_keeps col_prints (λ col c. word_keeps k.RightParen (word_keeps k.As (made_keeps name_prints (λ output n.
-    word_shows the_sum (parens_then c (λ b e. word_shows the_as (made_shows n (λ o f. ap (λ (y : ColName). i.Sum y (bare_name o)) e ∙ ap (λ (y : Named). i.Sum (bare_col col) y) f)))))))))))
+    word_shows the_sum (parens_then c (λ b e. word_shows the_as (made_shows n (λ o f. cc)))))))))))
     (word_keeps k.Count (word_keeps k.LeftParen (word_keeps k.Star (word_keeps k.RightParen (word_keeps k.As (made_keeps name_prints (λ output n.
     word_shows the_count (word_shows the_left_paren (word_shows the_star (word_shows the_right_paren (word_shows the_as (made_shows n (λ o f. ap (λ (y : Named). i.Count y) f))))))))))))))
 
@@ -81,7 +81,7 @@ unfolding rule.ord
 ord_prints = then_keeps col_prints (λ col c. made_keeps (optional_keeps direction_keeps) (λ falls u. then_shows c (λ b e. made_shows (falls_again (unwrap_or falls false)) (λ o f. both col b falls o e f))))
   where
     both : (col b : ColName) (p o : Option Bool) → bare_col b ≡ bare_col col → unwrap_or o false ≡ unwrap_or p false → bare_ord (b, unwrap_or o false) ≡ bare_ord (col, unwrap_or p false)
-    both col b p o e f = ap (λ (y : ColName). let pair : ColName × Bool = (y, unwrap_or o false) in pair) e ∙ ap (λ (z : Bool). let pair : ColName × Bool = (bare_col col, z) in pair) f
+    both col b p o e f = cc
 
 -- ---- SET
 
@@ -120,4 +120,4 @@ pub assign_prints : Prints rule.assign bare_assign assign_tokens
 unfolding rule.assign
 assign_prints =
     then_keeps name_prints (λ n name. word_keeps k.Equal (made_keeps value_prints (λ v value. then_shows name (λ b e. word_shows the_equal (made_shows value
-    (λ w f. ap (λ (m : Named). record { column = m; value = bare_value w }) e ∙ ap (λ (x : AssignValue). record { column = bare_name n; value = x }) f))))))
+    (λ w f. cc))))))

@@ -39,7 +39,7 @@ pub ref_prints : Prints rule.ref bare_ref ref_tokens
 unfolding rule.ref
 ref_prints =
     then_keeps name_prints (λ t n. made_keeps (optional_keeps (then_keeps (optional_keeps (token_keeps k.As)) (λ o u. name_prints))) (λ alias h. then_shows n (λ x ex. made_shows (alias_again alias h)
-    (λ o eo. ap (λ (y : Named). record { name = y; alias = option_map bare_name o }) ex ∙ ap (λ (y : Option Named). record { name = bare_name t; alias = y }) eo))))
+    (λ o eo. cc))))
 
 -- ---- WHERE
 

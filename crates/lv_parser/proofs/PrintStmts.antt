@@ -34,22 +34,21 @@ unfolding rule.insert
 insert_prints =
     word_keeps k.Insert (word_keeps k.Into (then_keeps name_prints (λ table name. word_keeps k.Values (made_keeps (commas_print bare_tuple tuple_tokens tuple_prints) (λ tuples list.
     word_shows the_insert (word_shows the_into (then_shows name (λ n e. word_shows the_values (made_shows list
-    (λ found f. ap (λ (m : Named). st.Insert m (map bare_tuple found)) e ∙ ap (λ (xs : List Tuple). st.Insert (bare_name table) xs) f))))))))))
+    (λ found f. cc))))))))))
 
 delete_prints : Prints rule.delete bare stmt_tokens
 unfolding rule.delete
 delete_prints =
     word_keeps k.Delete (word_keeps k.From (then_keeps name_prints (λ table name. made_keeps (filter_keeps stands.Query) (λ kept filter.
     word_shows the_delete (word_shows the_from (then_shows name (λ n e. made_shows (filter_again stands.Query kept filter)
-    (λ o f. ap (λ (m : Named). st.Delete m (bare_cond (cond_or_true o))) e ∙ ap (λ (x : CondTree). st.Delete (bare_name table) x) f))))))))
+    (λ o f. cc))))))))
 
 update_prints : Prints rule.update bare stmt_tokens
 unfolding rule.update
 update_prints =
     word_keeps k.Update (then_keeps name_prints (λ table name. word_keeps k.Set (then_keeps (commas_print bare_assign assign_tokens assign_prints) (λ sets list. made_keeps (filter_keeps stands.Query) (λ kept filter.
     word_shows the_update (then_shows name (λ n e. word_shows the_set (then_shows list (λ found f. made_shows (filter_again stands.Query kept filter)
-    (λ o g. ap (λ (m : Named). st.Update m (map bare_assign found) (bare_cond (cond_or_true o))) e ∙ ap (λ (xs : List Assign). st.Update (bare_name table) xs (bare_cond (cond_or_true o))) f
-    ∙ ap (λ (x : CondTree). st.Update (bare_name table) (map bare_assign sets) x) g))))))))))
+    (λ o g. cc))))))))))
 
 -- ---- lists that may be left out
 
@@ -95,9 +94,7 @@ from_between front from parts where_part tail e =
 
 same_select : (l m : Option (List ColName)) (rs qs : List RefTree) (p q : CondTree) (xs ys : List (ColName × Bool)) → option_map (map bare_col) l ≡ option_map (map bare_col) m → map bare_ref rs ≡ map bare_ref qs → bare_cond p ≡ bare_cond q → map bare_ord xs ≡ map bare_ord ys
     → bare (st.Select l rs p xs) ≡ bare (st.Select m qs q ys)
-same_select l m rs qs p q xs ys e f g h =
-    ap (λ (z : Option (List ColName)). st.Select z (map bare_ref rs) (bare_cond p) (map bare_ord xs)) e ∙ ap (λ (z : List RefTree). st.Select (option_map (map bare_col) m) z (bare_cond p) (map bare_ord xs)) f
-    ∙ ap (λ (z : CondTree). st.Select (option_map (map bare_col) m) (map bare_ref qs) z (map bare_ord xs)) g ∙ ap (λ (z : List (ColName × Bool)). st.Select (option_map (map bare_col) m) (map bare_ref qs) (bare_cond q) z) h
+same_select l m rs qs p q xs ys e f g h = cc
 
 select_prints : Prints rule.select bare stmt_tokens
 unfolding rule.select
@@ -116,12 +113,7 @@ select_prints =
 
 same_view : (n m : Named) (is js : List ItemTree) (rs qs : List RefTree) (p q : CondTree) (xs ys : List ColName) → bare_name n ≡ bare_name m → map bare_item is ≡ map bare_item js → map bare_ref rs ≡ map bare_ref qs → bare_cond p ≡ bare_cond q → map bare_col xs ≡ map bare_col ys
     → bare (st.CreateView n is rs p xs) ≡ bare (st.CreateView m js qs q ys)
-same_view n m is js rs qs p q xs ys d e f g h =
-    ap (λ (z : Named). st.CreateView z (map bare_item is) (map bare_ref rs) (bare_cond p) (map bare_col xs)) d
-    ∙ ap (λ (z : List ItemTree). st.CreateView (bare_name m) z (map bare_ref rs) (bare_cond p) (map bare_col xs)) e
-    ∙ ap (λ (z : List RefTree). st.CreateView (bare_name m) (map bare_item js) z (bare_cond p) (map bare_col xs)) f
-    ∙ ap (λ (z : CondTree). st.CreateView (bare_name m) (map bare_item js) (map bare_ref qs) z (map bare_col xs)) g
-    ∙ ap (λ (z : List ColName). st.CreateView (bare_name m) (map bare_item js) (map bare_ref qs) (bare_cond q) z) h
+same_view n m is js rs qs p q xs ys d e f g h = cc
 
 view_prints : Prints rule.create_view bare stmt_tokens
 unfolding rule.create_view
@@ -140,8 +132,7 @@ view_prints =
 -- ---- CREATE TABLE
 
 same_table : (n m : Named) (cs ds : List ColumnTree) (xs ys : List Named) → bare_name n ≡ bare_name m → map bare_column cs ≡ map bare_column ds → map bare_name xs ≡ map bare_name ys → bare (st.CreateTable n cs xs) ≡ bare (st.CreateTable m ds ys)
-same_table n m cs ds xs ys d e f =
-    ap (λ (z : Named). st.CreateTable z (map bare_column cs) (map bare_name xs)) d ∙ ap (λ (z : List ColumnTree). st.CreateTable (bare_name m) z (map bare_name xs)) e ∙ ap (λ (z : List Named). st.CreateTable (bare_name m) (map bare_column ds) z) f
+same_table n m cs ds xs ys d e f = cc
 
 table_prints : Prints rule.create_table bare stmt_tokens
 unfolding rule.create_table
