@@ -4,17 +4,12 @@ use Rattle.lv_lexer.specs.declared.terminals.Class.{Class}
 use Rattle.lv_lexer.specs.declared.terminals.Class.TheVariants as k
 use Rattle.lv_lexer.specs.Written.{Lexeme, sign}
 use Rattle.lv_parser.specs.declared.tree.Named.{Named}
-use Rattle.lv_parser.specs.declared.tree.ColName.{ColName}
-use Rattle.lv_parser.specs.declared.tree.Literal.{Literal}
-use Rattle.lv_parser.specs.declared.tree.ColumnKind.{ColumnKind}
 use Rattle.lv_parser.specs.declared.tree.ColumnKind.TheVariants as kind
-use Rattle.lv_parser.specs.declared.tree.ItemTree.TheVariants as i
-use Rattle.lv_parser.specs.declared.tree.AssignValue.{AssignValue}
 use Rattle.lv_parser.specs.declared.tree.AssignValue.TheVariants as a
 use Rattle.lv_parser.specs.Rule.{Rule, token, pure, ◌>>=◌, ◌>>◌, ◌<$>◌, ◌or◌, optional}
 use Rattle.lv_parser.specs.Trees.{source_of}
 use Rattle.lv_parser.specs.Grammar as rule
-use Rattle.lv_parser.specs.Bare.{bare_name, bare_name_if, bare_col, bare_column, bare_item, bare_value, bare_assign, bare_ord}
+use Rattle.lv_parser.specs.Bare.{bare_name, bare_name_if, bare_column, bare_item, bare_value, bare_assign, bare_ord}
 use Rattle.lv_parser.specs.Printed.{in_parens, kind_token, column_tokens, output_if, item_tokens, amount_tokens, assigned_tokens, assign_tokens, falls_tokens, ord_tokens}
 use Rattle.lv_parser.proofs.Keeps.{Keeps, token_keeps, pure_keeps, then_keeps, word_keeps, made_keeps, or_keeps, OnFound, optional_keeps}
 use Rattle.lv_parser.proofs.Parts as part
@@ -36,8 +31,7 @@ pub column_prints : Prints rule.column bare_column column_tokens
 unfolding rule.column
 column_prints =
     then_keeps name_prints (λ n name. then_keeps kind_prints (λ x kind. made_keeps (optional_keeps (word_keeps k.Not (token_keeps k.Null)))
-    (λ o u. then_shows name (λ b e. then_shows kind (λ y f. made_shows (none_shows Any tt)
-    (λ p v. cc))))))
+    (λ o u. then_shows name (λ b e. then_shows kind (λ y f. made_shows (none_shows Any tt) (λ p v. cc))))))
 
 -- ---- items
 
@@ -56,13 +50,12 @@ parens_then {xs = xs} {ys = ys} inside after = as_tokens_of (behind_parens xs ys
 pub item_prints : Prints rule.item bare_item item_tokens
 unfolding rule.item
 item_prints =
-    or_prints (then_keeps col_prints (λ col c. made_keeps (optional_keeps (word_keeps k.As name_prints)) (λ output h. then_shows c (λ b e. made_shows (output_again output h)
-    (λ o f. cc)))))
+    or_prints (then_keeps col_prints (λ col c. made_keeps (optional_keeps (word_keeps k.As name_prints)) (λ output h. then_shows c (λ b e. made_shows (output_again output h) (λ o f. cc)))))
     (or_prints
     (word_keeps k.Sum (word_keeps k.LeftParen (then_keeps col_prints (λ col c. word_keeps k.RightParen (word_keeps k.As (made_keeps name_prints (λ output n.
     word_shows the_sum (parens_then c (λ b e. word_shows the_as (made_shows n (λ o f. cc)))))))))))
     (word_keeps k.Count (word_keeps k.LeftParen (word_keeps k.Star (word_keeps k.RightParen (word_keeps k.As (made_keeps name_prints (λ output n.
-    word_shows the_count (word_shows the_left_paren (word_shows the_star (word_shows the_right_paren (word_shows the_as (made_shows n (λ o f. ap (λ (y : Named). i.Count y) f))))))))))))))
+    word_shows the_count (word_shows the_left_paren (word_shows the_star (word_shows the_right_paren (word_shows the_as (made_shows n (λ o f. cc))))))))))))))
 
 -- ---- ORDER BY
 
@@ -78,10 +71,7 @@ direction_keeps = or_keeps (any k.Asc false) (any k.Desc true)
 
 pub ord_prints : Prints rule.ord bare_ord ord_tokens
 unfolding rule.ord
-ord_prints = then_keeps col_prints (λ col c. made_keeps (optional_keeps direction_keeps) (λ falls u. then_shows c (λ b e. made_shows (falls_again (unwrap_or falls false)) (λ o f. both col b falls o e f))))
-  where
-    both : (col b : ColName) (p o : Option Bool) → bare_col b ≡ bare_col col → unwrap_or o false ≡ unwrap_or p false → bare_ord (b, unwrap_or o false) ≡ bare_ord (col, unwrap_or p false)
-    both col b p o e f = cc
+ord_prints = then_keeps col_prints (λ col c. made_keeps (optional_keeps direction_keeps) (λ falls u. then_shows c (λ b e. made_shows (falls_again (unwrap_or falls false)) (λ o f. cc))))
 
 -- ---- SET
 
@@ -106,18 +96,16 @@ amount_keeps =
 
 source_again : (n : Named) (amount : Option ℤ) → NameAgain n → OnFound AmountAgain amount → Again part.source bare_value assigned_tokens (source_of n amount)
 source_again n None h k =
-    then_shows h (λ b e. made_shows (none_shows (λ o. o ≡ None) refl) (λ o none. ap (λ (x : Option ℤ). bare_value (source_of b x)) none ∙ ap (λ (y : Named). a.Column y) e))
+    then_shows h (λ b e. made_shows (none_shows (λ o. o ≡ None) refl) (λ o none. cc))
 source_again n (Some z) h k =
-    then_shows h (λ b e. made_shows (some_shows (λ o. o ≡ Some z) k (λ y f. ap (λ (w : ℤ). Some w) f))
-    (λ o some. ap (λ (x : Option ℤ). bare_value (source_of b x)) some ∙ ap (λ (y : Named). a.Plus y z) e))
+    then_shows h (λ b e. made_shows (some_shows (λ o. o ≡ Some z) k (λ y f. ap (λ (w : ℤ). Some w) f)) (λ o some. cc))
 
 value_prints : Prints ((a.Literal <$> rule.literal) or part.source) bare_value assigned_tokens
 value_prints =
-    or_prints (made_keeps literal_prints (λ l h. made_shows h (λ b e. ap (λ (y : Literal). a.Literal y) e)))
+    or_prints (made_keeps literal_prints (λ l h. made_shows h (λ b e. cc)))
     (then_keeps name_prints (λ n h. made_keeps (optional_keeps amount_keeps) (λ amount k. source_again n amount h k)))
 
 pub assign_prints : Prints rule.assign bare_assign assign_tokens
 unfolding rule.assign
 assign_prints =
-    then_keeps name_prints (λ n name. word_keeps k.Equal (made_keeps value_prints (λ v value. then_shows name (λ b e. word_shows the_equal (made_shows value
-    (λ w f. cc))))))
+    then_keeps name_prints (λ n name. word_keeps k.Equal (made_keeps value_prints (λ v value. then_shows name (λ b e. word_shows the_equal (made_shows value (λ w f. cc))))))

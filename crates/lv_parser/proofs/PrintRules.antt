@@ -9,10 +9,8 @@ use Rattle.lv_lexer.specs.declared.terminals.Terminal.{Terminal}
 use Rattle.lv_lexer.specs.Written.{Lexeme, word, number, text}
 use Rattle.lv_lexer.proofs.Spelling.{number_spells, number_says, text_spells, text_says}
 use Rattle.lv_parser.specs.declared.tree.Named.{Named}
-use Rattle.lv_parser.specs.declared.tree.ColName.{ColName}
 use Rattle.lv_parser.specs.declared.tree.Literal.{Literal}
 use Rattle.lv_parser.specs.declared.tree.Sign.TheVariants as s
-use Rattle.lv_parser.specs.declared.tree.OperandTree.TheVariants as o
 use Rattle.lv_parser.specs.declared.conditions.Within.{Within}
 use Rattle.lv_parser.specs.Rule.{Rule, token, pure, ◌>>◌, ◌or◌, many, separated}
 use Rattle.lv_parser.specs.Trees.{named_of, column_of, number_at}
@@ -67,8 +65,7 @@ col_again first (Some second) n m = then_shows n (λ a e. made_shows (option_sho
     both : (a : Named) (o : Option Named) → bare_name a ≡ bare_name first → option_map bare_name o ≡ Some (bare_name second) → bare_col (column_of a o) ≡ bare_col (column_of first (Some second))
     both a None e f = absurd cc
     both a (Some b) e f =
-        let second_is : bare_name b ≡ bare_name second = cc in
-        ap (λ (x : Named). record { qualifier = Some x; name = bare_name b }) e ∙ ap (λ (x : Named). record { qualifier = Some (bare_name first); name = x }) second_is
+        let second_is : bare_name b ≡ bare_name second = cc in cc
 
 pub col_prints : Prints rule.col bare_col col_tokens
 unfolding rule.col
@@ -130,12 +127,12 @@ module _ {A : Type 0} {rule : Rule A} (bare : A → A) (tokens : A → List Lexe
   behind_again : (items : List A) → AllByRecursion (Again rule bare tokens) items → Shows (many (token k >> rule)) (λ found. map bare found ≡ map bare items) (behind x (map tokens items))
   behind_again [] each = no_more_shows refl
   behind_again (a ∷ more) each =
-      more_shows (word_shows the_x each.0) (behind_again more each.1) (λ b bs e es. ap (λ (c : A). c ∷ map bare bs) e ∙ ap (λ (cs : List A). bare a ∷ cs) es)
+      more_shows (word_shows the_x each.0) (behind_again more each.1) (λ b bs e es. cc)
 
   pub list_again : (items : List A) → SomeOf (Again rule bare tokens) items → Again (separated k rule) (map bare) (λ xs. between x (map tokens xs)) items
   list_again [] each = absurd (omega (arith, each.0))
   list_again (a ∷ more) each =
-      then_shows each.1.0 (λ b e. made_shows (behind_again more each.1.1) (λ bs es. ap (λ (c : A). c ∷ map bare bs) e ∙ ap (λ (cs : List A). bare a ∷ cs) es))
+      then_shows each.1.0 (λ b e. made_shows (behind_again more each.1.1) (λ bs es. cc))
 
 -- one or more, with commas between
 pub commas_print : {A : Type 0} {rule : Rule A} (bare : A → A) (tokens : A → List Lexeme) → Prints rule bare tokens → Prints (separated k.Comma rule) (map bare) (commas tokens)
@@ -147,15 +144,15 @@ pub tuple_prints : Prints rule.tuple bare_tuple tuple_tokens
 unfolding rule.tuple
 tuple_prints =
     then_keeps (token_keeps k.LeftParen) (λ paren is. then_keeps (commas_print bare_literal literal_tokens literal_prints) (λ values list. word_keeps k.RightParen (pure_keeps _
-    (then_shows (token_shows the_left_paren) (λ p is. then_shows list (λ found e. word_shows the_right_paren (pure_shows (ap (λ (xs : List Literal). record { byte = 0; values = xs }) e))))))))
+    (then_shows (token_shows the_left_paren) (λ p is. then_shows list (λ found e. word_shows the_right_paren (pure_shows (cc))))))))
 
 -- ---- comparisons
 
 pub operand_prints : (within : Within) → Prints (rule.operand within) bare_operand operand_tokens
 unfolding rule.operand
 operand_prints within =
-    or_prints (made_keeps col_prints (λ col h. made_shows h (λ a e. ap (λ (x : ColName). o.Column x) e)))
-    (made_keeps literal_prints (λ l h. made_shows h (λ a e. ap (λ (x : Literal). o.Literal x) e)))
+    or_prints (made_keeps col_prints (λ col h. made_shows h (λ a e. cc)))
+    (made_keeps literal_prints (λ l h. made_shows h (λ a e. cc)))
 
 pub op_prints : Prints rule.op (λ x. x) (λ x. op_token x ∷ [])
 unfolding rule.op

@@ -139,7 +139,7 @@ abbrev AlikeAll : List RefTree → List CondTree → List Joined → Type 0
 AlikeAll refs parts found = (map bare_ref (tables_of found) ≡ map bare_ref refs) × (map bare_cond (ons found) ≡ map bare_cond (taken refs parts))
 
 one_more_table : (r : RefTree) (refs : List RefTree) (j : Joined) (found : List Joined) → bare_ref j.table ≡ bare_ref r → map bare_ref (tables_of found) ≡ map bare_ref refs → map bare_ref (tables_of (j ∷ found)) ≡ map bare_ref (r ∷ refs)
-one_more_table r refs j found e f = ap (λ (x : RefTree). x ∷ map bare_ref (tables_of found)) e ∙ ap (λ (xs : List RefTree). bare_ref r ∷ xs) f
+one_more_table r refs j found e f = cc
 
 with_none : (on : Option CondTree) (xs ys : List CondTree) → option_map bare_cond on ≡ None → map bare_cond xs ≡ map bare_cond ys → map bare_cond (with_on on xs) ≡ map bare_cond ys
 with_none None xs ys e f = f
@@ -147,7 +147,7 @@ with_none (Some p) xs ys e f = absurd cc
 
 with_some : (on : Option CondTree) (p : CondTree) (xs ys : List CondTree) → option_map bare_cond on ≡ Some (bare_cond p) → map bare_cond xs ≡ map bare_cond ys → map bare_cond (with_on on xs) ≡ map bare_cond (p ∷ ys)
 with_some None p xs ys e f = absurd cc
-with_some (Some q) p xs ys e f = let same : bare_cond q ≡ bare_cond p = cc in ap (λ (x : CondTree). x ∷ map bare_cond xs) same ∙ ap (λ (zs : List CondTree). bare_cond p ∷ zs) f
+with_some (Some q) p xs ys e f = let same : bare_cond q ≡ bare_cond p = cc in cc
 
 module _ (within : Within) where
   others_show : (refs : List RefTree) (parts : List CondTree) → AllByRecursion RefAgain refs → AllByRecursion (IsOne within) parts → Shows (many (another within)) (AlikeAll refs parts) (joins refs (map (λ p. (shown p).tokens) parts))

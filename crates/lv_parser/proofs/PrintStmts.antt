@@ -3,21 +3,14 @@ use Rattle.std.proofs.Common.{◌≡◌, Bool, List, [], ◌∷◌, ◌++◌, ma
 use Rattle.lv_lexer.specs.declared.terminals.Class.{Class}
 use Rattle.lv_lexer.specs.declared.terminals.Class.TheVariants as k
 use Rattle.lv_lexer.specs.Written.{Lexeme, sign}
-use Rattle.lv_parser.specs.declared.tree.Named.{Named}
 use Rattle.lv_parser.specs.declared.tree.ColName.{ColName}
-use Rattle.lv_parser.specs.declared.tree.Tuple.{Tuple}
-use Rattle.lv_parser.specs.declared.tree.ColumnTree.{ColumnTree}
-use Rattle.lv_parser.specs.declared.tree.ItemTree.{ItemTree}
-use Rattle.lv_parser.specs.declared.tree.RefTree.{RefTree}
-use Rattle.lv_parser.specs.declared.tree.Assign.{Assign}
-use Rattle.lv_parser.specs.declared.tree.CondTree.{CondTree}
 use Rattle.lv_parser.specs.declared.tree.Stmt.{Stmt}
 use Rattle.lv_parser.specs.declared.tree.Stmt.TheVariants as st
 use Rattle.lv_parser.specs.declared.conditions.Within.TheVariants as stands
 use Rattle.lv_parser.specs.Rule.{Rule, token, pure, ◌>>◌, ◌<$>◌, ◌or◌, optional, separated}
-use Rattle.lv_parser.specs.Trees.{cond_or_true, list_or_none, tables_of, condition_of}
+use Rattle.lv_parser.specs.Trees.{list_or_none, tables_of, condition_of}
 use Rattle.lv_parser.specs.Grammar as rule
-use Rattle.lv_parser.specs.Bare.{bare, bare_name, bare_col, bare_tuple, bare_column, bare_item, bare_ref, bare_assign, bare_ord, bare_cond}
+use Rattle.lv_parser.specs.Bare.{bare, bare_name, bare_col, bare_tuple, bare_column, bare_item, bare_assign, bare_ord}
 use Rattle.lv_parser.specs.Printed.{the, name_tokens, col_tokens, tuple_tokens, column_tokens, item_tokens, assign_tokens, ord_tokens, from_tokens, groups_tokens, order_tokens, listed_tokens, key_tokens, view_name_tokens, stmt_tokens}
 use Rattle.lv_parser.proofs.Keeps.{Keeps, token_keeps, pure_keeps, then_keeps, word_keeps, made_keeps, weaker_keeps, OnFound, optional_keeps, SomeOf, separated_keeps}
 use Rattle.lv_parser.proofs.PrintHonest.{IsHonest}
@@ -33,22 +26,19 @@ insert_prints : Prints rule.insert bare stmt_tokens
 unfolding rule.insert
 insert_prints =
     word_keeps k.Insert (word_keeps k.Into (then_keeps name_prints (λ table name. word_keeps k.Values (made_keeps (commas_print bare_tuple tuple_tokens tuple_prints) (λ tuples list.
-    word_shows the_insert (word_shows the_into (then_shows name (λ n e. word_shows the_values (made_shows list
-    (λ found f. cc))))))))))
+    word_shows the_insert (word_shows the_into (then_shows name (λ n e. word_shows the_values (made_shows list (λ found f. cc))))))))))
 
 delete_prints : Prints rule.delete bare stmt_tokens
 unfolding rule.delete
 delete_prints =
     word_keeps k.Delete (word_keeps k.From (then_keeps name_prints (λ table name. made_keeps (filter_keeps stands.Query) (λ kept filter.
-    word_shows the_delete (word_shows the_from (then_shows name (λ n e. made_shows (filter_again stands.Query kept filter)
-    (λ o f. cc))))))))
+    word_shows the_delete (word_shows the_from (then_shows name (λ n e. made_shows (filter_again stands.Query kept filter) (λ o f. cc))))))))
 
 update_prints : Prints rule.update bare stmt_tokens
 unfolding rule.update
 update_prints =
     word_keeps k.Update (then_keeps name_prints (λ table name. word_keeps k.Set (then_keeps (commas_print bare_assign assign_tokens assign_prints) (λ sets list. made_keeps (filter_keeps stands.Query) (λ kept filter.
-    word_shows the_update (then_shows name (λ n e. word_shows the_set (then_shows list (λ found f. made_shows (filter_again stands.Query kept filter)
-    (λ o g. cc))))))))))
+    word_shows the_update (then_shows name (λ n e. word_shows the_set (then_shows list (λ found f. made_shows (filter_again stands.Query kept filter) (λ o g. cc))))))))))
 
 -- ---- lists that may be left out
 
@@ -92,10 +82,6 @@ from_between : (front from parts where_part tail : List Lexeme) → from ≡ par
 from_between front from parts where_part tail e =
     ap (λ (xs : List Lexeme). front ++ xs) (sym (append_assoc parts where_part tail) ∙ ap (λ (xs : List Lexeme). xs ++ tail) (sym e)) ∙ sym (append_assoc front from tail)
 
-same_select : (l m : Option (List ColName)) (rs qs : List RefTree) (p q : CondTree) (xs ys : List (ColName × Bool)) → option_map (map bare_col) l ≡ option_map (map bare_col) m → map bare_ref rs ≡ map bare_ref qs → bare_cond p ≡ bare_cond q → map bare_ord xs ≡ map bare_ord ys
-    → bare (st.Select l rs p xs) ≡ bare (st.Select m qs q ys)
-same_select l m rs qs p q xs ys e f g h = cc
-
 select_prints : Prints rule.select bare stmt_tokens
 unfolding rule.select
 select_prints =
@@ -106,14 +92,9 @@ select_prints =
     let sources : PrintsFrom stands.Query refs cond = sources_again stands.Query joined kept from filter in
     let last = list_or_none order in
     as_tokens_of (from_between (the "select" ∷ listed_tokens listed) (from_tokens refs cond) sources.from_part sources.where_part (order_tokens last) sources.tokens)
-    (word_shows the_select (then_shows list (λ found e. then_shows sources.from (λ js ej. then_shows (sources.filter js ej) (λ ko ek. made_shows (as_tokens_of (order_tokens_are last) tail)
-    (λ xs ex. same_select found listed (tables_of js) refs (condition_of js ko) cond (list_or_none xs) last e ek.0 ek.1 ex)))))))))))
+    (word_shows the_select (then_shows list (λ found e. then_shows sources.from (λ js ej. then_shows (sources.filter js ej) (λ ko (same_refs, same_cond). made_shows (as_tokens_of (order_tokens_are last) tail) (λ xs ex. cc)))))))))))
 
 -- ---- CREATE VIEW
-
-same_view : (n m : Named) (is js : List ItemTree) (rs qs : List RefTree) (p q : CondTree) (xs ys : List ColName) → bare_name n ≡ bare_name m → map bare_item is ≡ map bare_item js → map bare_ref rs ≡ map bare_ref qs → bare_cond p ≡ bare_cond q → map bare_col xs ≡ map bare_col ys
-    → bare (st.CreateView n is rs p xs) ≡ bare (st.CreateView m js qs q ys)
-same_view n m is js rs qs p q xs ys d e f g h = cc
 
 view_prints : Prints rule.create_view bare stmt_tokens
 unfolding rule.create_view
@@ -126,13 +107,9 @@ view_prints =
     let last = list_or_none groups in
     as_tokens_of (from_between (view_name_tokens view ++ commas item_tokens items) (from_tokens refs cond) sources.from_part sources.where_part (groups_tokens last) sources.tokens)
     (word_shows the_create (word_shows the_view (then_shows name (λ n d. word_shows the_as (word_shows the_select (then_shows list (λ found e.
-    then_shows sources.from (λ js ej. then_shows (sources.filter js ej) (λ ko ek. made_shows (as_tokens_of (groups_tokens_are last) tail)
-    (λ xs ex. same_view n view found items (tables_of js) refs (condition_of js ko) cond (list_or_none xs) last d e ek.0 ek.1 ex)))))))))))))))))))
+    then_shows sources.from (λ js ej. then_shows (sources.filter js ej) (λ ko (same_refs, same_cond). made_shows (as_tokens_of (groups_tokens_are last) tail) (λ xs ex. cc)))))))))))))))))))
 
 -- ---- CREATE TABLE
-
-same_table : (n m : Named) (cs ds : List ColumnTree) (xs ys : List Named) → bare_name n ≡ bare_name m → map bare_column cs ≡ map bare_column ds → map bare_name xs ≡ map bare_name ys → bare (st.CreateTable n cs xs) ≡ bare (st.CreateTable m ds ys)
-same_table n m cs ds xs ys d e f = cc
 
 table_prints : Prints rule.create_table bare stmt_tokens
 unfolding rule.create_table
@@ -143,7 +120,7 @@ table_prints =
     let close = sign (codes ")") ∷ [] in
     as_tokens_of (ap (λ (xs : List Lexeme). the "create" ∷ the "table" ∷ (name_tokens table ++ sign (codes "(") ∷ xs)) (sym (append_assoc cs (key_tokens key) close)))
     (word_shows the_create (word_shows the_table (then_shows name (λ n d. word_shows the_left_paren (then_shows list (λ found e. word_shows the_comma_sign (word_shows the_primary (word_shows the_key
-    (parens_then names (λ xs f. word_shows the_right_paren (pure_shows (same_table n table found columns xs key d e f)))))))))))))))))))))))))
+    (parens_then names (λ xs f. word_shows the_right_paren (pure_shows cc))))))))))))))))))))))))
 
 -- ---- any statement
 
