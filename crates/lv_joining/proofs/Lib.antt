@@ -6,3 +6,4 @@ pub mod Databases
 pub mod Joined
 pub mod Meeting
 pub mod Reaches
+pub mod KeptSteps

@@ -3,6 +3,7 @@
 
 mod laws;
 mod stand_ins;
+mod steps;
 
 pub use laws::{each_step_has_a_cost, joined_steps_cost_no_more, steps_that_keep_links_add_up};
-pub use stand_ins::keeps_links;
+pub use steps::step_keeps_links;

@@ -56,7 +56,7 @@ fn are_met(key: &[u8], columns: &[u8], rows: &[Row], others: &[Row]) -> bool
 
 /// Whether each of an alias's rows stays or becomes one of the same key with the same values in the linked columns, where
 /// this is their net change. Cost: linear in the links and in the rows that go or come.
-pub fn keeps_links(
+pub(crate) fn have_stand_ins(
     alloc: Global,
     links: &[Link],
     alias: u8,

@@ -2,7 +2,7 @@ use Rattle.std.proofs.Common.{sym, ap, ◌∙◌}
 use Rattle.lv_schema.specs.declared.net.Net.{Net}
 use Rattle.lv_joining.specs.Joining.{are_met, linked_columns}
 use Rattle.lv_joining.proofs.Meeting.{net_tells}
-use Rattle.lv_joining.proofs.stand_ins.keeps_links.Goals as goal
+use Rattle.lv_joining.proofs.stand_ins.have_stand_ins.Goals as goal
 
 pub returns : goal.returns
 returns c = λ before after up on net.
