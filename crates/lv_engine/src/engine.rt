@@ -13,7 +13,7 @@ ghost use Rattle.lv_schema.specs.WholeWorld.{maintained, querying, with_upkeep, 
 ghost use Rattle.lv_schema.specs.World.{World};
 ghost use Rattle.lv_schema.specs.World as schema;
 ghost use Rattle.lv_txn.specs.Kept.{IsLive, begun, live_kept, transaction_at, transaction_of};
-ghost use Rattle.lv_store.specs.Answering.{IsCostBetween, IsInputBetween, ReadsNoTable, ReadsViews, TakesSteps, effect_fault};
+ghost use Rattle.lv_store.specs.Answering.{IsCostBetween, IsInputBetween, ReadsNoTable, ReadsViews, effect_fault};
 ghost use Rattle.lv_store.specs.Inputs.{AreCosts};
 ghost use Rattle.lv_store.specs.Kept.{IsStore, kept, store_of};
 ghost use Rattle.lv_store.specs.Maintaining.{KeepsNoneBelow, TakesGiven, TakesInstalled};
@@ -300,8 +300,11 @@ impl<D: Disk> Engine<D> {
     /// A query of a session that is live: the views that it reads are brought up to its snapshot, and it reads its
     /// snapshot with its own writes. It answers the steps that it forced, and its rows. A step takes the offer whose
     /// input is the step's own, and is computed where there is none; so the answer does not depend on the offers. Where
-    /// there are no offers, steps of one view with no live snapshot between them are taken as one, so that many changes of
-    /// one row cost their condensing and no more. Want of memory leaves every view as it was.
+    /// there are no offers, steps of one view with no live snapshot between them are taken as one, where all but the last
+    /// of them keep links: no row goes for good in them, and none changes its values in the linked columns. So many changes
+    /// of one row cost their condensing and no more. Where it names no table, and the transaction wrote none of its views'
+    /// tables, it reads at most what the steps cost that it forces, each by itself, also for want of memory. Want of memory
+    /// leaves every view as it was.
     /// Cost: of a view that is up to date, on whose tables the transaction wrote nothing, one pass over its rows; else
     /// that of its steps, which read what can join a changed row, or of the view by its definition over the transaction's
     /// own rows; and the join and the sort of the answer.
@@ -324,7 +327,7 @@ impl<D: Disk> Engine<D> {
         ensures journal { self.new.journal ≡ self.old.journal }
         ensures fresh { (w : World) → Stands w self.old → ReadsNoTable session query.now w → steps.new ≡ steps.old }
         ensures most { (w : World) (settings : schema.Settings) → settings.combine ≡ self.old.store.settings.combine → Stands w self.old → ReadsViews session query.now w
-            → TakesSteps w (forced_by settings session query.now w) steps.old steps.new }
+            → (n : ℕ) → AreCosts (IsCostBetween w.visible) (forced_by settings session query.now w) n → steps.new ≤ steps.old + n }
     {
         self.store.query(alloc, session, query, offers, steps)
     }

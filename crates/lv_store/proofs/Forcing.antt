@@ -120,7 +120,7 @@ module _ (p : Store) (w : World) (is : Stands w (store_of p)) where
 
   -- the same of steps that follow each other
   module _ (fs : List Forced) (follow : StepsFollow w fs) where
-    steps_kept : AllByRecursion (IsKeptStep w) fs
+    pub steps_kept : AllByRecursion (IsKeptStep w) fs
     steps_kept = each_kept fs w is.steady follow
 
     pub steps_in_use : (n : ℕ) → length p.schema.views ≤ n → AllByRecursion (λ f. f.view < n) fs

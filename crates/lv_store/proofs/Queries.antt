@@ -1,5 +1,5 @@
 -- A query: its steps, its rows, and what stands after it.
-use Rattle.std.proofs.Common.{◌≡◌, ℕ, ◌<◌, ◌≤◌, Bool, true, List, [], ◌∷◌, map, length, refl, sym, ap, ◌∙◌, subst, arith}
+use Rattle.std.proofs.Common.{◌≡◌, ℕ, ◌+◌, ◌<◌, ◌≤◌, Bool, true, List, [], ◌∷◌, map, length, refl, sym, ap, ◌∙◌, subst, arith}
 use Rattle.std.specs.Prelude.{nat_lt}
 use Rattle.std.specs.List.{AllByRecursion, list_all}
 use Rattle.std.proofs.lemmas.Bool.Decides.{nat_tests}
@@ -24,12 +24,14 @@ use Rattle.lv_stands.specs.Stands.{StandsFor}
 use Rattle.lv_stands.proofs.Runs.{forced_reads, steps_stand}
 use Rattle.lv_store.specs.declared.answer.Answer.{Answer}
 use Rattle.lv_store.specs.declared.store.Store.{Store}
-use Rattle.lv_store.specs.Answering.{GivesQuery, ReadsNoTable, ReadsViews, TakesSteps}
+use Rattle.lv_store.specs.Answering.{GivesQuery, ReadsNoTable, ReadsViews}
+use Rattle.lv_store.specs.Inputs.{AreCosts, IsCostBetween}
 use Rattle.lv_store.specs.declared.pending.Difference.{Difference}
 use Rattle.lv_store.specs.Pending.{AreUpTo, ArePending, CanAllTake, CanRead, CanTakeEach, difference_in, on_view}
-use Rattle.lv_store.specs.Querying.{CanInstallAll, InPlaceOf, OnlyRoom, StepsInstall, TakesInPlace, changes_in, reads_kept, rel_rows_in, steps_in, upkeep_after}
+use Rattle.lv_store.specs.Querying.{CanInstallAll, InPlaceOf, IsCostIn, OnlyRoom, StepsInstall, changes_in, reads_kept, rel_rows_in, steps_in, upkeep_after}
 use Rattle.lv_store.specs.Kept.{IsStore, StoreKept, Stands, is_used, kept, rows_in, rows_of, store_of}
 use Rattle.lv_store.proofs.Forcing.{changes_all_told, costs_all_told, fresh_forces_none, read_at, steps_are, steps_follow, steps_in_use, with_combine}
+use Rattle.lv_store.proofs.JoinedSteps.{costs_stand}
 use Rattle.lv_store.proofs.OneView.{all_on_view, follow_on_view, of_view}
 use Rattle.lv_store.proofs.OwnReads.{rows_long, snapshot_below, transaction_stands}
 use Rattle.lv_store.proofs.PendingSteps.{can_take}
@@ -84,19 +86,15 @@ module _ (p : Store) (session : ℕ) (query : Query) (bound : IsBoundQuery p.sch
       (each_passes (λ v. write_none (transaction session w.visible).actions (view_at w.visible.views v).tables) (views_of query) none.unwritten))
 
   -- ---- how much is read for the steps
-  pub takes_nothing : (w : World) → Stands w (store_of p) → (old : ℕ) → TakesInPlace p w (steps_in p session query) old old
-  takes_nothing w is old = record {
-    taken = steps_in p session query;
-    place = record { follow = steps_follow p w is session query bound; same = refl };
-    most = λ n c. omega arith;
-  }
+  pub takes_most : (w : World) → Stands w (store_of p) → (taken : List Forced) → InPlaceOf w (steps_in p session query) taken → (old new : ℕ) → ((m : ℕ) → AreCosts (IsCostIn p) taken m → new ≤ old + m)
+      → (n : ℕ) → AreCosts (IsCostBetween w.visible) (steps_in p session query) n → new ≤ old + n
+  takes_most w is taken place old new most n costs = costs_stand w.visible taken new (old + n) (λ m c.
+      let less = place.most n m costs c in
+      let here = most m (costs_all_told p w is taken place.follow m c) in
+      omega (arith, less, here))
 
-  pub takes_told : (w : World) → Stands w (store_of p) → (settings : Settings) → settings.combine ≡ p.settings.combine → (old new : ℕ) → TakesInPlace p w (steps_in p session query) old new → TakesSteps w (forced_by settings session query w) old new
-  takes_told w is settings same old new t = record {
-    taken = t.taken;
-    place = subst (λ fs. InPlaceOf w fs t.taken) (steps_are p w is session query bound settings same) t.place;
-    most = λ n c. t.most n (costs_all_told p w is t.taken t.place.follow n c);
-  }
+  pub forced_are_costs : (w : World) → Stands w (store_of p) → (settings : Settings) → settings.combine ≡ p.settings.combine → (n : ℕ) → AreCosts (IsCostBetween w.visible) (forced_by settings session query w) n → AreCosts (IsCostBetween w.visible) (steps_in p session query) n
+  forced_are_costs w is settings same n costs = subst (λ fs. AreCosts (IsCostBetween w.visible) fs n) (sym (steps_are p w is session query bound settings same)) costs
 
   -- each step of those that are taken is of a view in use, and can be installed
   pub steps_below : (w : World) → Stands w (store_of p) → (taken : List Forced) → StepsFollow w taken → (n : ℕ) → length p.schema.views ≤ n → AllByRecursion (λ f. f.view < n) taken

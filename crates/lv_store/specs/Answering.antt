@@ -1,14 +1,12 @@
 -- What a call says of a case of the plain machine, in each world that the engine stood for.
-use Rattle.std.specs.Prelude.{◌≡◌, ℕ, ◌+◌, ◌≤◌, Bool, true, false, List, Option, Some, None, Result, Ok, Err}
+use Rattle.std.specs.Prelude.{◌≡◌, ℕ, Bool, true, false, List, Option, Some, None, Result, Ok, Err}
 use Rattle.std.specs.List.{list_all}
 use Rattle.lv_schema.specs.declared.fault.Fault.{Fault}
-use Rattle.lv_schema.specs.declared.forced.Forced.{Forced}
 use Rattle.lv_schema.specs.declared.query.Query.{Query}
 use Rattle.lv_schema.specs.declared.query.Rel.{Rel}
 use Rattle.lv_schema.specs.declared.query.Rel.TheVariants as rel
 use Rattle.lv_schema.specs.declared.rec.Rec.{Rec}
 use Rattle.lv_schema.specs.Cases.{Case}
-use Rattle.lv_schema.specs.Jobs.{parts_between}
 use Rattle.lv_schema.specs.Keys.{write_none}
 use Rattle.lv_schema.specs.Tasks.{AreFresh}
 use Rattle.lv_schema.specs.UpkeepCases.{views_of, with_record}
@@ -16,11 +14,9 @@ use Rattle.lv_schema.specs.WholeWorld.{Done, Queried, world_after}
 use Rattle.lv_schema.specs.World.{Visible, World, transaction, view_at}
 use Rattle.lv_effect.specs.declared.fault.EffectFault.{EffectFault}
 use Rattle.lv_effect.specs.declared.fault.EffectFault.TheVariants as effect
-use Rattle.lv_maint.specs.Inputs.{Input}
 use Rattle.lv_store.specs.declared.answer.Answer.{Answer}
-use Rattle.lv_store.specs.Inputs.{AreCosts, IsCostOf, IsInputOf}
+pub use Rattle.lv_store.specs.Inputs.{IsCostBetween, IsInputBetween}
 use Rattle.lv_store.specs.Kept.{StoreKept, Stands}
-use Rattle.lv_store.specs.Querying.{InPlaceOf}
 
 -- a world in which statements see this; and one in which this record was written besides
 abbrev pub with_visible : Visible → World → World
@@ -44,13 +40,6 @@ effect_fault (effect.Stmt fault) = Some fault
 effect_fault (effect.NoMemory) = None
 
 -- ---- queries
--- what a step is computed from, and what it costs to read that
-abbrev pub IsInputBetween : Visible → Forced → Input → Type 0
-IsInputBetween s f input = IsInputOf (view_at s.views f.view) f (parts_between s (view_at s.views f.view) f.lo f.hi) input
-
-abbrev pub IsCostBetween : Visible → Forced → ℕ → Type 0
-IsCostBetween s f n = IsCostOf (view_at s.views f.view) (parts_between s (view_at s.views f.view) f.lo f.hi) n
-
 -- the steps and the rows, and the world with the steps
 pub record GivesQuery (done : Done Queried) (a : Answer) (new : StoreKept) : Type 0 where
   pub forced : a.forced ≡ done.answer.forced
@@ -71,12 +60,6 @@ pub record ReadsNoTable (session : ℕ) (query : Query) (w : World) : Type 0 whe
 pub record ReadsViews (session : ℕ) (query : Query) (w : World) : Type 0 where
   pub views : list_all is_view query.rels ≡ true
   pub unwritten : list_all (λ v. write_none (transaction session w.visible).actions (view_at w.visible.views v).tables) (views_of query) ≡ true
-
--- at most the costs of the steps that are taken in place of those that a query forces: the fewest that lead where they lead
-pub record TakesSteps (w : World) (forced : List Forced) (old new : ℕ) : Type 0 where
-  pub taken : List Forced
-  pub place : InPlaceOf w forced taken
-  pub most : (n : ℕ) → AreCosts (IsCostBetween w.visible) taken n → new ≤ old + n
 
 -- a world that an engine stands for
 abbrev pub StandsForSome : StoreKept → Type 0

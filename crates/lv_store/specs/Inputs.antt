@@ -4,7 +4,8 @@ use Rattle.lv_schema.specs.declared.forced.Forced.{Forced}
 use Rattle.lv_schema.specs.declared.part.Part.{Part}
 use Rattle.lv_schema.specs.declared.view.ViewDef.{ViewDef}
 use Rattle.lv_schema.specs.Differences.{difference}
-use Rattle.lv_schema.specs.Jobs.{new_sides, old_sides}
+use Rattle.lv_schema.specs.Jobs.{new_sides, old_sides, parts_between}
+use Rattle.lv_schema.specs.World.{Visible, view_at}
 use Rattle.lv_maint.specs.Inputs.{Input}
 use Rattle.lv_near.specs.Small.{IsSmallInput}
 use Rattle.lv_reach.specs.declared.rows.AliasRow.{AliasRow}
@@ -23,6 +24,13 @@ pub record IsCostOf (def : ViewDef) (whole : List Part) (n : ℕ) : Type 0 where
   pub far : ℕ → Bool
   pub reach : IsReach (links_of def.cond) whole near far
   pub cost_is : n ≡ cost (links_of def.cond) whole near far
+
+-- the same, and the cost, of a step from one state to another
+abbrev pub IsInputBetween : Visible → Forced → Input → Type 0
+IsInputBetween s f input = IsInputOf (view_at s.views f.view) f (parts_between s (view_at s.views f.view) f.lo f.hi) input
+
+abbrev pub IsCostBetween : Visible → Forced → ℕ → Type 0
+IsCostBetween s f n = IsCostOf (view_at s.views f.view) (parts_between s (view_at s.views f.view) f.lo f.hi) n
 
 -- the sum of the costs of steps
 module _ (is_cost : Forced → ℕ → Type 0) where

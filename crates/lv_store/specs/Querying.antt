@@ -16,7 +16,8 @@ use Rattle.lv_schema.specs.Jobs.{old_sides, new_sides}
 use Rattle.lv_schema.specs.Keys.{writes_table}
 use Rattle.lv_schema.specs.StepPlans.{is_inside}
 use Rattle.lv_schema.specs.UpkeepCases.{views_of, with_steps}
-use Rattle.lv_schema.specs.World.{World, table_at, view_at}
+use Rattle.lv_schema.specs.World.{Visible, World, table_at, view_at}
+use Rattle.lv_joining.specs.Kept.{KeepsLinksBetween}
 use Rattle.lv_maint.specs.Inputs.{FitOver, Input}
 use Rattle.lv_overlay.specs.Puts.{rows_over}
 use Rattle.lv_txn.specs.Kept.{live_kept, transaction_at, transaction_of}
@@ -28,7 +29,7 @@ use Rattle.lv_stands.specs.Kept as stands
 use Rattle.lv_stands.specs.Moves.{StepsFollow, part_in}
 use Rattle.lv_base.specs.Bases.{base_of, defs_of, table_in}
 use Rattle.lv_store.specs.declared.store.Store.{Store}
-use Rattle.lv_store.specs.Inputs.{AreCosts, IsCostOf, IsInputOf}
+use Rattle.lv_store.specs.Inputs.{AreCosts, IsCostBetween, IsCostOf, IsInputOf}
 use Rattle.lv_store.specs.Kept.{rows_in}
 
 -- ---- what a session reads
@@ -67,10 +68,18 @@ reads_kept p session (View v) = not (has_written p session v)
 abbrev pub steps_in : Store → ℕ → Query → List Forced
 steps_in p session query = forced_in (is_inside (live_kept p.txns)) p.settings.combine p.upkeep.kept (views_of query) (snapshot_in p session)
 
--- steps that can be taken in place of others: each begins where its view stands then, and all views end at the same points
+-- steps that can be taken in place of others: each begins where its view stands then, all views end at the same points, and
+-- they cost no more
 pub record InPlaceOf (w : World) (steps taken : List Forced) : Type 0 where
   pub follow : StepsFollow w taken
   pub same : with_steps taken w.upkeep ≡ with_steps steps w.upkeep
+  pub most : (n m : ℕ) → AreCosts (IsCostBetween w.visible) steps n → AreCosts (IsCostBetween w.visible) taken m → m ≤ n
+
+-- a step that is taken in place of some, of which this is the last one: those before it keep links
+pub record IsJoined (s : Visible) (joined last : Forced) : Type 0 where
+  pub view : joined.view ≡ last.view
+  pub hi : joined.hi ≡ last.hi
+  pub keeps : KeepsLinksBetween s last.view joined.lo last.lo
 
 -- what a step is computed from, and the difference that it gives
 abbrev pub parts_in : Store → Forced → List Part
@@ -93,12 +102,6 @@ pub record CanCompute (p : Store) (f : Forced) : Type 0 where
   pub views : List ViewDef
   pub fit : FitOver p.schema.tables views (view_at p.schema.views f.view) (parts_in p f)
   pub tables_are : defs_of p.base ≡ p.schema.tables
-
--- at most the costs of steps that are taken in place of others
-pub record TakesInPlace (p : Store) (w : World) (steps : List Forced) (old new : ℕ) : Type 0 where
-  pub taken : List Forced
-  pub place : InPlaceOf w steps taken
-  pub most : (n : ℕ) → AreCosts (IsCostIn p) taken n → new ≤ old + n
 
 -- ---- what steps make of the rows of views
 -- the rows of a view take a difference

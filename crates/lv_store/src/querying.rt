@@ -9,9 +9,9 @@ ghost use Rattle.lv_schema.specs.WholeWorld.{querying};
 ghost use Rattle.lv_schema.specs.World.{World};
 ghost use Rattle.lv_schema.specs.World as schema;
 ghost use Rattle.lv_txn.specs.Kept.{IsLive};
-ghost use Rattle.lv_store.specs.Answering.{GivesQuery, IsCostBetween, IsInputBetween, ReadsNoTable, ReadsViews, TakesSteps};
+ghost use Rattle.lv_store.specs.Answering.{GivesQuery, IsCostBetween, IsInputBetween, ReadsNoTable, ReadsViews};
 ghost use Rattle.lv_store.specs.Pending.{AllTake, ArePending, CanAllTake};
-ghost use Rattle.lv_store.specs.Querying.{InPlaceOf, OnlyRoom, TakesInPlace, reads_kept, rel_rows_in, steps_in, upkeep_after};
+ghost use Rattle.lv_store.specs.Querying.{InPlaceOf, OnlyRoom, reads_kept, rel_rows_in, steps_in, upkeep_after};
 ghost use Rattle.lv_store.specs.Inputs.{AreCosts};
 ghost use Rattle.lv_viewrows.specs.Kept.{ViewKept};
 ghost use Rattle.lv_store.specs.Kept.{IsStore, Stands, store_of};
@@ -53,7 +53,7 @@ impl Store {
         ensures pending { IfOk result (λ found. ArePending self.now found.taken found.pending) }
         ensures rows { (last : List ViewKept) → IfOk result (λ found. AllTake found.pending self.now.rows.list last → found.rows ≡ answer_over query.now (map (rel_rows_in self.now session last) query.now.rels)) }
         ensures cost { steps_in self.now session query.now ≡ [] → list_all (reads_kept self.now session) query.now.rels ≡ true → steps.new ≡ steps.old }
-        ensures most { list_all (reads_kept self.now session) query.now.rels ≡ true → (w : World) → Stands w (store_of self.now) → TakesInPlace self.now w (steps_in self.now session query.now) steps.old steps.new }
+        ensures most { list_all (reads_kept self.now session) query.now.rels ≡ true → (w : World) → Stands w (store_of self.now) → (n : ℕ) → AreCosts (IsCostBetween w.visible) (steps_in self.now session query.now) n → steps.new ≤ steps.old + n }
     {
         let forced = self.forced(alloc, session, query)?;
         let taken = self.to_take(alloc, &forced, &offers)?;
@@ -109,7 +109,7 @@ impl Store {
 
     /// A query of a session that is live. Cost: that of the steps that are taken for those that it forces, of their
     /// installs, and of its answer. Where it names no table and the transaction wrote none of its views' tables, it reads at most what the
-    /// steps cost that are taken, also for want of memory.
+    /// steps cost that it forces, each by itself, also for want of memory.
     pub fn query<L: Ledger>(
         &mut self,
         alloc: Global,
@@ -129,7 +129,7 @@ impl Store {
         ensures settings { (store_of self.new).settings ≡ (store_of self.old).settings }
         ensures fresh { (w : World) → Stands w (store_of self.old) → ReadsNoTable session query.now w → steps.new ≡ steps.old }
         ensures most { (w : World) (settings : schema.Settings) → settings.combine ≡ (store_of self.old).settings.combine → Stands w (store_of self.old) → ReadsViews session query.now w
-            → TakesSteps w (forced_by settings session query.now w) steps.old steps.new }
+            → (n : ℕ) → AreCosts (IsCostBetween w.visible) (forced_by settings session query.now w) n → steps.new ≤ steps.old + n }
         ensures whole { IsStore self.new }
     {
         let found = self.find(alloc, session, query, offers, steps)?;

@@ -8,7 +8,7 @@ use Rattle.lv_store.specs.declared.store.Store.{Store}
 use Rattle.lv_store.specs.Kept.{Stands, store_of}
 use Rattle.lv_store.proofs.OwnReads.{points_long, rows_long}
 use Rattle.lv_store.proofs.PendingSteps.{steps_install}
-use Rattle.lv_store.proofs.Queries.{after_is, all_below, can_take_pending, gives, reads_nothing, reads_views, refused_store, refused_whole, steps_below, still_engine, taken_store, takes_told}
+use Rattle.lv_store.proofs.Queries.{after_is, all_below, can_take_pending, forced_are_costs, gives, reads_nothing, reads_views, refused_store, refused_whole, steps_below, still_engine, taken_store}
 use Rattle.lv_store.proofs.store.Store.query.Goals as goal
 
 on_err : {A E P : Type 0} (r : Result A E) → P → OnErr r P
@@ -97,28 +97,25 @@ returns-in_err-take_steps-clause-whole g c =
     refused_whole c.args.self.now c.take_steps.new.self told.others told.refused c.requires.whole
 
 pub returns-in_err-found-clause-most : goal.returns-in_err-found-clause-most
-returns-in_err-found-clause-most g c = λ w settings same is views.
+returns-in_err-found-clause-most g c = λ w settings same is views n costs.
     let p = c.args.self.now in
     let session = c.args.session in
     let query = c.args.query.now in
     let bound = c.requires.bound in
-    takes_told p session query bound w is settings same c.args.steps.now c.find.new.steps
-    (c.find.ensures.most (reads_views p session query bound w is c.requires.live views) w is)
+    c.find.ensures.most (reads_views p session query bound w is c.requires.live views) w is n (forced_are_costs p session query bound w is settings same n costs)
 
 pub returns-clause-most : goal.returns-clause-most
-returns-clause-most g c = λ w settings same is views.
+returns-clause-most g c = λ w settings same is views n costs.
     let p = c.args.self.now in
     let session = c.args.session in
     let query = c.args.query.now in
     let bound = c.requires.bound in
-    takes_told p session query bound w is settings same c.args.steps.now c.find.new.steps
-    (c.find.ensures.most (reads_views p session query bound w is c.requires.live views) w is)
+    c.find.ensures.most (reads_views p session query bound w is c.requires.live views) w is n (forced_are_costs p session query bound w is settings same n costs)
 
 pub returns-in_err-take_steps-clause-most : goal.returns-in_err-take_steps-clause-most
-returns-in_err-take_steps-clause-most g c = λ w settings same is views.
+returns-in_err-take_steps-clause-most g c = λ w settings same is views n costs.
     let p = c.args.self.now in
     let session = c.args.session in
     let query = c.args.query.now in
     let bound = c.requires.bound in
-    takes_told p session query bound w is settings same c.args.steps.now c.find.new.steps
-    (c.find.ensures.most (reads_views p session query bound w is c.requires.live views) w is)
+    c.find.ensures.most (reads_views p session query bound w is c.requires.live views) w is n (forced_are_costs p session query bound w is settings same n costs)
