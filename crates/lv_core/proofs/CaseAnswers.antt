@@ -34,6 +34,8 @@ use Rattle.lv_engine.specs.declared.fault.CreateFault.TheVariants as create
 use Rattle.lv_engine.proofs.Logged.{unchanged_logs}
 use Rattle.lv_engine.specs.Answering.{GivesQuery, LogsUnless, Refuses, commit_fault, create_fault, shows_store}
 use Rattle.lv_engine.specs.Kept.{EngineView, Stands, length_of}
+use Rattle.lv_engine.specs.Records.{Logs}
+use Rattle.lv_engine.specs.Writing.{IsUntouched}
 use Rattle.lv_core.specs.declared.answered.Answered.{Answered}
 use Rattle.lv_core.specs.Answering.{Answers, CommitsAlone, GivesAlone, GivesTurn, IsRefusal, IsUndone, Journals, alone_after, turned, with_transaction}
 
@@ -49,6 +51,19 @@ commit_store (commit.TableFull table) is = absurd cc
 commit_store (commit.Full need limit) is = absurd cc
 commit_store (commit.Store) is = refl
 commit_store (commit.NoMemory) is = absurd cc
+
+-- and which are want of memory
+pub create_other : {A : Type 0} (e : CreateFault) → create_fault e ≡ None → ◌≡◌ {A = Result A CreateFault} (Err e) (Err create.Store) → ⊥
+create_other (create.Store) none is = cc
+create_other (create.Full need limit) none is = cc
+create_other (create.NoMemory) none is = cc
+
+pub commit_other : {A : Type 0} (e : CommitFault) → commit_fault e ≡ None → ◌≡◌ {A = Result A CommitFault} (Err e) (Err commit.Store) → ⊥
+commit_other (commit.Conflict c) none is = cc
+commit_other (commit.TableFull table) none is = cc
+commit_other (commit.Full need limit) none is = cc
+commit_other (commit.Store) none is = cc
+commit_other (commit.NoMemory) none is = cc
 
 pub errs : {A E : Type 0} (a b : E) → a ≡ b → ◌≡◌ {A = Result A E} (Err a) (Err b)
 errs a b is = λ i. Err (is i)
@@ -176,10 +191,17 @@ module _ {D : Type 0} (seen : D → Option (List ℕ)) (may_leave : D → List �
   journals_between attempted written a old new b first second h =
       subst (λ (j : Writer D). Recorded attempted written a j) second (subst (λ (j : Writer D). Recorded attempted written j new) (sym first) h)
 
+  abbrev pub Untouched : Writer D → Writer D → Type 0
+  Untouched old new = IsUntouched seen may_leave failures old.disk new.disk
+
+  pub untouched_same : (old new : Writer D) → new ≡ old → Untouched old new
+  untouched_same old new same = subst (λ (j : Writer D). Untouched old j) (sym same) (record { tells = refl; images = λ bytes left. left; count = refl })
+
   pub undone_same : (old new : EngineView D) → new ≡ old → Undone old new
   undone_same old new same = record {
     same = record { store_is = ap (λ (e : EngineView D). e.store) same; length_is = ap (λ (e : EngineView D). length_of e.journal) same };
-    journal = journals_same old.journal new.journal (ap (λ (e : EngineView D). e.journal) same);
+    logs = unchanged_logs seen may_leave moment left_since old.journal new.journal (ap (λ (e : EngineView D). e.journal) same);
+    disk = untouched_same old.journal new.journal (ap (λ (e : EngineView D). e.journal) same);
   }
 
   pub refused_quiet : {A : Type 0} (fault : Option Fault) (c : Case A) (old new : Writer D) → new ≡ old → c.attempted ≡ None → c.written ≡ None → LogsUnless seen may_leave moment left_since fault c.attempted c.written old new
@@ -201,11 +223,12 @@ module _ {D : Type 0} (seen : D → Option (List ℕ)) (may_leave : D → List �
     refuses fails a f none is h journal cause = record { fails = fails; forced = none; reply = is ∙ sym (ap (reply_or make) h.0); stands = h.1; journal = journal; cause = cause }
 
     pub answers_refused : {E : Type 0} (fails : Bool) (r : Result Answered E) (fault : Option Fault) → IsRefusal fault r → Refuses fault w old new (case_if fails)
-        → LogsUnless seen may_leave moment left_since fault (case_if fails).attempted (case_if fails).written old.journal new.journal → failures old.journal.disk ≤ failures new.journal.disk → Caused fails old new → Ans w old new r [] turns
-    answers_refused fails (Ok a) (Some f) is h logs later cause = refuses fails a f is.0 is.1 h (record { logs = logs; later = later }) cause
-    answers_refused fails (Err e) (Some f) is h logs later cause = absurd is
-    answers_refused fails (Ok a) None is h logs later cause = absurd is
-    answers_refused fails (Err e) None is h logs later cause = record { same = h; journal = record { logs = logs; later = later } }
+        → LogsUnless seen may_leave moment left_since fault (case_if fails).attempted (case_if fails).written old.journal new.journal → failures old.journal.disk ≤ failures new.journal.disk → Caused fails old new → (fault ≡ None → Untouched old.journal new.journal)
+        → Ans w old new r [] turns
+    answers_refused fails (Ok a) (Some f) is h logs later cause untouched = refuses fails a f is.0 is.1 h (record { logs = logs; later = later }) cause
+    answers_refused fails (Err e) (Some f) is h logs later cause untouched = absurd is
+    answers_refused fails (Ok a) None is h logs later cause untouched = absurd is
+    answers_refused fails (Err e) None is h logs later cause untouched = record { same = h; logs = logs; disk = untouched refl }
 
   -- of a case in which nothing is written
   pub gives_quiet : {A : Type 0} (make : A → Reply) (c : Case A) (w : World) (old new : EngineView D) (a : Answered) (x : A) → a.forced ≡ [] → a.reply ≡ make x → c.attempted ≡ None → c.written ≡ None → new.journal ≡ old.journal
@@ -243,8 +266,9 @@ module _ {D : Type 0} (seen : D → Option (List ℕ)) (may_leave : D → List �
       journal_is = sym (ap (λ (e : EngineView D). e.journal) ended)
 
       pub alone_refused : {E : Type 0} (r : Result Answered E) (fault : Option Fault) → IsRefusal fault r → Refuses fault w old mid (case_if fails)
-          → LogsUnless seen may_leave moment left_since fault (case_if fails).attempted (case_if fails).written old.journal mid.journal → CommitsAlone seen may_leave moment left_since failures count session w old new r case_if
-      alone_refused (Ok a) (Some f) is h logs = record {
+          → LogsUnless seen may_leave moment left_since fault (case_if fails).attempted (case_if fails).written old.journal mid.journal → (fault ≡ None → Untouched old.journal mid.journal)
+          → CommitsAlone seen may_leave moment left_since failures count session w old new r case_if
+      alone_refused (Ok a) (Some f) is h logs untouched = record {
         fails = fails;
         forced = is.0;
         reply = is.1 ∙ sym (ap (reply_or (reply.Alone count)) h.0);
@@ -252,14 +276,15 @@ module _ {D : Type 0} (seen : D → Option (List ℕ)) (may_leave : D → List �
         journal = journals_between (case_if fails).attempted (case_if fails).written old.journal old.journal mid.journal new.journal refl journal_is (record { logs = logs; later = later });
         cause = λ is. subst (λ (j : Writer D). Rose (failures old.journal.disk) (failures j.disk)) journal_is (cause is);
       }
-      alone_refused (Err e) (Some f) is h logs = absurd is
-      alone_refused (Ok a) None is h logs = absurd is
-      alone_refused (Err e) None is h logs = record {
+      alone_refused (Err e) (Some f) is h logs untouched = absurd is
+      alone_refused (Ok a) None is h logs untouched = absurd is
+      alone_refused (Err e) None is h logs untouched = record {
         same = record {
           store_is = ap (λ (e : EngineView D). e.store) ended ∙ ap (λ (s : StoreKept). record s { sessions = slice_set s.sessions session None }) h.store_is;
           length_is = sym (ap (λ (j : Writer D). length_of j) journal_is) ∙ h.length_is;
         };
-        journal = journals_between None None old.journal old.journal mid.journal new.journal refl journal_is (record { logs = logs; later = later });
+        logs = subst (λ (j : Writer D). Logs seen may_leave moment left_since None None old.journal j) journal_is logs;
+        disk = subst (λ (j : Writer D). Untouched old.journal j) journal_is (untouched refl);
       }
 
   -- ---- a change outside a transaction

@@ -16,6 +16,7 @@ use Rattle.lv_replay.specs.Runs.{mark_written}
 use Rattle.lv_engine.specs.Answering.{LogsUnless, MarkRefuses}
 use Rattle.lv_engine.specs.Kept.{EngineView}
 use Rattle.lv_engine.specs.Records.{Logs}
+use Rattle.lv_engine.specs.Writing.{IsUntouched}
 use Rattle.lv_core.specs.Answering.{GivesMark, IsUndone}
 use Rattle.lv_crash.proofs.Follows.{Follows}
 
@@ -44,9 +45,9 @@ module _ {D : Type 0} (seen : D → Option (List ℕ)) (may_leave : D → List �
   m fails = marking (outcome_of rules.settings fails w.upkeep) view w.upkeep
 
   pub mark_undone : (fails : Bool) (fault : Option Fault) → fault ≡ None → MarkRefuses fault w old new (m fails) → LogsUnless seen may_leave moment left_since fault (m fails).attempted (mark_written (m fails)) old.journal new.journal
-      → failures old.journal.disk ≤ failures new.journal.disk → IsUndone seen may_leave moment left_since failures old new
-  mark_undone fails (Some f) none h logs later = absurd cc
-  mark_undone fails None none h logs later = record { same = h; journal = record { logs = logs; later = later } }
+      → IsUntouched seen may_leave failures old.journal.disk new.journal.disk → IsUndone seen may_leave moment left_since failures old new
+  mark_undone fails (Some f) none h logs untouched = absurd cc
+  mark_undone fails None none h logs untouched = record { same = h; logs = logs; disk = untouched }
 
   pub mark_refused : (fails : Bool) (fault : Option Fault) (f : Fault) → fault ≡ Some f → MarkRefuses fault w old new (m fails) → LogsUnless seen may_leave moment left_since fault (m fails).attempted (mark_written (m fails)) old.journal new.journal
       → failures old.journal.disk ≤ failures new.journal.disk → (fails ≡ true → Rose (failures old.journal.disk) (failures new.journal.disk))

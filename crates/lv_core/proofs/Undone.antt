@@ -19,8 +19,8 @@ stands_yet w old new same h = record {
   journal_is = same.length_is ∙ h.journal_is;
 }
 
-still_caused : (shown old new : ℕ) → min shown (2 ^ 64 - 1) ≤ old → old ≤ new → min shown (2 ^ 64 - 1) ≤ new
-still_caused shown old new le later = omega (arith, le, later)
+still_caused : (shown old new : ℕ) → min shown (2 ^ 64 - 1) ≤ old → new ≡ old → min shown (2 ^ 64 - 1) ≤ new
+still_caused shown old new le same = omega (arith, le, same)
 
 -- the run over another engine
 abbrev pub over : {D : Type 0} → CoreView D → EngineView D → CoreView D
@@ -43,8 +43,8 @@ module _ {D : Type 0} (seen : D → Option (List ℕ)) (may_leave : D → List �
       places_are = held.places_are;
       claims = held.claims;
       stands = stands_yet (state_of c).world c.engine new undone.same held.stands;
-      records = λ recs has. logged_undone seen may_leave moment left_since failures c new recs (held.records recs has) undone.journal.logs;
-      caused = still_caused (failures c.opened.journal.disk + failures_shown c.entries) (failures c.engine.journal.disk) (failures new.journal.disk) held.caused undone.journal.later;
+      records = λ recs has. logged_undone seen may_leave moment left_since failures c new recs (held.records recs has) undone.logs;
+      caused = still_caused (failures c.opened.journal.disk + failures_shown c.entries) (failures c.engine.journal.disk) (failures new.journal.disk) held.caused undone.disk.count;
     }
 
     pub roomy_yet : (spare more : ℕ) → IsRoomy seen may_leave moment left_since failures c spare → spare ≤ more → IsRoomy seen may_leave moment left_since failures (over c new) more
@@ -61,7 +61,7 @@ module _ {D : Type 0} (seen : D → Option (List ℕ)) (may_leave : D → List �
     over_is : view_of policy p new opened places later ≡ over c new
     over_is = (λ i. seen_with (undone.same.store_is i) (same i)) ∙ ap (λ (v : CoreView D). over v new) is
 
-    undone_here : IsUndone seen may_leave moment left_since failures c.engine new
+    pub undone_here : IsUndone seen may_leave moment left_since failures c.engine new
     undone_here = subst (λ (v : CoreView D). IsUndone seen may_leave moment left_since failures v.engine new) is undone
 
     pub same_undone : run.IsSame c (view_of policy p new opened places later)

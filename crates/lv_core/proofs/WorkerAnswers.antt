@@ -1,6 +1,6 @@
 -- What the engine's calls of workers and clean-ups answer is what the plain machine gives.
 use Rattle.std.proofs.Common.{◌≡◌, ℕ, ◌<◌, ◌≤◌, true, false, List, [], ◌∷◌, length, Option, Some, None, refl, sym, ap, ◌∙◌, subst, arith}
-use Rattle.std.specs.Prelude.{is_some, IsSome, slice_index_or}
+use Rattle.std.specs.Prelude.{is_some, IsSome}
 use Rattle.std.proofs.lemmas.List.{get_or-set_same}
 use Rattle.lv_schema.specs.declared.forced.Forced.{Forced}
 use Rattle.lv_schema.specs.declared.pending.Pending.{Pending}
@@ -20,11 +20,8 @@ use Rattle.lv_store.specs.declared.installed.Installed.{Installed as InstallAnsw
 use Rattle.lv_store.specs.Maintaining.{IsGiven, told}
 use Rattle.lv_engine.specs.Answering.{GivesFetch, GivesInstall}
 use Rattle.lv_engine.specs.Kept.{EngineView, Stands}
+use Rattle.lv_engine.proofs.NoneLeft.{claim_is}
 use Rattle.lv_core.specs.Answering.{GivesEntry}
-
--- a worker's claim that is kept is the world's
-pub claim_is : {D : Type 0} (w : World) (e : EngineView D) (worker : ℕ) → Stands w e → claim_kept e.store.upkeep worker ≡ claim_of w.upkeep worker
-claim_is w e worker stands = ap (λ (claims : List (Option Forced)). slice_index_or claims worker None) stands.store_stands.upkeep_stands.claims_are
 
 pub worker_there : {D : Type 0} (w : World) (e : EngineView D) (worker : ℕ) → Stands w e → worker ≤ 8 → worker < length w.upkeep.claims
 worker_there w e worker stands le = let nine = stands.store_stands.steady.workers in omega (arith, nine, le)

@@ -23,7 +23,9 @@ use Rattle.lv_core.specs.declared.jobs.Jobs.{Jobs}
 use Rattle.lv_core.specs.declared.jobs.Jobs.TheVariants.{Forced, Fetched}
 use Rattle.lv_core.specs.declared.jobs.Results.{Results}
 use Rattle.lv_core.specs.declared.jobs.Results.TheVariants as results
+use Rattle.lv_core.specs.Answering.{IsUndone}
 use Rattle.lv_core.specs.Run.{CoreView, Gave, IsSame, next_steps, rules_of, state_of}
+use Rattle.lv_core.specs.Slots.{SlotsKept, slot_of}
 
 -- ---- what a worker finds, by the views that it may be given
 -- nothing now, but a statement is left whose answer may change that
@@ -67,6 +69,10 @@ module _ {D : Type 0} (c : CoreView D) (actor : ℕ) where
   -- it holds nothing: a worker has no claim
   abbrev pub HoldsNothing : Type 0
   HoldsNothing = 16 < actor → claim_of (state_of c).world.upkeep (actor - 16) ≡ None
+
+-- and nothing lies in its slot
+abbrev pub IsFree : {D : Type 0} → CoreView D → SlotsKept → ℕ → Type 0
+IsFree c slots actor = HoldsNothing c actor × (16 < actor → slot_of slots (actor - 16) ≡ None)
 
 -- ---- work
 -- a session is handed out what the steps are computed from that its next statement would force now
@@ -125,7 +131,7 @@ module _ {D : Type 0} (seen : D → Option (List ℕ)) (may_leave : D → List �
   -- a session's give answers its next statement, if that may be answered now
   abbrev pub TurnsBy : {E : Type 0} → Bool → ℕ → CoreView D → CoreView D → Result (Unit {0}) E → Type 0
   TurnsBy true session old new (Ok done) = Gave seen may_leave moment left_since failures (turn_of session) old new
-  TurnsBy true session old new (Err e) = IsSame old new
+  TurnsBy true session old new (Err e) = IsSame old new × IsUndone seen may_leave moment left_since failures old.engine new.engine
   TurnsBy false session old new (Ok done) = new ≡ old
   TurnsBy false session old new (Err e) = ⊥
 

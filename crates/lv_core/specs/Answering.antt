@@ -23,6 +23,7 @@ use Rattle.lv_plain.specs.WrittenRecords.{answered_record}
 use Rattle.lv_txn.specs.Kept.{TransactionKept, transaction_at, transaction_of}
 use Rattle.lv_engine.specs.Kept.{EngineView, IsSame, Stands}
 use Rattle.lv_engine.specs.Records.{Logs}
+use Rattle.lv_engine.specs.Writing.{IsUntouched}
 use Rattle.lv_core.specs.declared.answered.Answered.{Answered}
 
 -- the world after a turn that forces these steps
@@ -61,10 +62,12 @@ module _ {D : Type 0} (seen : D → Option (List ℕ)) (may_leave : D → List �
     pub journal : Journals (turn_if fails).attempted (turn_if fails).written old.journal new.journal
     pub cause : fails ≡ true → Rose (failures old.journal.disk) (failures new.journal.disk)
 
-  -- want of memory leaves all but the room in the journal
+  -- want of memory leaves all but the room in the journal: this has the records that it had, the one in doubt among them, and
+  -- its disk was asked to write nothing
   pub record IsUndone (old new : EngineView D) : Type 0 where
     pub same : IsSame old new
-    pub journal : Journals None None old.journal new.journal
+    pub logs : Logs seen may_leave moment left_since None None old.journal new.journal
+    pub disk : IsUntouched seen may_leave failures old.journal.disk new.journal.disk
 
   abbrev pub Answers : {E : Type 0} → World → EngineView D → EngineView D → Result Answered E → List Forced → (Bool → Turn) → Type 0
   Answers w old new (Ok a) steps turn_if = GivesTurn w old new steps turn_if a

@@ -129,7 +129,7 @@ impl<D: Disk> Core<D> {
     /// Of a session the work is what the steps are computed from that its next statement would force now. It has ended
     /// where it has no statement to be answered now, and it never waits. The run stays as it is.
     ///
-    /// Of a worker the claim ends first that it may have. Then it fetches a step, and the work is what that is computed
+    /// Of a worker the claim ends first that it may have, and its slot is emptied. Then it fetches a step, and the work is what that is computed
     /// from. Where there is none to fetch, the worker waits if a statement is left, and has ended if none is; no entry
     /// comes of that. It has ended too where the setup is not answered. After want of memory it has no claim.
     ///
@@ -147,6 +147,8 @@ impl<D: Disk> Core<D> {
         ensures idle { IfOk result (λ taken. (taken ≡ Idle) ↔ Waits self.old.run actor) }
         ensures ended { IfOk result (λ taken. (taken ≡ Ended) ↔ Ends self.old.run actor) }
         ensures free { hands_out result ≡ false → HoldsNothing self.new.run actor }
+        ensures slot { 16 < actor → self.new.slots ≡ slots_without (actor - 16) self.old.slots }
+        ensures slots { actor ≤ 16 → self.new.slots ≡ self.old.slots }
     {
         if actor <= SESSIONS {
             self.take_forced(actor, steps)
@@ -174,6 +176,9 @@ impl<D: Disk> Core<D> {
         ensures session { actor ≤ 16 → Turns D.seen D.may_leave D.moment D.left_since D.failures actor self.old.run self.new.run result }
         ensures worker { 16 < actor → Gives D.seen D.may_leave D.moment D.left_since D.failures (actor - 16) self.old.run self.new.run result }
         ensures free { OnOk result (HoldsNothing self.new.run actor) }
+        ensures slot { OnOk result (16 < actor → self.new.slots ≡ slots_without (actor - 16) self.old.slots) }
+        ensures slots { actor ≤ 16 → self.new.slots ≡ self.old.slots }
+        ensures kept { OnErr result (self.new.slots ≡ self.old.slots) }
     {
         if actor <= SESSIONS {
             self.give_turn(actor, results.offers(self.alloc), steps)
@@ -190,6 +195,8 @@ impl<D: Disk> Core<D> {
         ensures session { actor ≤ 16 → self.new.run ≡ self.old.run }
         ensures worker { 16 < actor → Frees D.seen D.may_leave D.moment D.left_since D.failures (actor - 16) self.old.run self.new.run }
         ensures free { HoldsNothing self.new.run actor }
+        ensures slot { 16 < actor → self.new.slots ≡ slots_without (actor - 16) self.old.slots }
+        ensures slots { actor ≤ 16 → self.new.slots ≡ self.old.slots }
     {
         if actor <= SESSIONS {
             return;

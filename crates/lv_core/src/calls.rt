@@ -1,6 +1,7 @@
 //! The calls of a core.
-ghost use Rattle.std.specs.Prelude.{◌≡◌, [], List, true, is_some, replicate, None, Ok, OnErr, OnOk, IfErr, IfOk, map, ◌≤◌, ◌+◌, ℕ};
+ghost use Rattle.std.specs.Prelude.{◌≡◌, [], List, true, false, is_some, replicate, None, Ok, OnErr, OnOk, IfErr, IfOk, map, ◌≤◌, ◌+◌, ℕ};
 ghost use Rattle.std.specs.List.{AllZip};
+ghost use Rattle.lv_outside.specs.Causes.{Rose};
 ghost use Rattle.lv_values.specs.Names.{is_lower_name};
 ghost use Rattle.lv_schema.specs.declared.bound.Bound.TheVariants as bound;
 ghost use Rattle.lv_schema.specs.declared.query.Query.{Query as AQuery};
@@ -15,7 +16,8 @@ ghost use Rattle.lv_store.specs.Answering.{IsCostBetween, IsInputBetween, ReadsN
 ghost use Rattle.lv_store.specs.Inputs.{AreCosts};
 ghost use Rattle.lv_store.specs.Maintaining.{TakesGiven, TakesInstalled};
 ghost use Rattle.lv_engine.specs.Kept.{length_of};
-ghost use Rattle.lv_core.specs.Run.{Gave, IsOpenedBy, IsOpening, IsRun, IsSame, next_bound, next_steps, settings_of, state_of};
+ghost use Rattle.lv_core.specs.Answering.{IsUndone};
+ghost use Rattle.lv_core.specs.Run.{Gave, IsOpenedBy, IsOpening, IsRun, IsSame, IsSetupAlone, failures_shown, next_bound, next_steps, settings_of, state_of};
 ghost use Rattle.lv_core.specs.Slots.{GivesSlot, slot_of, slots_without};
 
 use crate::machine::Core;
@@ -64,10 +66,13 @@ impl<D: Disk> Core<D> {
         })
     }
 
-    /// What the core keeps of its run: its entries are legal, and its engine stands for the world after them. It is a law,
-    /// and the call does nothing.
+    /// What the core keeps of its run: its entries are legal, and its engine stands for the world after them. Where the
+    /// disk's count has not risen since the core was made no entry shows that it failed; and before the setup is answered no
+    /// session but the setup is live, and no worker has a claim. It is a law, and the call does nothing.
     pub fn known(&self)
-        ensures { IsRun D.seen D.may_leave D.moment D.left_since D.failures self.now.run }
+        ensures run { IsRun D.seen D.may_leave D.moment D.left_since D.failures self.now.run }
+        ensures unfailed { (Rose (D.failures self.now.run.opened.journal.disk) (D.failures self.now.run.engine.journal.disk) → ⊥) → failures_shown self.now.run.entries ≡ 0 }
+        ensures idle { setup_answered self.now.run.program self.now.run.places ≡ false → IsSetupAlone self.now.run.engine.store }
     {
         self.run.known();
     }
@@ -160,6 +165,7 @@ impl<D: Disk> Core<D> {
         ensures done { OnOk result (Gave D.seen D.may_leave D.moment D.left_since D.failures (turn_of session) self.old.run self.new.run) }
         ensures slots { self.new.slots ≡ self.old.slots }
         ensures kept { OnErr result (IsSame self.old.run self.new.run) }
+        ensures journal { OnErr result (IsUndone D.seen D.may_leave D.moment D.left_since D.failures self.old.run.engine self.new.run.engine) }
         ensures fresh { (query : AQuery) → next_bound self.old.run session ≡ Ok (bound.Query query) → ReadsNoTable session query (state_of self.old.run).world → steps.new ≡ steps.old }
     {
         self.run.turn(alloc, session, offers, steps)
@@ -259,6 +265,7 @@ impl<D: Disk> Core<D> {
         ensures done { OnOk result (Gave D.seen D.may_leave D.moment D.left_since D.failures (mark_of view.now) self.old.run self.new.run) }
         ensures slots { self.new.slots ≡ self.old.slots }
         ensures kept { OnErr result (IsSame self.old.run self.new.run) }
+        ensures journal { OnErr result (IsUndone D.seen D.may_leave D.moment D.left_since D.failures self.old.run.engine self.new.run.engine) }
     {
         self.run.mark(alloc, view)
     }

@@ -1,7 +1,10 @@
 //! A core that actors change in turn.
-ghost use Rattle.std.specs.Prelude.{◌≤◌};
-ghost use Rattle.lv_core.specs.Actors.{Ends, HoldsNothing, Waits};
-ghost use Rattle.lv_core.specs.Run.{IsRun};
+ghost use Rattle.std.specs.Prelude.{◌≡◌, ◌≤◌, ℕ, None};
+ghost use Rattle.lv_core.specs.Actors.{Ends, IsFree, Waits};
+ghost use Rattle.lv_core.specs.Run.{HasGrown, IsRun, state_of};
+ghost use Rattle.lv_core.specs.Slots.{slot_of};
+ghost use Rattle.lv_plain.specs.Legal.{IsWorker};
+ghost use Rattle.lv_schema.specs.UpkeepCases.{claim_of};
 
 use crate::jobs::{Assignment, Results, compute_all};
 use crate::machine::Core;
@@ -20,11 +23,13 @@ impl<D: Disk + Send> Machine for Core<D> {
 
     ghost keeps = { λ core. IsRun D.seen D.may_leave D.moment D.left_since D.failures core.run };
 
+    ghost becomes = { λ first core. HasGrown first.run core.run };
+
     ghost is_idle = { λ core actor. Waits core.run actor };
 
     ghost is_ended = { λ core actor. Ends core.run actor };
 
-    ghost is_free = { λ core actor. HoldsNothing core.run actor };
+    ghost is_free = { λ core actor. IsFree core.run core.slots actor };
 
     fn take<L: Ledger>(
         &mut self,
@@ -62,8 +67,9 @@ impl<D: Disk + Send> Machine for Core<D> {
 /// is outside the lock. A session has 100,000 turns at most, and a worker `turns`, of which idle ones count. The gate is
 /// called before and after each turn. `starved` says whether an actor met want of memory.
 ///
-/// It waits for the lock. Where it returns, the core that comes back keeps its run, as each core does. Nothing says that its
-/// program, its settings or what it was opened with are those of the core that was handed in: the caller compares them.
+/// It waits for the lock. Where it returns, the core that comes back keeps its run, as each core does. That is a run of the same
+/// program over the same opened engine, with all entries that there were, and others behind them; no worker has a claim, and
+/// their slots are empty. Nothing says which entries came, or that any did.
 pub fn drive_core<R: Threads + Wait + Sync, D: Disk + Send, G: Gate + Sync>(
     rt: &R,
     core: Core<D>,
@@ -75,6 +81,9 @@ pub fn drive_core<R: Threads + Wait + Sync, D: Disk + Send, G: Gate + Sync>(
     requires sessions { sessions ≤ 16 }
     requires workers { workers ≤ 8 }
     ensures known { IsRun D.seen D.may_leave D.moment D.left_since D.failures result.machine.run }
+    ensures same { HasGrown core.run result.machine.run }
+    ensures free { (worker : ℕ) → IsWorker worker → claim_of (state_of result.machine.run).world.upkeep worker ≡ None }
+    ensures slots { (worker : ℕ) → IsWorker worker → slot_of result.machine.slots worker ≡ None }
 {
     core.known();
     drive(rt, core, sessions, workers, turns, gate)

@@ -18,6 +18,7 @@ ghost use Rattle.lv_store.specs.Inputs.{AreCosts};
 ghost use Rattle.lv_store.specs.Maintaining.{TakesGiven, TakesInstalled};
 ghost use Rattle.lv_engine.specs.Kept.{length_of};
 ghost use Rattle.lv_core.specs.Actors.{Frees, HasFetched, Installs, views_for};
+ghost use Rattle.lv_core.specs.Answering.{IsUndone};
 ghost use Rattle.lv_core.specs.Slots.{IsNextInput};
 ghost use Rattle.lv_core.specs.Run.{Gave, IsOpenedBy, IsOpening, IsRun, IsSame, next_bound, next_steps, settings_of, state_of, view_of};
 
@@ -236,6 +237,7 @@ impl<D: Disk> Run<D> {
         requires may { may_turn self.old.program self.old.places session ≡ true }
         ensures done { OnOk result (Gave D.seen D.may_leave D.moment D.left_since D.failures (turn_of session) self.old self.new) }
         ensures kept { OnErr result (IsSame self.old self.new) }
+        ensures journal { OnErr result (IsUndone D.seen D.may_leave D.moment D.left_since D.failures self.old.engine self.new.engine) }
         ensures fresh { (query : AQuery) → next_bound self.old session ≡ Ok (bound.Query query) → ReadsNoTable session query (state_of self.old).world → steps.new ≡ steps.old }
     {
         make_room(&mut self.entries, 1)?;
@@ -379,6 +381,7 @@ impl<D: Disk> Run<D> {
         requires name { is_lower_name view.now ≡ true }
         ensures done { OnOk result (Gave D.seen D.may_leave D.moment D.left_since D.failures (mark_of view.now) self.old self.new) }
         ensures kept { OnErr result (IsSame self.old self.new) }
+        ensures journal { OnErr result (IsUndone D.seen D.may_leave D.moment D.left_since D.failures self.old.engine self.new.engine) }
     {
         make_room(&mut self.entries, 1)?;
         let Some(number) = view_of_name(self.engine.schema(), view) else {

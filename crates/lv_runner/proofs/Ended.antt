@@ -1,9 +1,10 @@
 -- What each status says, of words that are accepted.
-use Rattle.std.proofs.Common.{◌≡◌, ℕ, zero, suc, ◌<◌, ◌+◌, ◌-◌, ◌^◌, ◌≤◌, min, List, [], ◌++◌, length, Option, Some, None, inl, inr, refl, sym, ap, ◌∙◌, subst, arith}
+use Rattle.std.proofs.Common.{◌≡◌, ℕ, ◌<◌, ◌+◌, List, [], ◌++◌, length, Option, Some, None, inl, inr, refl, sym, ap, ◌∙◌, subst, arith}
 use Rattle.std.specs.Prelude.{◌⊎◌, Bool, false, IsTrue, IfSome, Ok}
 use Rattle.std.specs.Io.KnownBytes.{Consumes, IsAtEnd, Keeps}
 use Rattle.std.proofs.lemmas.List.{append-nil, length-append}
 use Rattle.lv_core.specs.Run.{failures_shown}
+use Rattle.lv_core.proofs.Known.{none_failed}
 use Rattle.lv_lines.specs.Script.{script_of}
 use Rattle.lv_outside.specs.Causes.{Rose}
 use Rattle.lv_recover.specs.Opening.{BadAt}
@@ -50,14 +51,6 @@ not_refused bytes program left0 left1 line kind told ok r = by left1 (subst (λ 
 script_stands : (made : Option ℕ) (left0 left1 : Option (List ℕ)) (line kind : ℕ) → HasScript made left0 → made ≡ None → Refused left0 left1 line kind → ⊥
 script_stands None left0 left1 line kind has none r = not_refused has.0 has.1 left0 left1 line kind has.2 has.3 r
 script_stands (Some n) left0 left1 line kind has none r = absurd cc
-
--- ---- a disk whose count did not rise failed at no entry
-none_failed : (count failed now : ℕ) → min (count + failed) (2 ^ 64 - 1) ≤ now → (Rose count now → ⊥) → failed ≡ 0
-none_failed count failed now caused well = by failed caused
-  where
-    by : (n : ℕ) → min (count + n) (2 ^ 64 - 1) ≤ now → n ≡ 0
-    by zero caused = refl
-    by (suc n) caused = absurd (well (omega (arith, caused)))
 
 module _ {D : Type 0} (seen : D → Option (List ℕ)) (may_leave : D → List ℕ → Type 0) (moment : D → ℕ) (left_since : D → ℕ → List ℕ → Type 0) (faults : D → ℕ) (holds : Option (List ℕ) → Option (List ℕ)) (old new : Outside) (back : Option D) (words : List (List ℕ)) (v : SaidWords) (is : said words ≡ Some v)
     (s : Status) (ends : Ends seen may_leave moment left_since faults v (holds v.log) v.log old new back s) where

@@ -1,7 +1,8 @@
 //! The threads of a run.
-ghost use Rattle.std.specs.Prelude.{◌≡◌, ◌≤◌, ◌<◌, ◌+◌};
+ghost use Rattle.std.specs.Prelude.{ℕ, ◌≡◌, ◌≤◌, ◌<◌, ◌+◌};
+ghost use Rattle.lv_shared.specs.Taking.{HasBecome};
 
-use crate::kept::Kept;
+use crate::kept::{Beginning, Kept};
 use crate::machine::{Machine, Taken};
 use crossbeam_utils::Backoff;
 use lv_outside::Gate;
@@ -45,9 +46,9 @@ fn turns_of(actor: u32, sessions: u32, workers: u32, turns: u32) -> u32
 }
 
 // One hold of the lock for each call. What it did to the machine is known by the type under the lock alone.
-fn take_next<R: Wait, M: Machine>(
+fn take_next<R: Wait, M: Machine, B: Beginning<M>>(
     rt: &R,
-    lock: &Mutex<Kept<M>>,
+    lock: &Mutex<Kept<M, B>>,
     actor: u32,
 ) -> Result<Taken<M::Work>, NoMemory>
     requires first { 1 ≤ actor }
@@ -56,9 +57,9 @@ fn take_next<R: Wait, M: Machine>(
     lock.lock(rt).take::<Brand>(actor, Blank::new(1))
 }
 
-fn hand_in<R: Wait, M: Machine>(
+fn hand_in<R: Wait, M: Machine, B: Beginning<M>>(
     rt: &R,
-    lock: &Mutex<Kept<M>>,
+    lock: &Mutex<Kept<M, B>>,
     actor: u32,
     done: Result<M::Done, NoMemory>,
 ) -> Result<(), NoMemory>
@@ -69,9 +70,9 @@ fn hand_in<R: Wait, M: Machine>(
 }
 
 /// One turn of an actor, and whether it is to have another one. The labour lies between two holds of the lock.
-fn turn<R: Wait, M: Machine>(
+fn turn<R: Wait, M: Machine, B: Beginning<M>>(
     rt: &R,
-    lock: &Mutex<Kept<M>>,
+    lock: &Mutex<Kept<M, B>>,
     actor: u32,
     backoff: &Backoff,
 ) -> Result<bool, NoMemory>
@@ -93,9 +94,9 @@ fn turn<R: Wait, M: Machine>(
 }
 
 /// The turns of one actor, until it has ended or has had them all.
-fn act<R: Wait, M: Machine, G: Gate>(
+fn act<R: Wait, M: Machine, G: Gate, B: Beginning<M>>(
     rt: &R,
-    lock: &Mutex<Kept<M>>,
+    lock: &Mutex<Kept<M, B>>,
     gate: &G,
     actor: u32,
     turns: u32,
@@ -115,16 +116,20 @@ fn act<R: Wait, M: Machine, G: Gate>(
     Ok(())
 }
 
-/// Runs actors over one machine, each in a thread of its own where threads can be made: sessions 1 to `sessions`, workers
-/// 17 to 16 + `workers`. A turn is a take, the labour on what was taken, and a give; both calls of the machine are under
-/// the lock, the labour is not, and the gate is called before and after each turn, outside the lock. A session ends where
-/// the machine says so, or after 100,000 turns; a worker there, or after `turns` turns, of which idle ones count. Where
-/// memory is wanting the actor stops and holds no work.
-///
-/// It waits for the lock. Where it returns, the machine keeps its invariant. That is all that is promised: the turns of
-/// different actors come in any order, and nothing says that an actor gets on, that it is its turn some time, that more
-/// than one thread runs, or that labour is done beside another actor's call.
-pub fn drive<R: Threads + Wait + Sync, M: Machine, G: Gate + Sync>(
+/// Each actor gives up what work it may hold.
+fn forget_all<M: Machine>(machine: &mut M)
+    requires kept { M.keeps machine.old }
+    ensures kept { M.keeps machine.new }
+    ensures goes_on { (first : M) → M.becomes first machine.old → M.becomes first machine.new }
+    ensures free { (actor : ℕ) → 1 ≤ actor → actor ≤ 24 → M.is_free machine.new actor }
+{
+    for place in 0..24u32 {
+        machine.forget(place + 1);
+    }
+}
+
+/// Runs actors over a machine that is named by the call.
+fn drive_from<B: Beginning<M> + Send + Sync, R: Threads + Wait + Sync, M: Machine, G: Gate + Sync>(
     rt: &R,
     machine: M,
     sessions: u32,
@@ -133,11 +138,14 @@ pub fn drive<R: Threads + Wait + Sync, M: Machine, G: Gate + Sync>(
     gate: &G,
 ) -> Driven<M>
     requires kept { M.keeps machine }
+    requires begun { HasBecome M.becomes B.first machine }
     requires sessions { sessions ≤ 16 }
     requires workers { workers ≤ 8 }
     ensures kept { M.keeps result.machine }
+    ensures goes_on { HasBecome M.becomes B.first result.machine }
+    ensures free { (actor : ℕ) → 1 ≤ actor → actor ≤ 24 → M.is_free result.machine actor }
 {
-    let shared = Mutex::new(Kept::new(machine));
+    let shared = Mutex::new(Kept::<M, B>::new(machine));
     let lock = &shared;
     let mut starved = [false; ACTORS];
     thread::for_each_mut(
@@ -159,8 +167,35 @@ pub fn drive<R: Threads + Wait + Sync, M: Machine, G: Gate + Sync>(
         },
     );
     let starved = starved.contains(&true);
-    Driven {
-        machine: shared.into_inner().into_machine(),
-        starved,
-    }
+    let mut machine = shared.into_inner().into_machine();
+    forget_all(&mut machine);
+    Driven { machine, starved }
+}
+
+/// Runs actors over one machine, each in a thread of its own where threads can be made: sessions 1 to `sessions`, workers
+/// 17 to 16 + `workers`. A turn is a take, the labour on what was taken, and a give; both calls of the machine are under
+/// the lock, the labour is not, and the gate is called before and after each turn, outside the lock. A session ends where
+/// the machine says so, or after 100,000 turns; a worker there, or after `turns` turns, of which idle ones count. Where
+/// memory is wanting the actor stops and holds no work.
+///
+/// It waits for the lock. Where it returns, the machine keeps its invariant, is what calls have made of the one that was
+/// handed in, and waits for nothing from an actor. That is all that is promised: the turns of different actors come in any order, and nothing says that an actor gets on, that it is its turn some time, that more
+/// than one thread runs, or that labour is done beside another actor's call.
+pub fn drive<R: Threads + Wait + Sync, M: Machine, G: Gate + Sync>(
+    rt: &R,
+    machine: M,
+    sessions: u32,
+    workers: u32,
+    turns: u32,
+    gate: &G,
+) -> Driven<M>
+    requires kept { M.keeps machine }
+    requires begun { M.becomes machine machine }
+    requires sessions { sessions ≤ 16 }
+    requires workers { workers ≤ 8 }
+    ensures kept { M.keeps result.machine }
+    ensures goes_on { M.becomes machine result.machine }
+    ensures free { (actor : ℕ) → 1 ≤ actor → actor ≤ 24 → M.is_free result.machine actor }
+{
+    drive_from::<Brand, _, _, _>(rt, machine, sessions, workers, turns, gate)
 }

@@ -1,35 +1,52 @@
 //! What lies under the lock.
-ghost use Rattle.std.specs.Prelude.{◌≡◌, ◌≤◌, ◌<◌, ◌↔◌, false, IfOk, OnErr, IsErr};
+ghost use Rattle.std.specs.Prelude.{Option, None, ◌≡◌, ◌≤◌, ◌<◌, ◌↔◌, false, IfOk, OnErr, IsErr};
 ghost use Rattle.lv_shared.specs.declared.machine.Taken.TheVariants.{Idle, Ended};
-ghost use Rattle.lv_shared.specs.Taking.{hands_out};
+ghost use Rattle.lv_shared.specs.Taking.{HasBecome, hands_out};
 
 use crate::machine::{Machine, Taken};
 use lv_values::{NoMemory, Steps};
-use std::marker::Model;
+use std::marker::{Brand, Model, PhantomData};
 use std::sync::ledger::{Blank, Ledger};
 
-/// A machine that keeps its invariant: all that is known of it when the lock is taken. Contracts see the machine.
-pub(crate) struct Kept<M: Machine> {
-    machine: M,
+/// What the machine was when it came under the lock: each call of `drive` names it.
+pub(crate) trait Beginning<M> {
+    ghost first: { Option M };
 }
 
-impl<M: Machine> Model for Kept<M> {
+impl<M> Beginning<M> for Brand {
+    ghost first = { None };
+}
+
+/// A machine that keeps its invariant, and is what calls have made of the first one: all that is known of it when the lock is
+/// taken. Contracts see the machine.
+pub(crate) struct Kept<M: Machine, B: Beginning<M>> {
+    machine: M,
+    of: PhantomData<B>,
+}
+
+impl<M: Machine, B: Beginning<M>> Model for Kept<M, B> {
+    ghost use Rattle.lv_shared.specs.Taking.{HasBecome};
+
     ghost Value = { M };
 
     ghost coded = { M.code };
 
     ghost view = { λ k. k.machine };
 
-    ghost invariant = { λ k. M.keeps k.machine };
+    ghost invariant = { λ k. M.keeps k.machine × HasBecome M.becomes B.first k.machine };
 }
 
-impl<M: Machine> Kept<M> {
+impl<M: Machine, B: Beginning<M>> Kept<M, B> {
     /// Takes charge of a machine.
-    pub(crate) fn new(machine: M) -> Kept<M>
-        requires { M.keeps machine }
+    pub(crate) fn new(machine: M) -> Kept<M, B>
+        requires kept { M.keeps machine }
+        requires begun { HasBecome M.becomes B.first machine }
         ensures { result ≡ machine }
     {
-        Kept { machine }
+        Kept {
+            machine,
+            of: PhantomData,
+        }
     }
 
     /// Takes an actor's next work, and counts nothing.
@@ -82,8 +99,9 @@ impl<M: Machine> Kept<M> {
     pub(crate) fn into_machine(self) -> M
         ensures same { result ≡ self }
         ensures kept { M.keeps result }
+        ensures goes_on { HasBecome M.becomes B.first result }
     {
-        let Kept { machine } = self;
+        let Kept { machine, of: _ } = self;
         machine
     }
 }

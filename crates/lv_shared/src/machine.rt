@@ -27,6 +27,9 @@ pub trait Machine: Send {
     /// The invariant: each call keeps it.
     ghost keeps: { Self → Type 0 };
 
+    /// The second may be what calls have made of the first.
+    ghost becomes: { Self → Self → Type 0 };
+
     /// An actor that asks now finds nothing to do, and is to ask again.
     ghost is_idle: { Self → ℕ → Type 0 };
 
@@ -47,6 +50,7 @@ pub trait Machine: Send {
         requires last { actor ≤ 24 }
         requires kept { keeps self.old }
         ensures kept { keeps self.new }
+        ensures goes_on { (first : Self) → becomes first self.old → becomes first self.new }
         ensures idle { IfOk result (λ taken. (taken ≡ Idle) ↔ is_idle self.old actor) }
         ensures ended { IfOk result (λ taken. (taken ≡ Ended) ↔ is_ended self.old actor) }
         ensures free { hands_out result ≡ false → is_free self.new actor };
@@ -66,13 +70,16 @@ pub trait Machine: Send {
         requires last { actor ≤ 24 }
         requires kept { keeps self.old }
         ensures kept { keeps self.new }
+        ensures goes_on { (first : Self) → becomes first self.old → becomes first self.new }
         ensures free { OnOk result (is_free self.new actor) };
 
-    /// Gives an actor's work up. It takes no memory.
+    /// Gives an actor's work up, and no other one's. It takes no memory.
     fn forget(&mut self, actor: u32)
         requires first { 1 ≤ actor }
         requires last { actor ≤ 24 }
         requires kept { keeps self.old }
         ensures kept { keeps self.new }
-        ensures free { is_free self.new actor };
+        ensures goes_on { (first : Self) → becomes first self.old → becomes first self.new }
+        ensures free { is_free self.new actor }
+        ensures others { (other : ℕ) → is_free self.old other → is_free self.new other };
 }

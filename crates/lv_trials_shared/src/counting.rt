@@ -21,6 +21,8 @@ impl Machine for Counts {
 
     ghost keeps = { λ c. (c.ended ≤ c.begun) × (c.ended ≤ 3) };
 
+    ghost becomes = { λ _ _. Unit {0} };
+
     ghost is_idle = { λ c actor. (1 < actor) × (c.ended < 3) };
 
     ghost is_ended = { λ c _. 3 ≤ c.ended };

@@ -40,6 +40,8 @@ impl Machine for Meeting {
 
     ghost keeps = { λ _. Unit {0} };
 
+    ghost becomes = { λ _ _. Unit {0} };
+
     ghost is_idle = { λ _ _. ⊥ };
 
     ghost is_ended = { λ m actor. actor ≡ 17 → m.handed ≡ true };

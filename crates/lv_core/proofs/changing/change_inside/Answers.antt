@@ -5,7 +5,7 @@ use Rattle.lv_schema.specs.Cases.{changed}
 use Rattle.lv_plain.specs.declared.entry.Reply.TheVariants as reply
 use Rattle.lv_store.specs.Answering.{effect_fault}
 use Rattle.lv_core.specs.Answering.{IsRefusal}
-use Rattle.lv_core.proofs.CaseAnswers.{answers_refused, gives_quiet, journals_same, refused_quiet, unattempted, unwritten}
+use Rattle.lv_core.proofs.CaseAnswers.{answers_refused, gives_quiet, journals_same, refused_quiet, unattempted, untouched_same, unwritten}
 use Rattle.lv_core.proofs.Standing.{same_journal}
 use Rattle.lv_core.proofs.changing.change_inside.Goals as goal
 
@@ -25,3 +25,4 @@ returns-in-Err-clause-case g c = λ w stands.
     (subst (λ (f : Option Fault). IsRefusal f c.refusal.result) c.fault_of_change.ensures c.refusal.ensures) (c.in-Err.ensures.case w stands)
     (refused_quiet g.D.Disk.seen g.D.Disk.may_leave g.D.Disk.moment g.D.Disk.left_since g.D.Disk.failures (effect_fault e) made old.journal new.journal same (unattempted c.args.session c.args.change.now w.visible) (unwritten c.args.session c.args.change.now w.visible))
     (journals_same g.D.Disk.seen g.D.Disk.may_leave g.D.Disk.moment g.D.Disk.left_since g.D.Disk.failures old.journal new.journal same).later (λ fails. absurd cc)
+    (λ none. untouched_same g.D.Disk.seen g.D.Disk.may_leave g.D.Disk.moment g.D.Disk.left_since g.D.Disk.failures old.journal new.journal same)

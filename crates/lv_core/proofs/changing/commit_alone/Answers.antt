@@ -5,7 +5,7 @@ use Rattle.lv_schema.specs.Cases.{committed}
 use Rattle.lv_schema.specs.UpkeepCases.{outcome_of}
 use Rattle.lv_engine.specs.Answering.{commit_fault, shows_store}
 use Rattle.lv_core.specs.Answering.{IsRefusal}
-use Rattle.lv_core.proofs.CaseAnswers.{alone_ok, alone_refused, commit_store, errs, given_up}
+use Rattle.lv_core.proofs.CaseAnswers.{alone_ok, alone_refused, commit_other, commit_store, errs, given_up}
 use Rattle.lv_core.proofs.changing.commit_alone.Goals as goal
 
 pub returns-in-Ok-clause-case : goal.returns-in-Ok-clause-case
@@ -20,4 +20,4 @@ returns-in-Err-clause-case g c = λ w settings limit stands.
     c.in-Err.ensures.later (λ is. c.in-Err.ensures.cause (errs e _ (commit_store e is))) c.give_up.ensures.others c.give_up.ensures.case
     (λ f is. given_up (outcome_of settings (shows_store (commit_fault e)) w.upkeep) c.args.session w f is)
     c.refusal.result (commit_fault e) (subst (λ (f : Option Fault). IsRefusal f c.refusal.result) c.fault_of_commit.ensures c.refusal.ensures) (c.in-Err.ensures.case w settings limit stands)
-    (c.in-Err.ensures.log w settings limit stands)
+    (c.in-Err.ensures.log w settings limit stands) (λ none. c.in-Err.ensures.untouched (commit_other e none))

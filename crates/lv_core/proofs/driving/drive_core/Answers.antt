@@ -1,7 +1,9 @@
+use Rattle.std.proofs.Common.{refl}
 use denote.Exit.{yes}
 use denote.Param.Send.{arg_send, param_send, sendable}
 use denote.Param.Object.{Vt, ghosts_of}
 use Rattle.lv_core.specs.contracts.driving.drive_core.dyn-1 as dyn
+use Rattle.lv_core.proofs.Grown.{grown_same, none_claimed, none_lies}
 use Rattle.lv_core.proofs.Sent.{core_row, results_row, work_row}
 use Rattle.lv_core.proofs.driving.drive_core.Lts as lts
 use Rattle.lv_core.proofs.driving.drive_core.Goals as goal
@@ -14,3 +16,12 @@ drive-requires-send-M-Work g c κs within = search (param_send, arg_send, work_r
 
 pub drive-requires-send-M-Done : goal.drive-requires-send-M-Done
 drive-requires-send-M-Done g c κs within = search (param_send, arg_send, results_row)
+
+pub drive-requires-clause-begun : goal.drive-requires-clause-begun
+drive-requires-clause-begun g c = grown_same c.args.core.run c.args.core.run refl
+
+pub returns-clause-free : goal.returns-clause-free
+returns-clause-free g c = none_claimed c.drive.result.machine.run c.drive.result.machine.slots c.drive.ensures.free
+
+pub returns-clause-slots : goal.returns-clause-slots
+returns-clause-slots g c = none_lies c.drive.result.machine.run c.drive.result.machine.slots c.drive.ensures.free

@@ -4,7 +4,7 @@ use Rattle.lv_runner.proofs.following.write_run.Goals as goal
 pub returns-in_err-names-clause-part : goal.returns-in_err-names-clause-part
 returns-in_err-names-clause-part g c =
     on_err c.from_residual.result
-    (stopped_first g.D.Disk.seen g.D.Disk.may_leave g.D.Disk.moment g.D.Disk.left_since g.D.Disk.failures c.args.core.now.run c.args.events.now (g.K.Sink.written c.args.sink.now) c.known.ensures c.requires.fresh)
+    (stopped_first g.D.Disk.seen g.D.Disk.may_leave g.D.Disk.moment g.D.Disk.left_since g.D.Disk.failures c.args.core.now.run c.args.events.now (g.K.Sink.written c.args.sink.now) c.known.ensures.run c.requires.fresh)
 
 pub returns-in_err-flush-clause-part : goal.returns-in_err-flush-clause-part
 returns-in_err-flush-clause-part g c =

@@ -12,6 +12,6 @@ returns g c =
     let views = c.renew_views.new.names in
     let tables_are = c.schema-schema.ensures.tables ∙ ap (λ (e : EngineView _). e.store.tables) c.engine.ensures in
     let views_are = c.schema-schema.ensures.views ∙ ap (λ (e : EngineView _). e.store.views) c.engine.ensures in
-    renewed g.D.Disk.seen g.D.Disk.may_leave g.D.Disk.moment g.D.Disk.left_since g.D.Disk.failures c.args.core.now.run names tables views c.known.ensures c.requires
+    renewed g.D.Disk.seen g.D.Disk.may_leave g.D.Disk.moment g.D.Disk.left_since g.D.Disk.failures c.args.core.now.run names tables views c.known.ensures.run c.requires
     (subst (λ (ts : List TableDef). (length names.tables ≡ length ts → names.tables ≡ map (λ t. t.name) ts) → tables ≡ map (λ t. t.name) ts) tables_are c.in_ok-renew_tables.ensures)
     (subst (λ (vs : List ViewDef). (length names.views ≡ length vs → names.views ≡ map (λ v. v.name) vs) → views ≡ map (λ v. v.name) vs) views_are c.in_ok-renew_views.ensures)

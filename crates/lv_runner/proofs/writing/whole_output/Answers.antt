@@ -10,7 +10,7 @@ use Rattle.lv_runner.proofs.writing.whole_output.Goals as goal
 pub print_entries-requires : goal.print_entries-requires
 print_entries-requires g c =
     let run = c.args.core.now.run in
-    let all = run_has_names g.D.Disk.seen g.D.Disk.may_leave g.D.Disk.moment g.D.Disk.left_since g.D.Disk.failures run c.known.ensures in
+    let all = run_has_names g.D.Disk.seen g.D.Disk.may_leave g.D.Disk.moment g.D.Disk.left_since g.D.Disk.failures run c.known.ensures.run in
     let here = subst (λ (names : Names). HaveNames names run.entries) (sym c.in_ok-names-in-None.ensures) all in
     subst (HaveNames c.in_ok-names-in-None.names) (sym c.entries.ensures) here
 

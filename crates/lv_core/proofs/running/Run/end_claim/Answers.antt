@@ -1,9 +1,9 @@
 use Rattle.std.proofs.Common.{◌≡◌, None, sym, ◌∙◌}
 use Rattle.lv_schema.specs.UpkeepCases.{claim_of}
+use Rattle.lv_engine.proofs.NoneLeft.{claim_is}
 use Rattle.lv_core.specs.Run.{state_of}
 use Rattle.lv_core.proofs.Held.{roomy_held, stands_held}
 use Rattle.lv_core.proofs.Standing.{none_is}
-use Rattle.lv_core.proofs.WorkerAnswers.{claim_is}
 use Rattle.lv_core.proofs.Workers.{released_places, same_views}
 use Rattle.lv_core.proofs.running.Run.end_claim.Goals as goal
 

@@ -4,7 +4,8 @@ use Rattle.lv_schema.specs.UpkeepCases.{fetching}
 use Rattle.lv_plain.specs.declared.event.Event.TheVariants.{Fetch as fetch_of}
 use Rattle.lv_store.specs.Maintaining.{IsGiven}
 use Rattle.lv_core.specs.Run.{Gave, rules_of, state_of, view_of}
-use Rattle.lv_core.proofs.Fetching.{given_none, given_step}
+use Rattle.lv_engine.proofs.NoneLeft.{given_none}
+use Rattle.lv_core.proofs.Fetching.{given_step}
 use Rattle.lv_core.proofs.Happened.{roomy}
 use Rattle.lv_core.proofs.Held.{combine_held, gave, setup_held, stands_held}
 use Rattle.lv_core.proofs.running.Run.fetch_any.Goals as goal

@@ -6,7 +6,7 @@ use Rattle.lv_core.specs.Run.{Gave, rules_of, state_of, view_of}
 use Rattle.lv_core.proofs.Happened.{on_err, roomy}
 use Rattle.lv_core.proofs.Held.{limit_held, roomy_held, setup_held, stands_held}
 use Rattle.lv_core.proofs.MarksNamed.{marked_gave, unknown_gave}
-use Rattle.lv_core.proofs.Undone.{roomy_undone, same_undone}
+use Rattle.lv_core.proofs.Undone.{roomy_undone, same_undone, undone_here}
 use Rattle.lv_core.proofs.running.Run.mark.Goals as goal
 
 -- a name that is no view's
@@ -54,6 +54,13 @@ returns-in_err-entry-clause-kept g c =
     let v = c.args.self.now in
     on_err c.from_residual-in_err-entry.result _
     (same_undone g.D.Disk.seen g.D.Disk.may_leave g.D.Disk.moment g.D.Disk.left_since g.D.Disk.failures r.policy r.program r.engine c.mark_view.new.engine r.opening.engine.value r.places r.entries.list c.make_room.new.entries.list v c.self.view_is c.in_ok-make_room.ensures.same (undone g c))
+
+pub returns-in_err-entry-clause-journal : goal.returns-in_err-entry-clause-journal
+returns-in_err-entry-clause-journal g c =
+    let r = c.self.inside in
+    let v = c.args.self.now in
+    on_err c.from_residual-in_err-entry.result _
+    (undone_here g.D.Disk.seen g.D.Disk.may_leave g.D.Disk.moment g.D.Disk.left_since g.D.Disk.failures r.policy r.program r.engine c.mark_view.new.engine r.opening.engine.value r.places r.entries.list c.make_room.new.entries.list v c.self.view_is c.in_ok-make_room.ensures.same (undone g c))
 
 -- a view
 gave_mark : (g : _) (c : goal.After-push-2 g) → let r = c.self.inside in Gave g.D.Disk.seen g.D.Disk.may_leave g.D.Disk.moment g.D.Disk.left_since g.D.Disk.failures (mark_of c.args.view.now) c.args.self.now (view_of r.policy r.program c.mark_view.new.engine r.opening.engine.value r.places c.push-2.new.self.list)

@@ -6,7 +6,7 @@ use Rattle.lv_core.specs.Run.{Gave, state_of, view_of}
 use Rattle.lv_core.proofs.Happened.{on_err, roomy}
 use Rattle.lv_core.proofs.Held.{combine_held, limit_held, roomy_held, stands_held}
 use Rattle.lv_core.proofs.Turns.{bound_here, next_held, next_line_is, place_held, small_held, turn_taken}
-use Rattle.lv_core.proofs.Undone.{roomy_undone, same_undone}
+use Rattle.lv_core.proofs.Undone.{roomy_undone, same_undone, undone_here}
 use Rattle.lv_core.proofs.running.Run.turn.Goals as goal
 
 pub place_of-place-requires : goal.place_of-place-requires
@@ -45,6 +45,13 @@ returns-in_err-answered-clause-kept g c =
     let v = c.args.self.now in
     on_err c.from_residual-in_err-answered.result _
     (same_undone g.D.Disk.seen g.D.Disk.may_leave g.D.Disk.moment g.D.Disk.left_since g.D.Disk.failures r.policy r.program r.engine c.answer_line.new.engine r.opening.engine.value r.places r.entries.list c.make_room.new.entries.list v c.self.view_is c.in_ok-make_room.ensures.same (undone g c))
+
+pub returns-in_err-answered-clause-journal : goal.returns-in_err-answered-clause-journal
+returns-in_err-answered-clause-journal g c =
+    let r = c.self.inside in
+    let v = c.args.self.now in
+    on_err c.from_residual-in_err-answered.result _
+    (undone_here g.D.Disk.seen g.D.Disk.may_leave g.D.Disk.moment g.D.Disk.left_since g.D.Disk.failures r.policy r.program r.engine c.answer_line.new.engine r.opening.engine.value r.places r.entries.list c.make_room.new.entries.list v c.self.view_is c.in_ok-make_room.ensures.same (undone g c))
 
 -- the statement is answered
 pub overflow_add-place : goal.overflow_add-place
