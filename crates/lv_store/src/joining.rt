@@ -82,7 +82,12 @@ impl Store {
     }
 
     /// The steps that are taken in place of a first one and these behind it.
-    fn join_all(&self, alloc: Global, first: Forced, rest: &[Forced]) -> Result<ForcedSteps, NoMemory>
+    fn join_all(
+        &self,
+        alloc: Global,
+        first: Forced,
+        rest: &[Forced],
+    ) -> Result<ForcedSteps, NoMemory>
         requires whole { IsStore self.now }
         requires can { AllByRecursion (CanCompute self.now) (first ∷ rest.now) }
         ensures { (w : World) → Stands w (store_of self.now) → StepsFollow w (first ∷ rest.now) → IfOk result (λ taken. InPlaceOf w (first ∷ rest.now) taken) }

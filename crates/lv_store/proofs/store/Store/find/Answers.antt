@@ -72,8 +72,8 @@ returns-in_err-rows-clause-most g c = λ kept w is.
     takes_most p c.args.session c.args.query.now c.requires.bound w is c.in_ok-taken.taken
     (subst (λ steps. InPlaceOf w steps c.in_ok-taken.taken) c.in_ok-forced.ensures (c.in_ok-taken.ensures.taken w is follow)) c.args.steps.now c.answer_with.new.steps
     (λ n costs.
-        let most = c.in_ok-pending.ensures.most n (subst (λ steps. AreCosts (IsCostIn p) steps n) (sym c.as_slice.ensures) costs) in
-        omega (arith, most, c.in_err-rows.ensures.cost kept))
+    let most = c.in_ok-pending.ensures.most n (subst (λ steps. AreCosts (IsCostIn p) steps n) (sym c.as_slice.ensures) costs) in
+    omega (arith, most, c.in_err-rows.ensures.cost kept))
 
 pub returns-clause-most : goal.returns-clause-most
 returns-clause-most g c = λ kept w is.
@@ -82,5 +82,5 @@ returns-clause-most g c = λ kept w is.
     takes_most p c.args.session c.args.query.now c.requires.bound w is c.in_ok-taken.taken
     (subst (λ steps. InPlaceOf w steps c.in_ok-taken.taken) c.in_ok-forced.ensures (c.in_ok-taken.ensures.taken w is follow)) c.args.steps.now c.answer_with.new.steps
     (λ n costs.
-        let most = c.in_ok-pending.ensures.most n (subst (λ steps. AreCosts (IsCostIn p) steps n) (sym c.as_slice.ensures) costs) in
-        omega (arith, most, c.in_ok-rows.ensures.cost kept))
+    let most = c.in_ok-pending.ensures.most n (subst (λ steps. AreCosts (IsCostIn p) steps n) (sym c.as_slice.ensures) costs) in
+    omega (arith, most, c.in_ok-rows.ensures.cost kept))
