@@ -46,6 +46,3 @@ returns-in-Err-Stmt-clause-case g c = λ w settings combines limit stands.
     subst (λ (r : Result Bound Fault). GivesTurn g.D.Disk.seen g.D.Disk.may_leave g.D.Disk.moment g.D.Disk.left_since g.D.Disk.failures w e e (steps_of settings c.args.session r w) (λ fails. read_turn (outcome_of settings fails w.upkeep) (pending_tasks w) c.args.session r w.visible) c.replied.result)
     (sym (line ∙ c.in-Err-Stmt.ensures.refused c.in-Err-Stmt.fault cc))
     (gives_shown g.D.Disk.seen g.D.Disk.may_leave g.D.Disk.moment g.D.Disk.left_since g.D.Disk.failures w e (reply.Refused c.in-Err-Stmt.fault) c.replied.result c.replied.ensures.forced said stands)
-
-pub returns-in-Err-NoMemory-clause-case : goal.returns-in-Err-NoMemory-clause-case
-returns-in-Err-NoMemory-clause-case g c = λ w settings combines limit stands. undone_same g.D.Disk.seen g.D.Disk.may_leave g.D.Disk.moment g.D.Disk.left_since g.D.Disk.failures c.args.engine.now c.args.engine.now refl

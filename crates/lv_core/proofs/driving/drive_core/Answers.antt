@@ -18,7 +18,7 @@ pub drive-requires-send-M-Done : goal.drive-requires-send-M-Done
 drive-requires-send-M-Done g c κs within = search (param_send, arg_send, results_row)
 
 pub drive-requires-clause-begun : goal.drive-requires-clause-begun
-drive-requires-clause-begun g c = grown_same c.args.core.run c.args.core.run refl
+drive-requires-clause-begun g c κs within = grown_same c.args.core.run c.args.core.run refl
 
 pub returns-clause-free : goal.returns-clause-free
 returns-clause-free g c = none_claimed c.drive.result.machine.run c.drive.result.machine.slots c.drive.ensures.free
