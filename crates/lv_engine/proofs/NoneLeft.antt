@@ -6,8 +6,8 @@ use Rattle.lv_schema.specs.declared.forced.Forced.{Forced}
 use Rattle.lv_schema.specs.declared.pending.Pending.{Pending}
 use Rattle.lv_schema.specs.Policies.{chosen, unclaimed}
 use Rattle.lv_schema.specs.StepPlans.{is_inside, planned, step_end, step_of}
-use Rattle.lv_schema.specs.UpkeepCases.{Fetched, chosen_view, claim_of, fetch_among, fetch_by, fetched, fetched_step, fetching, idle, no_pending}
-use Rattle.lv_schema.specs.World.{Settings, Upkeep, Visible, World, last, live, point}
+use Rattle.lv_schema.specs.UpkeepCases.{Fetched, chosen_view, claim_of, fetch_among, fetch_by, fetched_step, fetching, idle, no_pending}
+use Rattle.lv_schema.specs.World.{Settings, Upkeep, World, last, live, point}
 use Rattle.lv_schema.proofs.Candidates.{IsCandidate, chosen_is}
 use Rattle.lv_maint.specs.Inputs.{Input}
 use Rattle.lv_store.specs.Maintaining.{IsGiven}

@@ -7,7 +7,7 @@ use Rattle.lv_schema.specs.declared.action.Action.{Action}
 use Rattle.lv_schema.specs.declared.rec.Rec.{Rec}
 use Rattle.lv_schema.specs.declared.rec.Rec.TheVariants.{View}
 use Rattle.lv_schema.specs.declared.view.ViewDef.{ViewDef}
-use Rattle.lv_schema.specs.Cases.{Case, Outcome, failed, full, good, if_written}
+use Rattle.lv_schema.specs.Cases.{Case, Outcome, good, if_written}
 use Rattle.lv_schema.specs.Cases as cases
 use Rattle.lv_schema.specs.Records.{view_record}
 use Rattle.lv_schema.specs.UpkeepCases.{need, outcome_of}

@@ -297,14 +297,14 @@ impl<D: Disk> Engine<D> {
         self.store.stale(alloc, session, query, steps)
     }
 
-    /// A query of a session that is live: the views that it reads are brought up to its snapshot, and it reads its
-    /// snapshot with its own writes. It answers the steps that it forced, and its rows. A step takes the offer whose
-    /// input is the step's own, and is computed where there is none; so the answer does not depend on the offers. Where
-    /// there are no offers, steps of one view with no live snapshot between them are taken as one, where all but the last
-    /// of them keep links: no row goes for good in them, and none changes its values in the linked columns. So many changes
-    /// of one row cost their condensing and no more. Where it names no table, and the transaction wrote none of its views'
-    /// tables, it reads at most what the steps cost that it forces, each by itself, also for want of memory. Want of memory
-    /// leaves every view as it was.
+    /// A query of a session that is live: the views that it reads are brought up to its snapshot, and it reads its snapshot
+    /// with its own writes. It answers the steps that it forced, and its rows. A step takes the offer whose input is the
+    /// step's own, and is computed where there is none; so the answer does not depend on the offers. Where there are no
+    /// offers, steps of one view with no live snapshot between them are taken as one, where all but the last of them keep
+    /// links: no row goes for good in them, and none changes its values in the linked columns; each step of a view of one
+    /// table does. So many changes of one row cost their condensing and no more. Where it names no table, and the
+    /// transaction wrote none of its views' tables, it reads at most what the steps cost that it forces, each by itself,
+    /// also for want of memory. Want of memory leaves every view as it was.
     /// Cost: of a view that is up to date, on whose tables the transaction wrote nothing, one pass over its rows; else
     /// that of its steps, which read what can join a changed row, or of the view by its definition over the transaction's
     /// own rows; and the join and the sort of the answer.

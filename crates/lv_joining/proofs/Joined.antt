@@ -1,5 +1,5 @@
 -- The cost of a step that is taken in place of two, of which the first keeps links.
-use Rattle.std.proofs.Common.{◌≡◌, ℕ, zero, suc, ◌+◌, ◌≤◌, Bool, true, List, [], ◌∷◌, length, map, refl, sym, ap, ◌∙◌, subst, arith}
+use Rattle.std.proofs.Common.{◌≡◌, ℕ, zero, suc, ◌+◌, ◌≤◌, Bool, true, List, [], ◌∷◌, length, map, inl, inr, refl, sym, ap, ◌∙◌, subst, arith}
 use Rattle.std.specs.Prelude.{◌⊎◌, Option, Some, None, slice_get, slice_index_or}
 use Rattle.lv_values.specs.Rows.{key_cmp}
 use Rattle.lv_schema.specs.declared.part.Part.{Part}
@@ -13,9 +13,10 @@ use Rattle.lv_reach.specs.declared.link.Link.{Link}
 use Rattle.lv_reach.specs.declared.rows.AliasRow.{AliasRow}
 use Rattle.lv_reach.specs.Cost.{IsReach, cost}
 use Rattle.lv_reach.specs.Reach.{has_alias_row, is_changed, of_alias, part_at}
-use Rattle.lv_joining.specs.Joining.{HaveStandIns, KeepsLinks, linked_columns, part_from, parts_of, stands_for}
+use Rattle.lv_joining.specs.Joining.{AliasesKeepLinks, HaveStandIns, KeepsLinks, linked_columns, part_from, parts_of, stands_for}
 use Rattle.lv_joining.proofs.Agreeing.{agree_left, agree_right}
 use Rattle.lv_joining.proofs.Databases as db
+use Rattle.lv_joining.proofs.OneTable.{no_cost}
 use Rattle.lv_joining.proofs.Databases.{rows_at, rows_some, rows_none}
 use Rattle.lv_joining.proofs.Reaching.{AreJoined, Moves, cost_within}
 use Rattle.lv_joining.proofs.StandIns as rows
@@ -24,14 +25,16 @@ use Rattle.lv_joining.proofs.Sums.{fewer_into}
 
 -- ---- steps that keep links
 pub keeps_itself : (links : List Link) (defs : List TableDef) (tables : List ℕ) (db : Db) → KeepsLinks links defs tables db db
-keeps_itself links defs tables db alias t h = own_stand_ins (table_at defs t).key (linked_columns links alias) (rows_of db t)
+keeps_itself links defs tables db = inr (λ alias t h. own_stand_ins (table_at defs t).key (linked_columns links alias) (rows_of db t))
 
 pub keeps_on : (links : List Link) (defs : List TableDef) (tables : List ℕ) (first middle last : Db) → KeepsLinks links defs tables first middle → KeepsLinks links defs tables middle last → KeepsLinks links defs tables first last
-keeps_on links defs tables first middle last one two alias t h =
-    next_stand_ins (table_at defs t).key (linked_columns links alias) (rows_of first t) (rows_of middle t) (rows_of last t) (one alias t h) (two alias t h)
+keeps_on links defs tables first middle last (inl alone) two = inl alone
+keeps_on links defs tables first middle last (inr one) (inl alone) = inl alone
+keeps_on links defs tables first middle last (inr one) (inr two) =
+    inr (λ alias t h. next_stand_ins (table_at defs t).key (linked_columns links alias) (rows_of first t) (rows_of middle t) (rows_of last t) (one alias t h) (two alias t h))
 
 module _ (links : List Link) (defs : List TableDef) (tables : List ℕ) (first middle last : Db)
-    (up : (t : ℕ) → Ascends (key_cmp (table_at defs t).key) (rows_of first t)) (up_middle : (t : ℕ) → Ascends (key_cmp (table_at defs t).key) (rows_of middle t)) (keeps : KeepsLinks links defs tables first middle) where
+    (up : (t : ℕ) → Ascends (key_cmp (table_at defs t).key) (rows_of first t)) (up_middle : (t : ℕ) → Ascends (key_cmp (table_at defs t).key) (rows_of middle t)) (keeps : AliasesKeepLinks links defs tables first middle) where
   -- of an alias: its key, its rows before and after the first step
   abbrev key_at : ℕ → List ℕ
   key_at i = (table_at defs (slice_index_or tables i 0)).key
@@ -171,4 +174,7 @@ pub joined_cost : (links : List Link) (defs : List TableDef) (tables : List ℕ)
     → (near near_one near_two : List AliasRow) (far far_one far_two : ℕ → Bool)
     → IsReach links (parts_of tables first last) near far → IsReach links (parts_of tables first middle) near_one far_one → IsReach links (parts_of tables middle last) near_two far_two
     → cost links (parts_of tables first last) near far ≤ cost links (parts_of tables first middle) near_one far_one + cost links (parts_of tables middle last) near_two far_two
-joined_cost links defs tables first middle last is is_middle keeps = two_cost_less links defs tables first middle last (db.ascends_of defs first is) (db.ascends_of defs middle is_middle) keeps
+joined_cost links defs tables first middle last is is_middle (inl alone) near near_one near_two far far_one far_two r s t =
+    omega (arith, no_cost links (parts_of tables first last) near far alone.0 (omega (arith, db.as_many tables first last, alone.1)) r)
+joined_cost links defs tables first middle last is is_middle (inr keeps) near near_one near_two far far_one far_two r s t =
+    two_cost_less links defs tables first middle last (db.ascends_of defs first is) (db.ascends_of defs middle is_middle) keeps near near_one near_two far far_one far_two r s t

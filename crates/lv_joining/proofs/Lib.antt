@@ -3,6 +3,7 @@ pub mod Agreeing
 pub mod Reaching
 pub mod StandIns
 pub mod Databases
+pub mod OneTable
 pub mod Joined
 pub mod Meeting
 pub mod Reaches

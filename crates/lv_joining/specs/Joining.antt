@@ -1,6 +1,6 @@
 -- Steps of a view from one database to another, and those that keep links: no other alias can tell the rows before from
 -- those after.
-use Rattle.std.specs.Prelude.{◌≡◌, ℕ, Bool, true, false, ◌&&◌, ◌==◌, cond, List, [], ◌∷◌, ◌++◌, map, Some, slice_get}
+use Rattle.std.specs.Prelude.{◌≡◌, ◌⊎◌, ◌≤◌, ℕ, Bool, true, false, ◌&&◌, ◌==◌, cond, List, [], ◌∷◌, ◌++◌, length, map, Some, slice_get}
 use Rattle.std.specs.List.{list_any, AllByRecursion}
 use Rattle.lv_values.specs.declared.value.Value.{Value}
 use Rattle.lv_values.specs.Order.{row_eq}
@@ -43,11 +43,19 @@ stands_for key columns row new = row_eq (values_at key row) (values_at key new) 
 abbrev pub HaveStandIns : List ℕ → List ℕ → List (List Value) → List (List Value) → Type 0
 HaveStandIns key columns rows others = AllByRecursion (λ row. list_any (stands_for key columns row) others ≡ true) rows
 
--- A step keeps links: for each alias of a view, each row of its table stays, or becomes one of the same key with the same
--- values in the linked columns. So no row goes for good, and none agrees with other rows than before.
-abbrev pub KeepsLinks : List Link → List TableDef → List ℕ → Db → Db → Type 0
-KeepsLinks links defs tables before after =
+-- a view of one table, which has no links: its steps look no row up
+abbrev pub IsOfOneTable : List Link → List ℕ → Type 0
+IsOfOneTable links tables = (links ≡ []) × (length tables ≤ 1)
+
+-- each row of an alias's table stays, or becomes one of the same key with the same values in the linked columns
+abbrev pub AliasesKeepLinks : List Link → List TableDef → List ℕ → Db → Db → Type 0
+AliasesKeepLinks links defs tables before after =
     (alias table : ℕ) → slice_get tables alias ≡ Some table → HaveStandIns (table_at defs table).key (linked_columns links alias) (rows_of before table) (rows_of after table)
+
+-- A step keeps links: no row of any alias goes for good, and none agrees with other rows than before; or there are no other
+-- aliases.
+abbrev pub KeepsLinks : List Link → List TableDef → List ℕ → Db → Db → Type 0
+KeepsLinks links defs tables before after = IsOfOneTable links tables ⊎ AliasesKeepLinks links defs tables before after
 
 -- whether the rows of the one list have stand-ins among those of the other, in their order
 abbrev pub are_met : List ℕ → List ℕ → List (List Value) → List (List Value) → Bool

@@ -10,6 +10,7 @@ ghost use Rattle.lv_joining.specs.Joining.{KeepsLinks, parts_of};
 
 /// Where the first of two steps keeps links, the one step that leads where both lead costs at most what the two cost
 /// together. Without that it may cost more: a row that comes in the second step may agree with rows that went in the first.
+/// Steps of a view of one table cost nothing.
 pub fn joined_steps_cost_no_more()
     ensures { (links : List Link) (defs : List TableDef) (tables : List ℕ) (first middle last : Db)
         → IsDatabase defs first → IsDatabase defs middle → KeepsLinks links defs tables first middle

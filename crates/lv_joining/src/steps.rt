@@ -6,7 +6,7 @@ ghost use Rattle.lv_schema.specs.Databases.{rows_of};
 ghost use Rattle.lv_schema.specs.World.{World, snap, table_at, view_at};
 ghost use Rattle.lv_stands.specs.Moves.{actions_kept};
 ghost use Rattle.lv_base.specs.Bases.{base_of, defs_of};
-ghost use Rattle.lv_joining.specs.Joining.{HaveStandIns, linked_columns};
+ghost use Rattle.lv_joining.specs.Joining.{AliasesKeepLinks, HaveStandIns, IsOfOneTable, linked_columns};
 ghost use Rattle.lv_joining.specs.Kept.{IsKeptStep, KeepsLinksBetween};
 
 use crate::stand_ins::have_stand_ins;
@@ -44,8 +44,39 @@ fn alias_keeps_links(
     have_stand_ins(alloc, links, alias, def.key.as_slice(), &net)
 }
 
+/// Whether the rows of each alias keep links in a step.
+fn aliases_keep_links(
+    alloc: Global,
+    base: &Base,
+    links: &[Link],
+    def: &ViewDef,
+    step: Forced,
+) -> Result<bool, NoMemory>
+    requires in_use { list_all (λ t. nat_lt t (length base.now.tables)) def.now.tables ≡ true }
+    requires few { length def.now.tables ≤ 4 }
+    ensures { (w : World) → IsKeptStep w base.now step → def.now ≡ view_at w.visible.views step.view
+        → IfOk result (λ keeps. (keeps ≡ true) ↔ AliasesKeepLinks links.now w.visible.tables def.now.tables (snap w.visible step.lo) (snap w.visible step.hi)) }
+{
+    let mut alias = 0;
+    for table in def.tables.as_slice() {
+        if !alias_keeps_links(alloc, base, links, alias, *table, step)? {
+            return Ok(false);
+        }
+        alias += 1;
+    }
+    Ok(true)
+}
+
+/// Whether a view has one table, and no links.
+fn is_of_one_table(links: &[Link], def: &ViewDef) -> bool
+    ensures { (result ≡ true) ↔ IsOfOneTable links.now def.now.tables }
+{
+    links.is_empty() && def.tables.as_slice().len() < 2
+}
+
 /// Whether a step of a view keeps links: in each alias of the view no row goes for good, and none changes its values in
-/// the linked columns. Cost: for each alias the condensing of the entries between the step's commits.
+/// the linked columns; each step of a view of one table does. Cost: for a view of one table constant, else for each alias the
+/// condensing of the entries between the step's commits.
 pub fn step_keeps_links(
     alloc: Global,
     base: &Base,
@@ -57,12 +88,9 @@ pub fn step_keeps_links(
     ensures { (w : World) → IsKeptStep w base.now step → def.now ≡ view_at w.visible.views step.view → IfOk result (λ keeps. (keeps ≡ true) ↔ KeepsLinksBetween w.visible step.view step.lo step.hi) }
 {
     let links = links(alloc, def)?;
-    let mut alias = 0;
-    for table in def.tables.as_slice() {
-        if !alias_keeps_links(alloc, base, links.as_slice(), alias, *table, step)? {
-            return Ok(false);
-        }
-        alias += 1;
+    let links = links.as_slice();
+    if is_of_one_table(links, def) {
+        return Ok(true);
     }
-    Ok(true)
+    aliases_keep_links(alloc, base, links, def, step)
 }

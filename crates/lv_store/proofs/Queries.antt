@@ -30,7 +30,7 @@ use Rattle.lv_store.specs.declared.pending.Difference.{Difference}
 use Rattle.lv_store.specs.Pending.{AreUpTo, ArePending, CanAllTake, CanRead, CanTakeEach, difference_in, on_view}
 use Rattle.lv_store.specs.Querying.{CanInstallAll, InPlaceOf, IsCostIn, OnlyRoom, StepsInstall, changes_in, reads_kept, rel_rows_in, steps_in, upkeep_after}
 use Rattle.lv_store.specs.Kept.{IsStore, StoreKept, Stands, is_used, kept, rows_in, rows_of, store_of}
-use Rattle.lv_store.proofs.Forcing.{changes_all_told, costs_all_told, fresh_forces_none, read_at, steps_are, steps_follow, steps_in_use, with_combine}
+use Rattle.lv_store.proofs.Forcing.{changes_all_told, costs_all_told, fresh_forces_none, read_at, steps_are, steps_in_use, with_combine}
 use Rattle.lv_store.proofs.JoinedSteps.{costs_stand}
 use Rattle.lv_store.proofs.OneView.{all_on_view, follow_on_view, of_view}
 use Rattle.lv_store.proofs.OwnReads.{rows_long, snapshot_below, transaction_stands}

@@ -1,39 +1,29 @@
-use Rattle.std.proofs.Common.{◌≡◌, ℕ, ◌+◌, ◌≤◌, List, length, get_or, Some, slice_get, refl, sym, ap, ◌∙◌, subst, arith}
+use Rattle.std.proofs.Common.{◌≡◌, ◌↔◌, Bool, true, List, Ok, Err, IfOk, inl, inr, ◌∙◌, subst}
+use Rattle.std.specs.Prelude.{◌⊎◌, Result}
 use Rattle.lv_schema.specs.declared.view.ViewDef.{ViewDef}
-use Rattle.lv_schema.specs.Databases.{rows_of}
-use Rattle.lv_schema.specs.World.{snap, table_at, view_at}
+use Rattle.lv_schema.specs.World.{snap}
+use Rattle.lv_reach.specs.declared.link.Link.{Link}
 use Rattle.lv_reach.specs.Links.{links_of}
-use Rattle.lv_joining.specs.Joining.{HaveStandIns, linked_columns}
-use Rattle.lv_joining.proofs.KeptSteps.{all_below, at_place, one_below}
+use Rattle.lv_joining.specs.Joining.{AliasesKeepLinks, IsOfOneTable, KeepsLinks}
 use Rattle.lv_joining.proofs.steps.step_keeps_links.Goals as goal
 
-pub loop-table-preserved : goal.loop-table-preserved
-loop-table-preserved c =
-    let inv = c.loop-table.invariant in
-    let n = c.loop-table.table-index in
-    let step = c.args.step in
-    let items = c.as_slice-table-items.result.now in
-    let t = get_or items n 0 in
-    let there : slice_get c.args.def.now.tables n ≡ Some t = ap (λ (l : List ℕ). slice_get l n) (sym inv.tables) ∙ at_place items n c.loop-table-test.true in
-    record {
-      alias = ap (λ m. m + 1) inv.alias;
-      tables = inv.tables;
-      each = λ w kept is.
-          let at : slice_get (view_at w.visible.views step.view).tables c.loop-table.alias ≡ Some t = ap (λ (d : ViewDef). slice_get d.tables c.loop-table.alias) (sym is) ∙ ap (slice_get c.args.def.now.tables) inv.alias ∙ there in
-          let told = c.in_ok-alias_keeps_links.ensures w kept at in
-          let links = c.as_slice.ensures ∙ c.in_ok-links.ensures in
-          one_below (λ i u. HaveStandIns (table_at w.visible.tables u).key (linked_columns (links_of c.args.def.now.cond) i) (rows_of (snap w.visible step.lo) u) (rows_of (snap w.visible step.hi) u)) c.args.def.now.tables n t
-          (inv.each w kept is) there
-          (subst (λ cols. HaveStandIns (table_at w.visible.tables t).key cols (rows_of (snap w.visible step.lo) t) (rows_of (snap w.visible step.hi) t)) (λ i. linked_columns (links i) (inv.alias i)) (told.0 c.if-not-branch.false));
-    }
+-- what is told of the one where the other is not
+told_of : {E : Type 0} (A B : Type 0) (r : Result Bool E) → (B → ⊥) → IfOk r (λ keeps. (keeps ≡ true) ↔ A) → IfOk r (λ keeps. (keeps ≡ true) ↔ (B ⊎ A))
+told_of A B (Err e) not told = tt
+told_of A B (Ok keeps) not told = (λ yes. inr (told.0 yes), back)
+  where
+    back : B ⊎ A → keeps ≡ true
+    back (inl b) = absurd (not b)
+    back (inr a) = told.1 a
 
 pub returns : goal.returns
-returns c = λ w kept is. (
-  λ yes.
-      let inv = c.loop-table.invariant in
-      let step = c.args.step in
-      let le : length c.args.def.now.tables ≤ c.loop-table.table-index = omega (arith, c.loop-table-test.false, ap (λ (l : List ℕ). length l) inv.tables) in
-      subst (λ (d : ViewDef). (alias t : ℕ) → slice_get d.tables alias ≡ Some t → HaveStandIns (table_at w.visible.tables t).key (linked_columns (links_of d.cond) alias) (rows_of (snap w.visible step.lo) t) (rows_of (snap w.visible step.hi) t)) is
-      (all_below (λ i u. HaveStandIns (table_at w.visible.tables u).key (linked_columns (links_of c.args.def.now.cond) i) (rows_of (snap w.visible step.lo) u) (rows_of (snap w.visible step.hi) u)) c.args.def.now.tables c.loop-table.table-index le (inv.each w kept is)),
-  λ all. refl,
-)
+returns c = λ w kept is.
+    let links = c.as_slice-links.result.now in
+    let def = c.args.def.now in
+    let first = snap w.visible c.args.step.lo in
+    let last = snap w.visible c.args.step.hi in
+    let none : IsOfOneTable links def.tables → ⊥ = λ alone. absurd (let yes = c.is_of_one_table.ensures.1 alone in let no = c.if-is_of_one_table.false in cc) in
+    let told : IfOk c.aliases_keep_links.result (λ keeps. (keeps ≡ true) ↔ KeepsLinks links w.visible.tables def.tables first last) =
+    told_of (AliasesKeepLinks links w.visible.tables def.tables first last) (IsOfOneTable links def.tables) c.aliases_keep_links.result none (c.aliases_keep_links.ensures w kept is) in
+    subst (λ (d : ViewDef). IfOk c.aliases_keep_links.result (λ keeps. (keeps ≡ true) ↔ KeepsLinks (links_of d.cond) w.visible.tables d.tables first last)) is
+    (subst (λ (ls : List Link). IfOk c.aliases_keep_links.result (λ keeps. (keeps ≡ true) ↔ KeepsLinks ls w.visible.tables def.tables first last)) (c.as_slice-links.ensures ∙ c.in_ok-links.ensures) told)

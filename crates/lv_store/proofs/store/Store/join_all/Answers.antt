@@ -1,4 +1,4 @@
-use Rattle.std.proofs.Common.{◌≡◌, ◌+◌, ◌<◌, List, [], ◌∷◌, ◌++◌, drop, length, sym, ap, ◌∙◌, subst, arith}
+use Rattle.std.proofs.Common.{◌+◌, ◌<◌, List, ◌∷◌, ◌++◌, drop, length, sym, subst, arith}
 use Rattle.lv_schema.specs.declared.forced.Forced.{Forced}
 use Rattle.lv_store.specs.Querying.{CanCompute, InPlaceOf}
 use Rattle.lv_store.proofs.Forcing.{IsKeptStep, steps_kept}

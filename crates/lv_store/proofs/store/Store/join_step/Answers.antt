@@ -1,4 +1,4 @@
-use Rattle.std.proofs.Common.{◌≡◌, List, [], ◌∷◌, ◌++◌, sym, subst}
+use Rattle.std.proofs.Common.{List, ◌∷◌, ◌++◌, sym, subst}
 use Rattle.std.proofs.Math.Seq.{append_snoc}
 use Rattle.lv_schema.specs.declared.forced.Forced.{Forced}
 use Rattle.lv_store.specs.Querying.{InPlaceOf}

@@ -1,4 +1,3 @@
-use Rattle.lv_store.specs.Kept.{kept, store_of}
 use Rattle.lv_store.proofs.SmallInputs.{can_read}
 use Rattle.lv_store.proofs.store.Store.keeps_links.Goals as goal
 

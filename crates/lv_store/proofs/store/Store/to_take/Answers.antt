@@ -1,6 +1,5 @@
 use Rattle.std.proofs.Common.{◌≡◌, sym, subst}
 use Rattle.std.proofs.lemmas.Result.{IfOk-weaker}
-use Rattle.lv_schema.specs.declared.forced.Forced.{Forced}
 use Rattle.lv_store.specs.Querying.{InPlaceOf}
 use Rattle.lv_store.proofs.JoinedSteps.{in_own_place}
 use Rattle.lv_store.proofs.store.Store.to_take.Goals as goal

@@ -1,7 +1,6 @@
 use Rattle.std.proofs.Common.{◌≡◌, ◌<◌, [], List, length, filter, sym, ◌∙◌, subst, arith}
 use Rattle.std.specs.Prelude.{IfOk}
 use Rattle.lv_values.specs.declared.value.Value.{Value}
-use Rattle.lv_txn.specs.Kept.{transaction_of}
 use Rattle.lv_viewrows.specs.Kept.{ViewKept, shown}
 use Rattle.lv_store.specs.declared.pending.Difference.{Difference}
 use Rattle.lv_store.specs.Pending.{TakesEach, pending_at}
