@@ -25,7 +25,8 @@ use Rattle.lv_plain.specs.declared.entry.Reply.TheVariants as reply
 use Rattle.lv_plain.specs.Turns.{Turn, bound_turn, is_open, reply_or, shown, turn_by}
 use Rattle.lv_plain.proofs.Outside.{begun_reads, queried_outside, rolled_back_at_once, set_none, set_twice}
 use Rattle.lv_store.specs.declared.answer.Answer.{Answer}
-use Rattle.lv_store.specs.Answering.{ReadsNoTable}
+use Rattle.lv_store.specs.Answering.{IsCostBetween, ReadsNoTable, ReadsViews}
+use Rattle.lv_store.specs.Inputs.{AreCosts}
 use Rattle.lv_store.specs.Kept.{StoreKept}
 use Rattle.lv_engine.specs.declared.fault.CommitFault.{CommitFault}
 use Rattle.lv_engine.specs.declared.fault.CommitFault.TheVariants as commit
@@ -157,6 +158,18 @@ reads_none session query w free h =
       fresh = subst (λ (o : Open). AreFresh w (views_of query) o.snapshot) same h.fresh;
       unwritten = subst (λ (o : Open). list_all (λ v. write_none o.actions (view_at w.visible.views v).tables) (views_of query) ≡ true) same h.unwritten;
     }
+
+pub reads_views : (session : ℕ) (query : Query) (w : World) → slice_index_or w.visible.sessions session None ≡ None → ReadsViews session query w → ReadsViews session query (world_after (began session w.visible) w)
+reads_views session query w free h = record {
+  views = h.views;
+  unwritten = subst (λ (o : Open). list_all (λ v. write_none o.actions (view_at w.visible.views v).tables) (views_of query) ≡ true) (sym (begun_reads session w.visible free)) h.unwritten;
+}
+
+-- and it forces the same steps, which cost the same
+pub same_costs : (settings : Settings) (session : ℕ) (query : Query) (w : World) (n : ℕ) → slice_index_or w.visible.sessions session None ≡ None → AreCosts (IsCostBetween w.visible) (forced_by settings session query w) n
+    → AreCosts (IsCostBetween (began session w.visible).next) (forced_by settings session query (world_after (began session w.visible) w)) n
+same_costs settings session query w n free costs =
+    subst (λ (steps : List Forced). AreCosts (IsCostBetween w.visible) steps n) (sym (ap (λ q. q.forced) (queried_outside settings session query w free).0)) costs
 
 abbrev pub queried_turn : ℕ → Query → World → Turn
 queried_turn session query w = shown (reply.Rows (queried session query w.visible)) w.visible

@@ -7,7 +7,6 @@ use Rattle.lv_schema.specs.declared.forced.Forced.{Forced as Step}
 use Rattle.lv_schema.specs.UpkeepCases.{claim_of}
 use Rattle.lv_plain.specs.declared.event.Event.{Event}
 use Rattle.lv_plain.specs.declared.event.Event.TheVariants.{Clean as clean_up}
-use Rattle.lv_plain.specs.Fronts.{IsFront}
 use Rattle.lv_plain.specs.Legal.{IsWorker}
 use Rattle.lv_plain.specs.Machine.{State}
 use Rattle.lv_plain.specs.Programs.{may_turn, setup_answered}
@@ -15,7 +14,7 @@ use Rattle.lv_shelf.proofs.Shelved.{none_set}
 use Rattle.lv_shared.specs.declared.machine.Taken.{Taken}
 use Rattle.lv_shared.specs.declared.machine.Taken.TheVariants.{Work, Idle, Ended}
 use Rattle.lv_core.specs.declared.jobs.Assignment.{Assignment}
-use Rattle.lv_core.specs.Actors.{CleansIf, Fetches, Frees, FreesBy, Gives, GivesBy, Installs, IsFree, Takes, Turns, TurnsBy, shows_install}
+use Rattle.lv_core.specs.Actors.{CleansIf, Fetches, Frees, FreesBy, Gives, GivesBy, Installs, IsFree, Takes, Turns, TurnsBy}
 use Rattle.lv_core.specs.Run.{CoreView, Gave, HasGrown, IsSame, state_of}
 use Rattle.lv_core.specs.Slots.{SlotsKept, slot_of, slots_without}
 

@@ -9,7 +9,7 @@ use Rattle.lv_store.specs.Kept.{StoreKept}
 use Rattle.lv_store.specs.Kept as store
 use Rattle.lv_engine.specs.Kept.{EngineView, IsSame, Stands}
 use Rattle.lv_core.specs.Answering.{IsUndone}
-use Rattle.lv_core.specs.Run.{CoreView, IsRoomy, IsRun, failures_shown, settings_of, state_of, view_of, written_of}
+use Rattle.lv_core.specs.Run.{CoreView, IsRoomy, IsRun, failures_shown, settings_of, state_of, view_of}
 use Rattle.lv_core.specs.Run as run
 use Rattle.lv_core.proofs.Logged.{logged_undone}
 

@@ -15,7 +15,7 @@ ghost use Rattle.lv_plain.specs.Machine.{steps_of};
 ghost use Rattle.lv_plain.specs.Turns.{bound_line, bound_turn, read_turn, shown, turn_by};
 ghost use Rattle.lv_bind.specs.Reads.{reads};
 ghost use Rattle.lv_txn.specs.Kept.{IsLive, live_kept, transaction_at};
-ghost use Rattle.lv_store.specs.Answering.{IsCostBetween, IsInputBetween, ReadsNoTable};
+ghost use Rattle.lv_store.specs.Answering.{IsCostBetween, IsInputBetween, ReadsNoTable, ReadsViews};
 ghost use Rattle.lv_store.specs.Inputs.{AreCosts};
 ghost use Rattle.lv_engine.specs.Kept.{Stands};
 ghost use Rattle.lv_core.specs.Answering.{Answers, GivesTurn, IsNext, IsReady};
@@ -132,6 +132,8 @@ fn answer<D: Disk, L: Ledger>(
         (λ fails. bound_turn (outcome_of settings fails w.upkeep) (pending_tasks w) session statement w.visible) }
     ensures settings { engine.new.store.settings ≡ engine.old.store.settings }
     ensures fresh { (w : World) (query : AQuery) → Stands w engine.old → statement ≡ bound.Query query → ReadsNoTable session query w → steps.new ≡ steps.old }
+    ensures most { (w : World) (settings : schema.Settings) (query : AQuery) → settings.combine ≡ engine.old.store.settings.combine → Stands w engine.old → statement ≡ bound.Query query → ReadsViews session query w
+        → (n : ℕ) → AreCosts (IsCostBetween w.visible) (steps_of settings session (Ok statement) w) n → steps.new ≤ steps.old + n }
 {
     match statement {
         Bound::Table(def) => create_table(engine, alloc, def),
@@ -162,6 +164,8 @@ pub fn answer_line<D: Disk, L: Ledger>(
         (λ fails. read_turn (outcome_of settings fails w.upkeep) (pending_tasks w) session (bound_line reads session line.now w.visible) w.visible) }
     ensures settings { engine.new.store.settings ≡ engine.old.store.settings }
     ensures fresh { (w : World) (query : AQuery) → Stands w engine.old → bound_line reads session line.now w.visible ≡ Ok (bound.Query query) → ReadsNoTable session query w → steps.new ≡ steps.old }
+    ensures most { (w : World) (settings : schema.Settings) (query : AQuery) → settings.combine ≡ engine.old.store.settings.combine → Stands w engine.old → bound_line reads session line.now w.visible ≡ Ok (bound.Query query) → ReadsViews session query w
+        → (n : ℕ) → AreCosts (IsCostBetween w.visible) (steps_of settings session (bound_line reads session line.now w.visible) w) n → steps.new ≤ steps.old + n }
 {
     let live = engine.live(session).is_some();
     match read_line(alloc, engine.schema(), session == 0, live, line) {

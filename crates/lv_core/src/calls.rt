@@ -12,7 +12,7 @@ ghost use Rattle.lv_plain.specs.Legal.{IsWorker};
 ghost use Rattle.lv_plain.specs.Limits.{IsWithinLimits};
 ghost use Rattle.lv_plain.specs.Programs.{may_turn, setup_answered};
 ghost use Rattle.lv_upkeep.specs.Kept.{claim_kept};
-ghost use Rattle.lv_store.specs.Answering.{IsCostBetween, IsInputBetween, ReadsNoTable};
+ghost use Rattle.lv_store.specs.Answering.{IsCostBetween, IsInputBetween, ReadsNoTable, ReadsViews};
 ghost use Rattle.lv_store.specs.Inputs.{AreCosts};
 ghost use Rattle.lv_store.specs.Maintaining.{TakesGiven, TakesInstalled};
 ghost use Rattle.lv_engine.specs.Kept.{length_of};
@@ -152,7 +152,9 @@ impl<D: Disk> Core<D> {
     }
 
     /// Answers the next statement of a session, and keeps the entry. An offer is used where it is a step's that the
-    /// statement forces. After want of memory nothing has come. A query of fresh views alone takes no step.
+    /// statement forces. After want of memory nothing has come. A query that names no table, on whose views' tables its
+    /// transaction wrote nothing, reads at most what the steps cost that it forces, each by itself, also for want of memory:
+    /// nothing where its views are fresh.
     /// Cost: that of binding, and of the statement's call of the engine.
     pub fn turn<L: Ledger>(
         &mut self,
@@ -167,6 +169,8 @@ impl<D: Disk> Core<D> {
         ensures kept { OnErr result (IsSame self.old.run self.new.run) }
         ensures journal { OnErr result (IsUndone D.seen D.may_leave D.moment D.left_since D.failures self.old.run.engine self.new.run.engine) }
         ensures fresh { (query : AQuery) → next_bound self.old.run session ≡ Ok (bound.Query query) → ReadsNoTable session query (state_of self.old.run).world → steps.new ≡ steps.old }
+        ensures most { (query : AQuery) → next_bound self.old.run session ≡ Ok (bound.Query query) → ReadsViews session query (state_of self.old.run).world
+            → (n : ℕ) → AreCosts (IsCostBetween (state_of self.old.run).world.visible) (next_steps self.old.run session) n → steps.new ≤ steps.old + n }
     {
         self.run.turn(alloc, session, offers, steps)
     }

@@ -1,5 +1,5 @@
 //! Queries, in a transaction and outside one.
-ghost use Rattle.std.specs.Prelude.{◌≡◌, ◌<◌, None, OnErr};
+ghost use Rattle.std.specs.Prelude.{◌≡◌, ◌<◌, ◌≤◌, ◌+◌, ℕ, None, OnErr};
 ghost use Rattle.lv_schema.specs.Bound.{IsBoundQuery};
 ghost use Rattle.lv_schema.specs.Cases.{queried};
 ghost use Rattle.lv_schema.specs.UpkeepCases.{forced_by};
@@ -8,7 +8,8 @@ ghost use Rattle.lv_schema.specs.World.{World};
 ghost use Rattle.lv_plain.specs.declared.entry.Reply.TheVariants as reply;
 ghost use Rattle.lv_plain.specs.Turns.{shown};
 ghost use Rattle.lv_txn.specs.Kept.{IsLive, transaction_at};
-ghost use Rattle.lv_store.specs.Answering.{ReadsNoTable};
+ghost use Rattle.lv_store.specs.Answering.{IsCostBetween, ReadsNoTable, ReadsViews};
+ghost use Rattle.lv_store.specs.Inputs.{AreCosts};
 ghost use Rattle.lv_engine.specs.Kept.{Stands};
 ghost use Rattle.lv_core.specs.Answering.{Answers};
 
@@ -40,6 +41,8 @@ fn query_inside<D: Disk, L: Ledger>(
     ensures refused { OnErr result (engine.new ≡ engine.old) }
     ensures settings { engine.new.store.settings ≡ engine.old.store.settings }
     ensures fresh { (w : World) → Stands w engine.old → ReadsNoTable session query.now w → steps.new ≡ steps.old }
+    ensures most { (w : World) (settings : schema.Settings) → settings.combine ≡ engine.old.store.settings.combine → Stands w engine.old → ReadsViews session query.now w
+        → (n : ℕ) → AreCosts (IsCostBetween w.visible) (forced_by settings session query.now w) n → steps.new ≤ steps.old + n }
 {
     match engine.query(alloc, session, query, offers, steps) {
         Ok(answer) => Ok(Answered {
@@ -66,6 +69,8 @@ fn query_alone<D: Disk, L: Ledger>(
         → Answers D.seen D.may_leave D.moment D.left_since D.failures w engine.old engine.new result (forced_by settings session query.now w) (λ _. shown (reply.Rows (queried session query.now w.visible)) w.visible) }
     ensures settings { engine.new.store.settings ≡ engine.old.store.settings }
     ensures fresh { (w : World) → Stands w engine.old → ReadsNoTable session query.now w → steps.new ≡ steps.old }
+    ensures most { (w : World) (settings : schema.Settings) → settings.combine ≡ engine.old.store.settings.combine → Stands w engine.old → ReadsViews session query.now w
+        → (n : ℕ) → AreCosts (IsCostBetween w.visible) (forced_by settings session query.now w) n → steps.new ≤ steps.old + n }
 {
     engine.begin(session);
     let answered = query_inside(engine, alloc, session, query, offers, steps);
@@ -88,6 +93,8 @@ pub fn query<D: Disk, L: Ledger>(
         → Answers D.seen D.may_leave D.moment D.left_since D.failures w engine.old engine.new result (forced_by settings session query.now w) (λ _. shown (reply.Rows (queried session query.now w.visible)) w.visible) }
     ensures settings { engine.new.store.settings ≡ engine.old.store.settings }
     ensures fresh { (w : World) → Stands w engine.old → ReadsNoTable session query.now w → steps.new ≡ steps.old }
+    ensures most { (w : World) (settings : schema.Settings) → settings.combine ≡ engine.old.store.settings.combine → Stands w engine.old → ReadsViews session query.now w
+        → (n : ℕ) → AreCosts (IsCostBetween w.visible) (forced_by settings session query.now w) n → steps.new ≤ steps.old + n }
 {
     if engine.live(session).is_some() {
         query_inside(engine, alloc, session, query, offers, steps)

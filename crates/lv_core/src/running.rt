@@ -13,7 +13,7 @@ ghost use Rattle.lv_plain.specs.Legal.{IsWorker};
 ghost use Rattle.lv_plain.specs.Limits.{IsWithinLimits};
 ghost use Rattle.lv_plain.specs.Programs.{all_answered, first_places, has_more, may_turn, setup_answered};
 ghost use Rattle.lv_upkeep.specs.Kept.{claim_kept};
-ghost use Rattle.lv_store.specs.Answering.{IsCostBetween, IsInputBetween, ReadsNoTable};
+ghost use Rattle.lv_store.specs.Answering.{IsCostBetween, IsInputBetween, ReadsNoTable, ReadsViews};
 ghost use Rattle.lv_store.specs.Inputs.{AreCosts};
 ghost use Rattle.lv_store.specs.Maintaining.{TakesGiven, TakesInstalled};
 ghost use Rattle.lv_engine.specs.Kept.{length_of};
@@ -239,6 +239,8 @@ impl<D: Disk> Run<D> {
         ensures kept { OnErr result (IsSame self.old self.new) }
         ensures journal { OnErr result (IsUndone D.seen D.may_leave D.moment D.left_since D.failures self.old.engine self.new.engine) }
         ensures fresh { (query : AQuery) → next_bound self.old session ≡ Ok (bound.Query query) → ReadsNoTable session query (state_of self.old).world → steps.new ≡ steps.old }
+        ensures most { (query : AQuery) → next_bound self.old session ≡ Ok (bound.Query query) → ReadsViews session query (state_of self.old).world
+            → (n : ℕ) → AreCosts (IsCostBetween (state_of self.old).world.visible) (next_steps self.old session) n → steps.new ≤ steps.old + n }
     {
         make_room(&mut self.entries, 1)?;
         let at = session as usize;

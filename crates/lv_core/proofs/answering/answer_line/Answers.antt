@@ -1,4 +1,4 @@
-use Rattle.std.proofs.Common.{◌≡◌, refl, sym, ◌∙◌, subst, rules}
+use Rattle.std.proofs.Common.{◌≡◌, sym, ◌∙◌, subst, rules}
 use Rattle.std.specs.Prelude.{Result, Ok}
 use Rattle.lv_schema.specs.declared.bound.Bound.{Bound}
 use Rattle.lv_schema.specs.declared.bound.Bound.TheVariants as bound
@@ -8,8 +8,10 @@ use Rattle.lv_schema.specs.UpkeepCases.{outcome_of}
 use Rattle.lv_plain.specs.declared.entry.Reply.TheVariants as reply
 use Rattle.lv_plain.specs.Machine.{steps_of}
 use Rattle.lv_plain.specs.Turns.{read_turn}
+use Rattle.lv_store.specs.Answering.{IsCostBetween}
+use Rattle.lv_store.specs.Inputs.{AreCosts}
 use Rattle.lv_core.specs.Answering.{Answers, GivesTurn}
-use Rattle.lv_core.proofs.CaseAnswers.{gives_shown, undone_same}
+use Rattle.lv_core.proofs.CaseAnswers.{gives_shown}
 use Rattle.lv_core.proofs.Standing.{line_told, live_told, ready_told}
 use Rattle.lv_core.proofs.answering.answer_line.Goals as goal
 
@@ -36,6 +38,14 @@ returns-in-Ok-clause-fresh g c = λ w query stands is reading.
     let live = live_told e c.args.session c.live.result c.is_some-live.result c.live.ensures c.is_some-live.ensures in
     let line = line_told w e c.args.session c.args.line.now c.schema.result.now.tables c.schema.result.now.views c.is_some-live.result stands c.schema.ensures.tables c.schema.ensures.views live in
     c.answer.ensures.fresh w query stands (ok_same c.in-Ok.bound (bound.Query query) (sym (line ∙ c.in-Ok.ensures.found) ∙ is)) reading
+
+pub returns-in-Ok-clause-most : goal.returns-in-Ok-clause-most
+returns-in-Ok-clause-most g c = λ w settings query combines stands is reading n costs.
+    let e = c.args.engine.now in
+    let live = live_told e c.args.session c.live.result c.is_some-live.result c.live.ensures c.is_some-live.ensures in
+    let line = line_told w e c.args.session c.args.line.now c.schema.result.now.tables c.schema.result.now.views c.is_some-live.result stands c.schema.ensures.tables c.schema.ensures.views live in
+    c.answer.ensures.most w settings query combines stands (ok_same c.in-Ok.bound (bound.Query query) (sym (line ∙ c.in-Ok.ensures.found) ∙ is)) reading n
+    (subst (λ (r : Result Bound Fault). AreCosts (IsCostBetween w.visible) (steps_of settings c.args.session r w) n) (line ∙ c.in-Ok.ensures.found) costs)
 
 pub returns-in-Err-Stmt-clause-case : goal.returns-in-Err-Stmt-clause-case
 returns-in-Err-Stmt-clause-case g c = λ w settings combines limit stands.

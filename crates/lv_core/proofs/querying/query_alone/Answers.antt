@@ -2,7 +2,7 @@ use Rattle.std.proofs.Common.{None, sym, ◌∙◌, subst}
 use Rattle.lv_schema.specs.Bound.{IsBoundQuery}
 use Rattle.lv_schema.specs.Cases.{began}
 use Rattle.lv_schema.specs.WholeWorld.{querying, world_after}
-use Rattle.lv_core.proofs.CaseAnswers.{answers_outside, reads_none}
+use Rattle.lv_core.proofs.CaseAnswers.{answers_outside, reads_none, reads_views, same_costs}
 use Rattle.lv_core.proofs.Standing.{ended, ended_too, free_there, same_again, same_combine, same_journal, then_set}
 use Rattle.lv_core.proofs.querying.query_alone.Goals as goal
 
@@ -28,3 +28,13 @@ pub returns-clause-fresh : goal.returns-clause-fresh
 returns-clause-fresh g c = λ w stands reads.
     let free = free_there w c.args.engine.now c.args.session stands c.requires.free in
     c.query_inside-answered.ensures.fresh (world_after (began c.args.session w.visible) w) (c.begin.ensures.case w stands).1 (reads_none c.args.session c.args.query.now w free reads)
+
+pub returns-clause-most : goal.returns-clause-most
+returns-clause-most g c = λ w settings combines stands reads n costs.
+    let session = c.args.session in
+    let query = c.args.query.now in
+    let old = c.args.engine.now in
+    let begun = c.begin.new.self in
+    let free = free_there w old session stands c.requires.free in
+    c.query_inside-answered.ensures.most (world_after (began session w.visible) w) settings (combines ∙ same_combine old begun _ c.begin.ensures.others) (c.begin.ensures.case w stands).1 (reads_views session query w free reads) n
+    (same_costs settings session query w n free costs)

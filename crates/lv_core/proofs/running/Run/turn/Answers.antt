@@ -1,6 +1,11 @@
 use Rattle.std.proofs.Common.{◌≡◌, ◌<◌, ℕ, List, length, ap, ◌∙◌, sym, subst, arith}
-use Rattle.std.specs.Prelude.{slice_index}
+use Rattle.std.specs.Prelude.{Result, slice_index}
+use Rattle.lv_schema.specs.declared.bound.Bound.{Bound}
+use Rattle.lv_schema.specs.declared.fault.Fault.{Fault}
 use Rattle.lv_plain.specs.declared.event.Event.TheVariants.{Turn as turn_of}
+use Rattle.lv_plain.specs.Machine.{steps_of}
+use Rattle.lv_store.specs.Answering.{IsCostBetween}
+use Rattle.lv_store.specs.Inputs.{AreCosts}
 use Rattle.lv_core.specs.Answering.{IsUndone}
 use Rattle.lv_core.specs.Run.{Gave, state_of, view_of}
 use Rattle.lv_core.proofs.Happened.{on_err, roomy}
@@ -109,3 +114,23 @@ returns-clause-fresh g c = λ query bound reading.
     let v = c.args.self.now in
     let line = next_line_is r.program r.places c.as_slice.result.now c.args.session c.place_of-place.result c.line_left-line.result.now c.as_slice.ensures c.place_of-place.ensures c.line_left-line.ensures.line in
     c.in_ok-answered.ensures.fresh (state_of v).world query (stands_held g.D.Disk.seen g.D.Disk.may_leave g.D.Disk.moment g.D.Disk.left_since g.D.Disk.failures r.policy r.program r.engine r.opening.engine.value r.places r.entries.list r.entries.spare v c.self.invariant.roomy c.self.view_is) (bound_here g.D.Disk.seen g.D.Disk.may_leave g.D.Disk.moment g.D.Disk.left_since g.D.Disk.failures r.policy r.program r.engine r.opening.engine.value r.places r.entries.list v c.self.view_is c.args.session c.line_left-line.result.now line ∙ bound) reading
+
+pub returns-in_err-answered-clause-most : goal.returns-in_err-answered-clause-most
+returns-in_err-answered-clause-most g c = λ query bound reading n costs.
+    let r = c.self.inside in
+    let v = c.args.self.now in
+    let w = (state_of v).world in
+    let line = next_line_is r.program r.places c.as_slice.result.now c.args.session c.place_of-place.result c.line_left-line.result.now c.as_slice.ensures c.place_of-place.ensures c.line_left-line.ensures.line in
+    let here = bound_here g.D.Disk.seen g.D.Disk.may_leave g.D.Disk.moment g.D.Disk.left_since g.D.Disk.failures r.policy r.program r.engine r.opening.engine.value r.places r.entries.list v c.self.view_is c.args.session c.line_left-line.result.now line in
+    c.in_err-answered.ensures.most w v.settings query (combine_held g.D.Disk.seen g.D.Disk.may_leave g.D.Disk.moment g.D.Disk.left_since g.D.Disk.failures r.policy r.program r.engine r.opening.engine.value r.places r.entries.list r.entries.spare v c.self.invariant.roomy c.self.view_is) (stands_held g.D.Disk.seen g.D.Disk.may_leave g.D.Disk.moment g.D.Disk.left_since g.D.Disk.failures r.policy r.program r.engine r.opening.engine.value r.places r.entries.list r.entries.spare v c.self.invariant.roomy c.self.view_is) (here ∙ bound) reading n
+    (subst (λ (b : Result Bound Fault). AreCosts (IsCostBetween w.visible) (steps_of v.settings c.args.session b w) n) (sym here) costs)
+
+pub returns-clause-most : goal.returns-clause-most
+returns-clause-most g c = λ query bound reading n costs.
+    let r = c.self.inside in
+    let v = c.args.self.now in
+    let w = (state_of v).world in
+    let line = next_line_is r.program r.places c.as_slice.result.now c.args.session c.place_of-place.result c.line_left-line.result.now c.as_slice.ensures c.place_of-place.ensures c.line_left-line.ensures.line in
+    let here = bound_here g.D.Disk.seen g.D.Disk.may_leave g.D.Disk.moment g.D.Disk.left_since g.D.Disk.failures r.policy r.program r.engine r.opening.engine.value r.places r.entries.list v c.self.view_is c.args.session c.line_left-line.result.now line in
+    c.in_ok-answered.ensures.most w v.settings query (combine_held g.D.Disk.seen g.D.Disk.may_leave g.D.Disk.moment g.D.Disk.left_since g.D.Disk.failures r.policy r.program r.engine r.opening.engine.value r.places r.entries.list r.entries.spare v c.self.invariant.roomy c.self.view_is) (stands_held g.D.Disk.seen g.D.Disk.may_leave g.D.Disk.moment g.D.Disk.left_since g.D.Disk.failures r.policy r.program r.engine r.opening.engine.value r.places r.entries.list r.entries.spare v c.self.invariant.roomy c.self.view_is) (here ∙ bound) reading n
+    (subst (λ (b : Result Bound Fault). AreCosts (IsCostBetween w.visible) (steps_of v.settings c.args.session b w) n) (sym here) costs)
