@@ -122,9 +122,6 @@ fn tell(rt: &HostRuntime, status: &Status) -> io::Result<()> {
             eprintln!(rt; "lazyview: bad journal at offset {offset}")
         }
         Status::OpenFault => eprintln!(rt; "lazyview: cannot open the journal"),
-        Status::Differ { session, place, .. } => {
-            eprintln!(rt; "lazyview: programs differ at session {session} place {place}")
-        }
         Status::NoMemory => eprintln!(rt; "lazyview: out of memory"),
     }
 }

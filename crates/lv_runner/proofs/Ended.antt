@@ -1,6 +1,6 @@
 -- What each status says, of words that are accepted.
 use Rattle.std.proofs.Common.{◌≡◌, ℕ, ◌<◌, ◌+◌, List, [], ◌++◌, length, Option, Some, None, inl, inr, refl, sym, ap, ◌∙◌, subst, arith}
-use Rattle.std.specs.Prelude.{◌⊎◌, Bool, false, IsTrue, IfSome, Ok}
+use Rattle.std.specs.Prelude.{◌⊎◌, IsTrue, IfSome, Ok}
 use Rattle.std.specs.Io.KnownBytes.{Consumes, IsAtEnd, Keeps}
 use Rattle.std.proofs.lemmas.List.{append-nil, length-append}
 use Rattle.lv_core.specs.Run.{failures_shown}
@@ -11,10 +11,9 @@ use Rattle.lv_recover.specs.Opening.{BadAt}
 use Rattle.lv_words.specs.declared.words.Words.{Words as SaidWords}
 use Rattle.lv_words.specs.Words.{said}
 use Rattle.lv_runner.specs.declared.status.Status.{Status}
-use Rattle.lv_runner.specs.declared.status.Status.TheVariants.{Done, Words, Script, SourceFault, SinkFault, BadJournal, OpenFault, Differ, NoMemory}
-use Rattle.lv_runner.specs.Differing.{shown}
+use Rattle.lv_runner.specs.declared.status.Status.TheVariants.{Done, Words, Script, SourceFault, SinkFault, BadJournal, OpenFault, NoMemory}
 use Rattle.lv_plain.specs.declared.program.Program.{Program}
-use Rattle.lv_runner.specs.Ends.{All, Completes, Ends, FailedOpening, HandedOut, HasScript, IsLeft, IsSpared, IsUnbegun, IsWell, NotAsked, Other, Outside, Part, Refused, TurnedAway, WroteWell}
+use Rattle.lv_runner.specs.Ends.{All, Completes, Ends, FailedOpening, HandedOut, HasScript, IsLeft, IsSpared, IsUnbegun, IsWell, NotAsked, Outside, Part, Refused, TurnedAway, WroteWell}
 use Rattle.lv_runner.specs.Output.{IsBad, limit}
 use Rattle.lv_order.proofs.Once.{answer_once}
 use Rattle.lv_runner.proofs.Read.{too_long}
@@ -88,26 +87,17 @@ module _ {D : Type 0} (seen : D → Option (List ℕ)) (may_leave : D → List �
   pub is_open : s ≡ OpenFault → FailedOpening faults old.disks_faults new.disks_faults new.openings.count back
   is_open e = (at v is OpenFault e).0
 
-  pub is_other : (w : SaidWords) (session place : ℕ) (given kept : List ℕ) → said words ≡ Some w → s ≡ Differ session place given kept → Other seen may_leave moment left_since faults w (holds w.log) w.log old new back (shown session place given kept)
-  is_other w session place given kept there e = (at w there (Differ session place given kept) e).0
+  -- nothing is written only where no disk was handed out, or nothing was run over it
+  abbrev Untouched : SaidWords → Type 0
+  Untouched w = Keeps old.written new.written × (NotAsked old.openings new.openings back ⊎ IsUnbegun seen (holds w.log) back)
 
-  pub is_short : (w : SaidWords) → said words ≡ Some w → s ≡ NoMemory → Keeps old.written new.written ⊎ Part seen may_leave moment left_since faults w (holds w.log) w.log old new back
+  pub is_short : (w : SaidWords) → said words ≡ Some w → s ≡ NoMemory → (Keeps old.written new.written × (NotAsked old.openings new.openings back ⊎ IsUnbegun seen (holds w.log) back)) ⊎ Part seen may_leave moment left_since faults w (holds w.log) w.log old new back
   is_short w there e = by (at w there NoMemory e)
     where
-      by : Ends seen may_leave moment left_since faults w (holds w.log) w.log old new back NoMemory → Keeps old.written new.written ⊎ Part seen may_leave moment left_since faults w (holds w.log) w.log old new back
-      by (inl none) = inl none.0
-      by (inr (inl kept, out)) = inl kept.0
+      by : Ends seen may_leave moment left_since faults w (holds w.log) w.log old new back NoMemory → Untouched w ⊎ Part seen may_leave moment left_since faults w (holds w.log) w.log old new back
+      by (inl none) = inl (none.0, inl none.1)
+      by (inr (inl kept, out)) = inl (kept.0, inr kept.1)
       by (inr (inr wrote, out)) = inr wrote
-
-  -- without threads nothing is written only where no disk was handed out, or nothing was run over it
-  pub is_early : (w : SaidWords) → said words ≡ Some w → w.threads ≡ false → s ≡ NoMemory → NotAsked old.openings new.openings back ⊎ IsUnbegun seen (holds w.log) back ⊎ Part seen may_leave moment left_since faults w (holds w.log) w.log old new back
-  is_early w there alone e = by (at w there NoMemory e)
-    where
-      by : Ends seen may_leave moment left_since faults w (holds w.log) w.log old new back NoMemory → NotAsked old.openings new.openings back ⊎ IsUnbegun seen (holds w.log) back ⊎ Part seen may_leave moment left_since faults w (holds w.log) w.log old new back
-      by (inl none) = inl none.1
-      by (inr (inl (kept, inl threads), out)) = absurd (cc (alone, threads))
-      by (inr (inl (kept, inr unbegun), out)) = inr (inl unbegun)
-      by (inr (inr wrote, out)) = inr (inr wrote)
 
   pub is_spared : (w : SaidWords) → said words ≡ Some w → s ≡ OpenFault → IsSpared seen (holds w.log) back
   is_spared w there e = (at w there OpenFault e).3
@@ -122,9 +112,6 @@ module _ {D : Type 0} (seen : D → Option (List ℕ)) (may_leave : D → List �
   handed_out w there (inl e) = (at w there Done e).2
   handed_out w there (inr (inl e)) = (at w there SinkFault e).2
   handed_out w there (inr (inr h)) = (at w there (BadJournal h.0) h.1).2
-
-  pub came_back : (w : SaidWords) (session place : ℕ) (given kept : List ℕ) → said words ≡ Some w → s ≡ Differ session place given kept → HandedOut w.log old.openings new.openings back
-  came_back w session place given kept there e = (at w there (Differ session place given kept) e).2
 
   pub asked_once : (w : SaidWords) → said words ≡ Some w → s ≡ OpenFault → HandedOut w.log old.openings new.openings back ⊎ TurnedAway w.log old.openings new.openings back
   asked_once w there e = (at w there OpenFault e).2
@@ -144,7 +131,6 @@ module _ {D : Type 0} (seen : D → Option (List ℕ)) (may_leave : D → List �
   kept_at SinkFault ends done sink short = absurd (sink refl)
   kept_at (BadJournal offset) ends done sink short = ends.1
   kept_at OpenFault ends done sink short = ends.1
-  kept_at (Differ session place given kept) ends done sink short = ends.1
   kept_at NoMemory ends done sink short = absurd (short refl)
 
   pub kept_unless : (s ≡ Done → ⊥) → (s ≡ SinkFault → ⊥) → (s ≡ NoMemory → ⊥) → Keeps old.written new.written
@@ -179,8 +165,7 @@ module _ {D : Type 0} (seen : D → Option (List ℕ)) (may_leave : D → List �
   completes_at w SinkFault well ends = absurd (well.sink ends.1)
   completes_at w (BadJournal offset) well ends = absurd (well.good offset (subst (λ (o : Option (List ℕ)). IfSome o (λ bytes. BadAt bytes offset)) well.tells ends.0))
   completes_at w OpenFault well ends = absurd (not_open w well ends.0)
-  completes_at w (Differ session place given kept) well ends = inr (inr (ends.0.differed.threads, session, place, given, kept, refl))
-  completes_at w NoMemory well ends = inr (inl refl)
+  completes_at w NoMemory well ends = inr refl
 
   pub completes : (w : SaidWords) → said words ≡ Some w → Well w → Completes seen may_leave moment left_since faults w (holds w.log) w.log old new back s
   completes w there well = completes_at w s well (ends_of w there)

@@ -1,6 +1,6 @@
 -- How a run ends, from the disk's hand-out on.
-use Rattle.std.proofs.Common.{◌≡◌, ℕ, ◌<◌, Bool, true, false, List, [], ◌∷◌, ◌++◌, length, Option, Some, None, inl, inr, refl, sym, ap, ◌∙◌, subst, arith}
-use Rattle.std.specs.Prelude.{◌⊎◌, IfSome, IsTrue}
+use Rattle.std.proofs.Common.{◌≡◌, ℕ, ◌<◌, Bool, List, [], ◌∷◌, ◌++◌, length, Option, Some, None, inl, inr, refl, sym, ap, ◌∙◌, subst, arith}
+use Rattle.std.specs.Prelude.{◌⊎◌, IfSome}
 use Rattle.std.specs.Io.KnownBytes.{Keeps}
 use Rattle.std.proofs.KnownBytes.{Keeps-refl}
 use Rattle.lv_engine.specs.Kept.{EngineView}
@@ -16,9 +16,9 @@ use Rattle.lv_schema.specs.declared.rec.Rec.{Rec}
 use Rattle.lv_runner.specs.declared.reading.Unread.{Unread}
 use Rattle.lv_runner.specs.declared.reading.Unread.TheVariants as why
 use Rattle.lv_runner.specs.declared.status.Status.{Status}
-use Rattle.lv_runner.specs.declared.status.Status.TheVariants.{Done, Words, Script, SourceFault, SinkFault, BadJournal, OpenFault, Differ, NoMemory}
+use Rattle.lv_runner.specs.declared.status.Status.TheVariants.{Done, Words, Script, SourceFault, SinkFault, BadJournal, OpenFault, NoMemory}
 use Rattle.lv_words.specs.declared.words.Words.{Words as SaidWords}
-use Rattle.lv_runner.specs.Begun.{EndsOpened, EndsOver, IsKeptBy, IsShort, IsUntried, TellsAtLeast, unopened_as}
+use Rattle.lv_runner.specs.Begun.{EndsOpened, EndsOver, IsKeptBy, IsUntried, TellsAtLeast, unopened_as}
 use Rattle.lv_runner.specs.Ends.{Ends, HasInput, Outside, Part, WhyNone, unread_as}
 use Rattle.lv_runner.specs.Written.{HasWrittenPart}
 
@@ -59,14 +59,7 @@ module _ {D : Type 0} (seen : D → Option (List ℕ)) (may_leave : D → List �
     over_opened written0 written1 is_flushed sink0 sink1 SinkFault (Some disk) h = h
     over_opened written0 written1 is_flushed sink0 sink1 (BadJournal offset) (Some disk) h = absurd h
     over_opened written0 written1 is_flushed sink0 sink1 OpenFault (Some disk) h = absurd h
-    over_opened written0 written1 is_flushed sink0 sink1 (Differ session place given kept) (Some disk) h = h
-    over_opened written0 written1 is_flushed sink0 sink1 NoMemory (Some disk) h = by w.threads refl h
-      where
-        by : (b : Bool) → w.threads ≡ b → IsShort seen may_leave moment left_since faults w told bytes count written0 written1 is_flushed sink0 sink1 b disk
-            → (Keeps written0 written1 × (IsTrue w.threads ⊎ IsUntried (seen disk) told)) ⊎ HasWrittenPart seen may_leave moment left_since faults w told bytes written0 written1 count disk
-        by false is wrote = inr wrote
-        by true is (inl kept) = inl (kept, inl (is))
-        by true is (inr wrote) = inr wrote
+    over_opened written0 written1 is_flushed sink0 sink1 NoMemory (Some disk) h = inr h
 
     -- one that was not
     pub ends_unopened : (there : D) (written : Option (List ℕ)) (is_flushed : Bool) (sink : ℕ) (cause : JFault) (disk : D) (status : Status) → status ≡ unopened_as cause
@@ -83,7 +76,7 @@ module _ {D : Type 0} (seen : D → Option (List ℕ)) (may_leave : D → List �
         by (journal.Bad offset) bad stays failed begun =
             (retold told (seen there) (λ f. BadAt f offset) tells (bad offset refl), Keeps-refl written, retold told (seen there) (λ f. seen disk ≡ Some f) tells (stays offset refl))
         by journal.Failed bad stays failed begun = (failed refl, Keeps-refl written, kept_as_told told (seen there) (seen disk) tells left)
-        by journal.NoMemory bad stays failed begun = inl (Keeps-refl written, inr (untried_as_told told (seen there) (seen disk) tells left (begun refl)))
+        by journal.NoMemory bad stays failed begun = inl (Keeps-refl written, untried_as_told told (seen there) (seen disk) tells left (begun refl))
 
   -- ---- the source, the sink and the disks
   module _ (w : SaidWords) (told path : Option (List ℕ)) (old new : Outside) (bytes : List ℕ) (input : HasInput w.make old.left new.left bytes) where
@@ -105,10 +98,9 @@ module _ {D : Type 0} (seen : D → Option (List ℕ)) (may_leave : D → List �
     at_end out SinkFault (Some disk) h = (part disk h.0, h.1, out)
     at_end out (BadJournal offset) (Some disk) h = (h.0, h.1, out, h.2)
     at_end out OpenFault (Some disk) h = (h.0, h.1, inl out, h.2)
-    at_end out (Differ session place given kept) (Some disk) h = (record { bytes = bytes; input = input; disk = disk; comes_back = refl; differed = h.0 }, h.1, out)
     at_end out NoMemory (Some disk) h = by h
       where
-        by : (Keeps old.written new.written × (IsTrue w.threads ⊎ IsUntried (seen disk) told)) ⊎ HasWrittenPart seen may_leave moment left_since faults w told bytes old.written new.written new.openings.count disk → Ends seen may_leave moment left_since faults w told path old new (Some disk) NoMemory
+        by : (Keeps old.written new.written × IsUntried (seen disk) told) ⊎ HasWrittenPart seen may_leave moment left_since faults w told bytes old.written new.written new.openings.count disk → Ends seen may_leave moment left_since faults w told path old new (Some disk) NoMemory
         by (inl kept) = inr (inl kept, out)
         by (inr wrote) = inr (inr (part disk wrote), out)
 

@@ -1,11 +1,11 @@
 -- What was written is the output of the script, or a part of it.
 use Rattle.std.proofs.Common.{◌≡◌, ℕ, Bool, true, false, List, [], ◌++◌, map, take, drop, inl, inr, refl, sym, ap, ◌∙◌, subst, arith}
-use Rattle.std.specs.Prelude.{◌⊎◌, ◌≤◌, ◌||◌, Option, Some, None, IfSome, is_some, Ok}
+use Rattle.std.specs.Prelude.{◌⊎◌, ◌||◌, Option, Some, None, IfSome, is_some, Ok}
 use Rattle.std.specs.Io.KnownBytes.{Appends, Keeps}
 use Rattle.std.proofs.KnownBytes.{Appends-nil, Keeps-refl}
 use Rattle.std.proofs.lemmas.List.{append-nil, take-append-drop}
 use Rattle.lv_core.specs.Run.{CoreView, IsOpening, IsRun, first_state, rules_of, world_of}
-use Rattle.lv_engine.specs.Kept.{EngineView, length_of}
+use Rattle.lv_engine.specs.Kept.{EngineView}
 use Rattle.lv_lines.specs.Script.{script_of}
 use Rattle.lv_lines.specs.Transcript.{text_of}
 use Rattle.lv_order.specs.Places.{places_after}
@@ -21,21 +21,22 @@ use Rattle.lv_plain.specs.Rules.{Rules}
 use Rattle.lv_journal.specs.Standing.{RecordsIn}
 use Rattle.lv_journal.proofs.Meaning.{told_in}
 use Rattle.lv_record.specs.Spelling.{spelling}
+use Rattle.lv_recover.specs.Opening.{OpensAs}
 use Rattle.lv_replay.specs.Replayed as replay
 use Rattle.lv_schema.specs.declared.rec.Rec.{Rec}
-use Rattle.lv_schema.specs.World.{Settings, World}
+use Rattle.lv_schema.specs.World.{World}
 use Rattle.lv_words.specs.declared.words.Words.{Words as SaidWords}
-use Rattle.lv_runner.specs.declared.differing.Counts.{Counts}
 use Rattle.lv_runner.specs.declared.status.Status.{Status}
-use Rattle.lv_runner.specs.declared.status.Status.TheVariants.{Done, Words, Script, SourceFault, SinkFault, BadJournal, OpenFault, Differ, NoMemory}
-use Rattle.lv_runner.specs.Begun.{EndsOver, HasBegun, IsShort}
+use Rattle.lv_runner.specs.declared.status.Status.TheVariants.{Done, Words, Script, SourceFault, SinkFault, BadJournal, OpenFault, NoMemory}
+use Rattle.lv_runner.specs.Begun.{EndsOver, HasBegun}
 use Rattle.lv_runner.specs.Following.{EndsAt, GoesOn, HasCome, HasFollowed, HasRun, HasStopped, names_now}
-use Rattle.lv_runner.specs.Late.{EndsSummed, EndsThreaded, HasRunBy, HasSummed, HasThreaded, IsAnswered, IsSameStore, counts_of, output_now}
-use Rattle.lv_runner.specs.Opened.{IsOpened, OpensBy}
+use Rattle.lv_runner.specs.Late.{EndsSummed, EndsThreaded, HasRunBy, HasSummed, HasThreaded, IsAnswered, output_now}
+use Rattle.lv_runner.specs.Opened.{IsOpened}
 use Rattle.lv_runner.specs.Output.{AreInOrder, begin_state, end_state, failures_in, names_after, names_of, output_by, output_of, run_rules, settings_in}
 use Rattle.lv_runner.specs.Written.{AreFirst, HasPart, HasWritten, HasWrittenPart, is_at_end}
 use Rattle.lv_runner.proofs.Crashes.{CrashLaw, leaves_none}
-use Rattle.lv_runner.proofs.Worlds.{IsFrom, OneWorldLaw, as_long, first_is, from_back, from_opened, has_entries, rules_are}
+use Rattle.lv_runner.proofs.LateRuns.{on_and_on}
+use Rattle.lv_runner.proofs.Worlds.{IsFrom, OneWorldLaw, first_is, from_opened, has_entries, rules_are}
 
 abbrev pub PlacesLaw : Type 0
 PlacesLaw = (rules : Rules) (w : World) (es : List Entry) → (after rules (begun rules w) es).places ≡ places_after rules.program (events_of rules (begun rules w) es)
@@ -49,11 +50,11 @@ at_end_with w threads made t m i = t i || is_some (m i)
 
 module _ {D : Type 0} (seen : D → Option (List ℕ)) (may_leave : D → List ℕ → Type 0) (moment : D → ℕ) (left_since : D → ℕ → List ℕ → Type 0) (failures : D → ℕ) where
   module _ (w : SaidWords) (told : Option (List ℕ)) (bytes : List ℕ) (p : Program) (script : script_of bytes ≡ Ok p) (recs : List Rec) (count : ℕ) (c : CoreView D)
-      (run : IsRun seen may_leave moment left_since failures c) (from : IsFrom seen may_leave moment left_since failures w p recs count c) (opens : IfSome told (λ f. OpensBy w.threads f recs)) where
+      (run : IsRun seen may_leave moment left_since failures c) (from : IsFrom seen may_leave moment left_since failures w p recs count c) (opens : IfSome told (λ f. OpensAs f recs)) where
     abbrev opened : World
     opened = replay.state_of recs
 
-    abbrev opened_is : IsOpened w.threads told opened
+    abbrev opened_is : IsOpened told opened
     opened_is = record { recs = recs; opens = opens; apply = from.apply; is = refl }
 
     rules : rules_of c.settings c.program ≡ run_rules w p
@@ -171,14 +172,16 @@ module _ {D : Type 0} (seen : D → Option (List ℕ)) (may_leave : D → List �
     abbrev Over : Status → Option D → Type 0
     Over status back = EndsOver seen may_leave moment left_since failures w told bytes count written0 written1 is_flushed faults0 faults1 status back
 
-    short_over : (b : Bool) → w.threads ≡ b → (disk : D) → IsShort seen may_leave moment left_since failures w told bytes count written0 written1 is_flushed faults0 faults1 b disk → Over NoMemory (Some disk)
-    short_over b t disk h = subst (λ x. IsShort seen may_leave moment left_since failures w told bytes count written0 written1 is_flushed faults0 faults1 x disk) (sym t) h
+    abbrev opens : IfSome told (λ f. OpensAs f begun_.recs)
+    opens = begun_.reopened.opens
+
+    -- a core that was just made, and goes on
+    later : (old new : CoreView D) → old.program ≡ p → old.settings ≡ settings_in w → old.opened ≡ e → GoesOn old new → IsFrom seen may_leave moment left_since failures w p begun_.recs count new
+    later old new program settings opened_ same =
+        from_opened seen may_leave moment left_since failures w told bytes p count e begun_ law crash_law fresh new (same.program ∙ program) (same.settings ∙ settings) (same.opened ∙ opened_)
 
     -- ---- without threads
     module _ (places : PlacesLaw) (answered : AnsweredLaw) (followable : IsFollowable p) (alone : w.threads ≡ false) where
-      abbrev opens : IfSome told (λ f. OpensBy w.threads f begun_.recs)
-      opens = subst (λ b. IfSome told (λ f. OpensBy b f begun_.recs)) (sym alone) begun_.reopened.opens
-
       module _ (c : CoreView D) (run : IsRun seen may_leave moment left_since failures c) (from : IsFrom seen may_leave moment left_since failures w p begun_.recs count c) where
         part : (k : ℕ) → HasFollowed c (take k (schedule p)) → HasPart (is_at_end w) w p (replay.state_of begun_.recs) c.entries written0 written1
             → HasWrittenPart seen may_leave moment left_since failures w told bytes written0 written1 count c.engine.journal.disk
@@ -202,8 +205,7 @@ module _ {D : Type 0} (seen : D → Option (List ℕ)) (may_leave : D → List �
         ordered_at m SinkFault ends = (stopped_part m ends.0, ends.1)
         ordered_at m (BadJournal offset) ends = absurd ends
         ordered_at m OpenFault ends = absurd ends
-        ordered_at m (Differ session place given kept) ends = absurd ends
-        ordered_at m NoMemory ends = short_over false alone c.engine.journal.disk (stopped_part m ends)
+        ordered_at m NoMemory ends = stopped_part m ends
 
         front_part : (n : ℕ) → w.make ≡ Some n → HasFollowed c (schedule p) → AppendsFront written0 written1 (output_now (Some n) c) → HasWrittenPart seen may_leave moment left_since failures w told bytes written0 written1 count c.engine.journal.disk
         front_part n m followed wrote =
@@ -231,25 +233,19 @@ module _ {D : Type 0} (seen : D → Option (List ℕ)) (may_leave : D → List �
         summed_at n m SinkFault ends = (front_part n m ends.0 ends.1, ends.2)
         summed_at n m (BadJournal offset) ends = absurd ends
         summed_at n m OpenFault ends = absurd ends
-        summed_at n m (Differ session place given kept) ends = absurd ends
-        summed_at n m NoMemory ends = short_over false alone c.engine.journal.disk (short_summed n m ends)
+        summed_at n m NoMemory ends = short_summed n m ends
 
-      -- a core that was just made, and goes on
       module _ (old : CoreView D) (events : List Event) (status : Status) (back : Option D) (program : old.program ≡ p) (settings : old.settings ≡ settings_in w) (opened_ : old.opened ≡ e)
           (are : events ≡ schedule p) where
-        later : (new : CoreView D) → GoesOn old new → IsFrom seen may_leave moment left_since failures w p begun_.recs count new
-        later new same =
-            from_opened seen may_leave moment left_since failures w told bytes p count e begun_ law crash_law fresh new (same.program ∙ program) (same.settings ∙ settings) (same.opened ∙ opened_)
-
         ends_ordered : w.make ≡ None → HasRun seen may_leave moment left_since failures old events written0 written1 is_flushed faults0 faults1 status back → Over status back
         ends_ordered m ran =
             let ends = subst (λ es. EndsAt seen may_leave moment left_since failures ran.new es written0 written1 is_flushed faults0 faults1 status) are ran.ends in
-            subst (Over status) (sym ran.disk) (ordered_at ran.new ran.run (later ran.new ran.same) m status ends)
+            subst (Over status) (sym ran.disk) (ordered_at ran.new ran.run (later old ran.new program settings opened_ ran.same) m status ends)
 
         ends_summed : (n : ℕ) → w.make ≡ Some n → HasSummed seen may_leave moment left_since failures (Some n) old events written0 written1 is_flushed faults0 faults1 status back → Over status back
         ends_summed n m ran =
             let ends = subst (λ es. EndsSummed seen may_leave moment left_since failures (Some n) ran.new es written0 written1 is_flushed faults0 faults1 status) are ran.ends in
-            subst (Over status) (sym ran.disk) (summed_at ran.new ran.run (later ran.new ran.same) n m status ends)
+            subst (Over status) (sym ran.disk) (summed_at ran.new ran.run (later old ran.new program settings opened_ ran.same) n m status ends)
 
         ends_by : (made : Option ℕ) → w.make ≡ made → HasRunBy seen may_leave moment left_since failures made old events written0 written1 is_flushed faults0 faults1 status back → Over status back
         ends_by None m ran = ends_ordered m ran
@@ -259,72 +255,40 @@ module _ {D : Type 0} (seen : D → Option (List ℕ)) (may_leave : D → List �
         ends_alone ran = ends_by w.make refl ran
 
     -- ---- in threads
-    module _ (beside : w.threads ≡ true) (m : w.make ≡ None) (old : CoreView D) (settings : old.settings ≡ settings_in w) (opened_ : old.opened ≡ e) where
-      module _ (c : CoreView D) (run : IsRun seen may_leave moment left_since failures c) where
-        module _ (same : IsSameStore seen may_leave moment left_since failures p (counts_of seen may_leave moment left_since failures old) c) where
-          abbrev from : IsFrom seen may_leave moment left_since failures w p run.recs count c
-          from = from_back seen may_leave moment left_since failures w told bytes p count e begun_ law crash_law fresh old c settings opened_ run same
+    module _ (beside : w.threads ≡ true) (m : w.make ≡ None) where
+      module _ (c : CoreView D) (run : IsRun seen may_leave moment left_since failures c) (from : IsFrom seen may_leave moment left_since failures w p begun_.recs count c) where
+        beside_part : HasPart (is_at_end w) w p (replay.state_of begun_.recs) c.entries written0 written1 → HasWrittenPart seen may_leave moment left_since failures w told bytes written0 written1 count c.engine.journal.disk
+        beside_part wrote =
+            wrote_part w told bytes p begun_.script begun_.recs count c run from opens (first_in_threads w told bytes p begun_.script begun_.recs count c run from opens beside) written0 written1 wrote
 
-          abbrev long : IfSome told (λ f. OpensBy w.threads f run.recs)
-          long = as_long seen may_leave moment left_since failures w told bytes p count e begun_ law crash_law fresh old c settings opened_ run same beside
+        beside_front : IsAnswered c → AppendsFront written0 written1 (output_now None c) → HasWrittenPart seen may_leave moment left_since failures w told bytes written0 written1 count c.engine.journal.disk
+        beside_front none wrote =
+            beside_part
+            (front_of_all w told bytes p begun_.script begun_.recs count c run from opens None m (at_end_with w true None beside m)
+            (left_none w told bytes p begun_.script begun_.recs count c run from opens none) written0 written1 wrote)
 
-          back_front : IsAnswered c → AppendsFront written0 written1 (output_now None c) → HasWrittenPart seen may_leave moment left_since failures w told bytes written0 written1 count c.engine.journal.disk
-          back_front none wrote =
-              wrote_part w told bytes p begun_.script run.recs count c run from long (first_in_threads w told bytes p begun_.script run.recs count c run from long beside) written0 written1
-              (front_of_all w told bytes p begun_.script run.recs count c run from long None m (at_end_with w true None beside m)
-              (left_none w told bytes p begun_.script run.recs count c run from long none) written0 written1 wrote)
+        beside_all : IsAnswered c → Appends written0 written1 (output_now None c) → HasWritten seen may_leave moment left_since failures w told bytes written0 written1 count c.engine.journal.disk
+        beside_all none wrote =
+            wrote_all w told bytes p begun_.script begun_.recs count c run from opens None m (left_none w told bytes p begun_.script begun_.recs count c run from opens none)
+            (in_threads w told bytes p begun_.script begun_.recs count c run from opens beside) written0 written1 wrote
 
-          back_all : IsAnswered c → Appends written0 written1 (output_now None c) → HasWritten seen may_leave moment left_since failures w told bytes written0 written1 count c.engine.journal.disk
-          back_all none wrote =
-              wrote_all w told bytes p begun_.script run.recs count c run from long None m (left_none w told bytes p begun_.script run.recs count c run from long none)
-              (in_threads w told bytes p begun_.script run.recs count c run from long beside) written0 written1 wrote
+        beside_short : Keeps written0 written1 ⊎ (IsAnswered c × AppendsFront written0 written1 (output_now None c)) → HasWrittenPart seen may_leave moment left_since failures w told bytes written0 written1 count c.engine.journal.disk
+        beside_short (inl kept) = beside_part (nothing_yet w told bytes p begun_.script begun_.recs count c run from opens (at_end_with w true None beside m) written0 written1 kept)
+        beside_short (inr h) = beside_front h.0 h.1
 
-        back_short : Keeps written0 written1 ⊎ (IsSameStore seen may_leave moment left_since failures p (counts_of seen may_leave moment left_since failures old) c × IsAnswered c × AppendsFront written0 written1 (output_now None c))
-            → Keeps written0 written1 ⊎ HasWrittenPart seen may_leave moment left_since failures w told bytes written0 written1 count c.engine.journal.disk
-        back_short (inl kept) = inl kept
-        back_short (inr h) = inr (back_front h.0 h.1 h.2)
-
-        threaded_at : (status : Status) → EndsThreaded seen may_leave moment left_since failures p (counts_of seen may_leave moment left_since failures old) c written0 written1 is_flushed faults0 faults1 status → Over status (Some c.engine.journal.disk)
-        threaded_at Done ends = (back_all ends.0 ends.1 ends.2, ends.3)
+        threaded_at : (status : Status) → EndsThreaded seen may_leave moment left_since failures c written0 written1 is_flushed faults0 faults1 status → Over status (Some c.engine.journal.disk)
+        threaded_at Done ends = (beside_all ends.0 ends.1, ends.2)
         threaded_at Words ends = absurd ends
         threaded_at (Script line kind) ends = absurd ends
         threaded_at SourceFault ends = absurd ends
-        threaded_at SinkFault ends = (back_front ends.0 ends.1 ends.2, ends.3)
+        threaded_at SinkFault ends = (beside_front ends.0 ends.1, ends.2)
         threaded_at (BadJournal offset) ends = absurd ends
         threaded_at OpenFault ends = absurd ends
-        threaded_at (Differ session place given kept) ends = (
-          record {
-            threads = beside;
-            program = p;
-            script = begun_.script;
-            recs = begun_.recs;
-            opens = begun_.reopened.opens;
-            given_counts = counts_of seen may_leave moment left_since failures old;
-            combine = ap (λ (s : Settings). s.combine) settings;
-            log_limit = ap (λ (s : Settings). s.limit) settings;
-            policy = ap (λ (s : Settings). s.policy) settings;
-            length = ap (λ (o : EngineView D). length_of o.journal) opened_ ∙ begun_.reopened.stands.journal_is;
-            counted = subst (λ (o : EngineView D). count ≤ failures o.journal.disk) (sym opened_) begun_.counted;
-            kept = c;
-            run = run;
-            disk_is = refl;
-            differ = ends.0;
-          },
-          ends.1,
-        )
-        threaded_at NoMemory ends = short_over true beside c.engine.journal.disk (back_short ends)
+        threaded_at NoMemory ends = beside_short ends
 
-      pub ends_beside : (status : Status) (back : Option D) → HasThreaded seen may_leave moment left_since failures p (counts_of seen may_leave moment left_since failures old) written0 written1 is_flushed faults0 faults1 status back → Over status back
-      ends_beside status back ran = subst (Over status) (sym ran.disk) (threaded_at ran.new ran.run status ran.ends)
-
-  -- want of memory
-  module _ (w : SaidWords) (told : Option (List ℕ)) (bytes : List ℕ) (count : ℕ) (written0 written1 : Option (List ℕ)) (is_flushed : Bool) (faults0 faults1 : ℕ) where
-    pub short_alone : w.threads ≡ false → (disk : D) → HasWrittenPart seen may_leave moment left_since failures w told bytes written0 written1 count disk
-        → EndsOver seen may_leave moment left_since failures w told bytes count written0 written1 is_flushed faults0 faults1 NoMemory (Some disk)
-    short_alone t disk h = subst (λ b. IsShort seen may_leave moment left_since failures w told bytes count written0 written1 is_flushed faults0 faults1 b disk) (sym t) h
-
-    pub short_beside : w.threads ≡ true → (disk : D) → Keeps written0 written1 → EndsOver seen may_leave moment left_since failures w told bytes count written0 written1 is_flushed faults0 faults1 NoMemory (Some disk)
-    short_beside t disk h = subst (λ b. IsShort seen may_leave moment left_since failures w told bytes count written0 written1 is_flushed faults0 faults1 b disk) (sym t) (inl h)
+      pub ends_beside : (old : CoreView D) (status : Status) (back : Option D) → old.program ≡ p → old.settings ≡ settings_in w → old.opened ≡ e
+          → HasThreaded seen may_leave moment left_since failures old written0 written1 is_flushed faults0 faults1 status back → Over status back
+      ends_beside old status back program settings opened_ ran = subst (Over status) (sym ran.disk) (threaded_at ran.new ran.run (later old ran.new program settings opened_ ran.same) status ran.ends)
 
   -- where no core was made
   module _ (w : SaidWords) (told : Option (List ℕ)) (bytes : List ℕ) (p : Program) (count : ℕ) (e : EngineView D) (begun_ : HasBegun seen may_leave moment left_since failures told bytes p count e) (only_now : (disk : D) (image : List ℕ) → left_since disk (moment disk) image → may_leave disk image) (written : Option (List ℕ)) where
@@ -332,17 +296,21 @@ module _ {D : Type 0} (seen : D → Option (List ℕ)) (may_leave : D → List �
     at_once_part false = record { whole = []; next = []; are = refl; one = omega arith; front = 0; wrote = Appends-nil written }
     at_once_part true = inl (Keeps-refl written)
 
-    pub ends_at_once : w.threads ≡ false → HasWrittenPart seen may_leave moment left_since failures w told bytes written written count e.journal.disk
-    ends_at_once alone =
+    none_first : (b : Bool) → AreFirst b p []
+    none_first false = (schedule p, refl)
+    none_first true = tt
+
+    pub ends_at_once : HasWrittenPart seen may_leave moment left_since failures w told bytes written written count e.journal.disk
+    ends_at_once =
         let stands = begun_.reopened.records.stands in
         record {
           program = p;
           script = begun_.script;
           opened = replay.state_of begun_.recs;
-          opens = record { recs = begun_.recs; opens = subst (λ b. IfSome told (λ f. OpensBy b f begun_.recs)) (sym alone) begun_.reopened.opens; apply = begun_.reopened.apply; is = refl };
+          opens = record { recs = begun_.recs; opens = begun_.reopened.opens; apply = begun_.reopened.apply; is = refl };
           entries = [];
           legal = tt;
-          order = subst (λ b. AreFirst b p []) (sym alone) (schedule p, refl);
+          order = none_first w.threads;
           wrote = at_once_part (is_at_end w);
           has = record {
             records = record {
@@ -379,12 +347,18 @@ module _ {D : Type 0} (seen : D → Option (List ℕ)) (may_leave : D → List �
       ends = subst (EndsSummed seen may_leave moment left_since failures made new events written0 written1 is_flushed faults0 faults1) (sym is) ends;
     }
 
-  pub has_threaded : (p : Program) (counts : Counts) (new : CoreView D) (written0 written1 : Option (List ℕ)) (is_flushed : Bool) (faults0 faults1 : ℕ) (status : Status) (back : Option D)
-      → IsRun seen may_leave moment left_since failures new → back ≡ Some new.engine.journal.disk → (s : Status) → status ≡ s
-      → EndsThreaded seen may_leave moment left_since failures p counts new written0 written1 is_flushed faults0 faults1 s → HasThreaded seen may_leave moment left_since failures p counts written0 written1 is_flushed faults0 faults1 status back
-  has_threaded p counts new written0 written1 is_flushed faults0 faults1 status back run disk s is ends = record {
+  pub has_threaded : (old new : CoreView D) (written0 written1 : Option (List ℕ)) (is_flushed : Bool) (faults0 faults1 : ℕ) (status : Status) (back : Option D)
+      → IsRun seen may_leave moment left_since failures new → GoesOn old new → back ≡ Some new.engine.journal.disk → (s : Status) → status ≡ s
+      → EndsThreaded seen may_leave moment left_since failures new written0 written1 is_flushed faults0 faults1 s → HasThreaded seen may_leave moment left_since failures old written0 written1 is_flushed faults0 faults1 status back
+  has_threaded old new written0 written1 is_flushed faults0 faults1 status back run same disk s is ends = record {
     new = new;
     run = run;
+    same = same;
     disk = disk;
-    ends = subst (EndsThreaded seen may_leave moment left_since failures p counts new written0 written1 is_flushed faults0 faults1) (sym is) ends;
+    ends = subst (EndsThreaded seen may_leave moment left_since failures new written0 written1 is_flushed faults0 faults1) (sym is) ends;
   }
+
+  -- a run that goes on from a later core goes on from an earlier one
+  pub threaded_from : (old mid : CoreView D) (written0 written1 : Option (List ℕ)) (is_flushed : Bool) (faults0 faults1 : ℕ) (status : Status) (back : Option D) → GoesOn old mid
+      → HasThreaded seen may_leave moment left_since failures mid written0 written1 is_flushed faults0 faults1 status back → HasThreaded seen may_leave moment left_since failures old written0 written1 is_flushed faults0 faults1 status back
+  threaded_from old mid written0 written1 is_flushed faults0 faults1 status back on h = record { new = h.new; run = h.run; same = on_and_on old mid h.new on h.same; disk = h.disk; ends = h.ends }

@@ -1,6 +1,6 @@
 -- The world that a run begins in, and the records that its disk tells.
 use Rattle.std.proofs.Common.{◌≡◌, ℕ, ◌+◌, ◌-◌, ◌^◌, ◌≤◌, List, ◌++◌, map, sym, ap, ◌∙◌, subst, arith}
-use Rattle.std.specs.Prelude.{min, true, Option, Some, None, IfSome, option_map}
+use Rattle.std.specs.Prelude.{min, true, Option, Some, None, option_map}
 use Rattle.lv_core.specs.Run.{CoreView, IsOpenedBy, IsOpening, IsRun, asked_of, failures_shown, first_state, rules_of, world_of, written_of}
 use Rattle.lv_crash.specs.Attempts.{attempts_of}
 use Rattle.lv_engine.specs.Fresh.{IsFresh, world_kept}
@@ -20,10 +20,8 @@ use Rattle.lv_stands.specs.Kept.{EngineKept}
 use Rattle.lv_stands.specs.Stands.{StandsFor}
 use Rattle.lv_store.specs.Kept.{kept}
 use Rattle.lv_words.specs.declared.words.Words.{Words as SaidWords}
-use Rattle.lv_runner.specs.declared.differing.Counts.{Counts}
 use Rattle.lv_runner.specs.Begun.{HasBegun}
-use Rattle.lv_runner.specs.Late.{IsSameStore, counts_of}
-use Rattle.lv_runner.specs.Opened.{IsAsLong, LeavesRun, OpensBy, TellsRecords}
+use Rattle.lv_runner.specs.Opened.{LeavesRun, TellsRecords}
 use Rattle.lv_runner.specs.Output.{begin_state, run_rules, settings_in}
 use Rattle.lv_runner.specs.Written.{HasEntries, attempts_from, records_from}
 use Rattle.lv_runner.proofs.Crashes.{CrashLaw, leaves_run}
@@ -35,10 +33,6 @@ OneWorldLaw = (w : World) (e : EngineKept) → IsFresh e → StandsFor w e → w
 pub one_world : {D : Type 0} (e : EngineView D) (w : World) → OneWorldLaw → IsOpening e → Stands w e → world_of e ≡ w
 one_world e w law fresh stands =
     sym (law w (kept (length_of e.journal) e.store) fresh (subst (λ n. StandsFor w (kept n e.store)) (sym stands.journal_is) stands.store_stands))
-
-if_some_to : {A : Type 0} (o : Option A) (P Q : A → Type 0) → ((x : A) → P x → Q x) → IfSome o P → IfSome o Q
-if_some_to None P Q f h = tt
-if_some_to (Some x) P Q f h = f x h
 
 module _ {D : Type 0} (seen : D → Option (List ℕ)) (may_leave : D → List ℕ → Type 0) (moment : D → ℕ) (left_since : D → ℕ → List ℕ → Type 0) (failures : D → ℕ) where
   -- an engine that was reopened is opened by its records
@@ -105,35 +99,3 @@ module _ {D : Type 0} (seen : D → Option (List ℕ)) (may_leave : D → List �
       apply = begun_.reopened.apply;
       crash = crash_law;
     }
-
-    -- the one that came back from the threads
-    module _ (first c : CoreView D) (settings : first.settings ≡ settings_in w) (opened : first.opened ≡ e) (run : IsRun seen may_leave moment left_since failures c)
-        (same : IsSameStore seen may_leave moment left_since failures p (counts_of seen may_leave moment left_since failures first) c) where
-      settings_back : c.settings ≡ settings_in w
-      settings_back =
-          let both : c.settings ≡ first.settings = λ i. let n : Counts = same.counts_are i in record { combine = n.combine; limit = n.log_limit; policy = n.policy } in
-          both ∙ settings
-
-      faults_back : failures c.opened.journal.disk ≡ failures e.journal.disk
-      faults_back = ap (λ (n : Counts). n.faults) same.counts_are ∙ ap (λ (o : EngineView D). failures o.journal.disk) opened
-
-      pub from_back : IsFrom w p run.recs count c
-      from_back = record {
-        program = same.program;
-        settings = settings_back;
-        world = run.opened_by.made;
-        had = run.opened_by.had;
-        counted = subst (λ n. count ≤ n) (sym faults_back) begun_.counted;
-        apply = run.opened_by.apply;
-        crash = crash_law;
-      }
-
-      length_back : (replay.state_of run.recs).upkeep.journal ≡ (replay.state_of begun_.recs).upkeep.journal
-      length_back =
-          ap (λ (v : World). v.upkeep.journal) (sym run.opened_by.made)
-          ∙ (ap (λ (n : Counts). n.length) same.counts_are ∙ (ap (λ (o : EngineView D). length_of o.journal) opened ∙ begun_.reopened.stands.journal_is))
-
-      pub as_long : w.threads ≡ true → IfSome told (λ f. OpensBy w.threads f run.recs)
-      as_long threads =
-          subst (λ b. IfSome told (λ f. OpensBy b f run.recs)) (sym threads)
-          (if_some_to told _ (λ f. IsAsLong f run.recs) (λ f opens. record { first = begun_.recs; opens = opens; length = length_back }) begun_.reopened.opens)

@@ -1,5 +1,5 @@
 -- A run over a disk that was handed out: what is known when it begins, and how it ends.
-use Rattle.std.specs.Prelude.{◌≡◌, ◌≤◌, ◌<◌, ◌⊎◌, ℕ, Bool, true, false, IsTrue, List, [], ◌∷◌, ◌++◌, length, Option, Some, None, IfSome, Ok}
+use Rattle.std.specs.Prelude.{◌≡◌, ◌≤◌, ◌<◌, ◌⊎◌, ℕ, Bool, IsTrue, List, [], ◌∷◌, ◌++◌, length, Option, Some, None, IfSome, Ok}
 use Rattle.std.specs.Io.KnownBytes.{Keeps}
 use Rattle.lv_engine.specs.Kept.{EngineView}
 use Rattle.lv_journal.specs.Bytes.{magic}
@@ -8,19 +8,13 @@ use Rattle.lv_journal.specs.declared.fault.JFault.TheVariants as journal
 use Rattle.lv_lines.specs.Script.{script_of}
 use Rattle.lv_outside.specs.Causes.{Rose}
 use Rattle.lv_plain.specs.declared.program.Program.{Program}
-use Rattle.lv_core.specs.Run.{CoreView, IsRun}
-use Rattle.lv_recover.specs.Opening.{BadAt, OpensAs}
+use Rattle.lv_recover.specs.Opening.{BadAt}
 use Rattle.lv_recover.specs.Reopened.{IsReopened}
-use Rattle.lv_replay.specs.Replayed.{state_of}
 use Rattle.lv_schema.specs.declared.rec.Rec.{Rec}
 use Rattle.lv_store.specs.declared.settings.Settings as store
 use Rattle.lv_words.specs.declared.words.Words.{Words as SaidWords}
-use Rattle.lv_runner.specs.declared.differing.Counts.{Counts}
-use Rattle.lv_runner.specs.declared.differing.Difference.{Difference}
 use Rattle.lv_runner.specs.declared.status.Status.{Status}
-use Rattle.lv_runner.specs.declared.status.Status.TheVariants.{Done, SinkFault, BadJournal, OpenFault, Differ, NoMemory}
-use Rattle.lv_runner.specs.Differing.{IsDifference, shown}
-use Rattle.lv_runner.specs.Late.{counts_of}
+use Rattle.lv_runner.specs.declared.status.Status.TheVariants.{Done, SinkFault, BadJournal, OpenFault, NoMemory}
 use Rattle.lv_runner.specs.Written.{HasWritten, HasWrittenPart}
 
 -- the settings of the store
@@ -53,39 +47,13 @@ module _ {D : Type 0} (seen : D → Option (List ℕ)) (may_leave : D → List �
     pub reopened : IsReopened seen may_leave told recs e
     pub counted : count ≤ faults e.journal.disk
 
-  -- The words ask for threads, and what came back from them differs from what was handed in: its program from the script's, or
-  -- its numbers from those of the words and of the store before, whose journal was as long as that of the records as which the
-  -- disk opened. What came back is a run of its own program, over the disk that comes back.
-  pub record HasDiffered (w : SaidWords) (told : Option (List ℕ)) (bytes : List ℕ) (count : ℕ) (d : Difference) (disk : D) : Type 0 where
-    pub threads : w.threads ≡ true
-    pub program : Program
-    pub script : script_of bytes ≡ Ok program
-    pub recs : List Rec
-    pub opens : IfSome told (λ f. OpensAs f recs)
-    pub given_counts : Counts
-    pub combine : given_counts.combine ≡ w.combine
-    pub log_limit : given_counts.log_limit ≡ w.log_limit
-    pub policy : given_counts.policy ≡ w.policy
-    pub length : given_counts.length ≡ (state_of recs).upkeep.journal
-    pub counted : count ≤ given_counts.faults
-    pub kept : CoreView D
-    pub run : IsRun seen may_leave moment left_since faults kept
-    pub disk_is : disk ≡ kept.engine.journal.disk
-    pub differ : IsDifference program kept.program given_counts (counts_of seen may_leave moment left_since faults kept) d
-
   module _ (w : SaidWords) (told : Option (List ℕ)) (bytes : List ℕ) (count : ℕ) (written0 written1 : Option (List ℕ)) (is_flushed : Bool) (sink0 sink1 : ℕ) where
-    -- what stands where memory was refused; with threads it may be before the store is known to be the one handed in
-    abbrev pub IsShort : Bool → D → Type 0
-    IsShort false disk = HasWrittenPart seen may_leave moment left_since faults w told bytes written0 written1 count disk
-    IsShort true disk = Keeps written0 written1 ⊎ HasWrittenPart seen may_leave moment left_since faults w told bytes written0 written1 count disk
-
     -- how a run over an opened engine ends; the disk comes back
     abbrev pub EndsOver : Status → Option D → Type 0
     EndsOver status None = ⊥
     EndsOver Done (Some disk) = HasWritten seen may_leave moment left_since faults w told bytes written0 written1 count disk × IsTrue is_flushed
     EndsOver SinkFault (Some disk) = HasWrittenPart seen may_leave moment left_since faults w told bytes written0 written1 count disk × Rose sink0 sink1
-    EndsOver (Differ session place given kept) (Some disk) = HasDiffered w told bytes count (shown session place given kept) disk × Keeps written0 written1
-    EndsOver NoMemory (Some disk) = IsShort w.threads disk
+    EndsOver NoMemory (Some disk) = HasWrittenPart seen may_leave moment left_since faults w told bytes written0 written1 count disk
     EndsOver status (Some disk) = ⊥
 
     -- how one over a disk that is opened first ends
@@ -95,8 +63,7 @@ module _ {D : Type 0} (seen : D → Option (List ℕ)) (may_leave : D → List �
     EndsOpened SinkFault (Some disk) = EndsOver SinkFault (Some disk)
     EndsOpened (BadJournal offset) (Some disk) = IfSome told (λ f. BadAt f offset) × Keeps written0 written1 × IfSome told (λ f. seen disk ≡ Some f)
     EndsOpened OpenFault (Some disk) = Rose count (faults disk) × Keeps written0 written1 × IsKeptBy (seen disk) told
-    EndsOpened (Differ session place given kept) (Some disk) = EndsOver (Differ session place given kept) (Some disk)
-    EndsOpened NoMemory (Some disk) = (Keeps written0 written1 × (IsTrue w.threads ⊎ IsUntried (seen disk) told)) ⊎ HasWrittenPart seen may_leave moment left_since faults w told bytes written0 written1 count disk
+    EndsOpened NoMemory (Some disk) = (Keeps written0 written1 × IsUntried (seen disk) told) ⊎ HasWrittenPart seen may_leave moment left_since faults w told bytes written0 written1 count disk
     EndsOpened status (Some disk) = ⊥
 
   -- how a run of a program over an engine ends, whatever its disk was told to hold, and whichever bytes say the program

@@ -10,13 +10,11 @@ use Rattle.lv_outside.specs.declared.disks.Openings.{Openings}
 use Rattle.lv_plain.specs.declared.program.Program.{Program}
 use Rattle.lv_recover.specs.Opening.{BadAt}
 use Rattle.lv_words.specs.declared.words.Words.{Words as SaidWords}
-use Rattle.lv_runner.specs.declared.differing.Difference.{Difference}
 use Rattle.lv_runner.specs.declared.reading.Unread.{Unread}
 use Rattle.lv_runner.specs.declared.reading.Unread.TheVariants as why
 use Rattle.lv_runner.specs.declared.status.Status.{Status}
-use Rattle.lv_runner.specs.declared.status.Status.TheVariants.{Done, Words, Script, SourceFault, SinkFault, BadJournal, OpenFault, Differ, NoMemory}
-use Rattle.lv_runner.specs.Begun.{HasDiffered, IsKeptBy, IsUntried}
-use Rattle.lv_runner.specs.Differing.{shown}
+use Rattle.lv_runner.specs.declared.status.Status.TheVariants.{Done, Words, Script, SourceFault, SinkFault, BadJournal, OpenFault, NoMemory}
+use Rattle.lv_runner.specs.Begun.{IsKeptBy, IsUntried}
 use Rattle.lv_order.specs.Once.{AnswerOnce}
 use Rattle.lv_runner.specs.Output.{limit, IsBad}
 use Rattle.lv_runner.specs.Written.{HasWritten, HasWrittenPart}
@@ -146,23 +144,12 @@ module _ {D : Type 0} (seen : D → Option (List ℕ)) (may_leave : D → List �
     pub comes_back : back ≡ Some disk
     pub wrote : HasWrittenPart seen may_leave moment left_since faults w told bytes written0 written1 count disk
 
-  -- what came back from the threads differs
-  pub record DidDiffer (d : Difference) (back : Option D) : Type 0 where
-    pub bytes : List ℕ
-    pub input : HasInput w.make left0 left1 bytes
-    pub disk : D
-    pub comes_back : back ≡ Some disk
-    pub differed : HasDiffered seen may_leave moment left_since faults w told bytes count d disk
-
 module _ {D : Type 0} (seen : D → Option (List ℕ)) (may_leave : D → List ℕ → Type 0) (moment : D → ℕ) (left_since : D → ℕ → List ℕ → Type 0) (faults : D → ℕ) (w : SaidWords) (told path : Option (List ℕ)) (old new : Outside) (back : Option D) where
   abbrev pub All : Type 0
   All = DidAll seen may_leave moment left_since faults w told old.left new.left old.written new.written new.openings.count back
 
   abbrev pub Part : Type 0
   Part = DidPart seen may_leave moment left_since faults w told old.left new.left old.written new.written new.openings.count back
-
-  abbrev pub Other : Difference → Type 0
-  Other d = DidDiffer seen may_leave moment left_since faults w told old.left new.left old.written new.written new.openings.count d back
 
   abbrev pub Nothing : Type 0
   Nothing = Keeps old.written new.written
@@ -183,8 +170,7 @@ module _ {D : Type 0} (seen : D → Option (List ℕ)) (may_leave : D → List �
   Ends SinkFault = Part × Rose old.sink_faults new.sink_faults × IsHandedOut
   Ends (BadJournal offset) = IfSome told (λ bytes. BadAt bytes offset) × Nothing × IsHandedOut × IsLeft seen told back
   Ends OpenFault = FailedOpening faults old.disks_faults new.disks_faults new.openings.count back × Nothing × (IsHandedOut ⊎ TurnedAway path old.openings new.openings back) × IsSpared seen told back
-  Ends (Differ session place given kept) = Other (shown session place given kept) × Nothing × IsHandedOut
-  Ends NoMemory = (Nothing × IsNotAsked) ⊎ (((Nothing × (IsTrue w.threads ⊎ IsUnbegun seen told back)) ⊎ Part) × IsHandedOut)
+  Ends NoMemory = (Nothing × IsNotAsked) ⊎ (((Nothing × IsUnbegun seen told back) ⊎ Part) × IsHandedOut)
 
   -- ---- where nothing goes wrong
   -- There is a script without a fault, which the source tells or which is made; neither the source, of which a script that is
@@ -205,7 +191,6 @@ module _ {D : Type 0} (seen : D → Option (List ℕ)) (may_leave : D → List �
     pub once : AnswerOnce all.wrote.gives.program all.wrote.gives.entries
     pub unfailed : failures_shown all.wrote.gives.entries ≡ 0
 
-  -- Then all is answered and written, or memory is wanting; or, with threads alone, what came back from them differs.
+  -- then all is answered and written, or memory is wanting
   abbrev pub Completes : Status → Type 0
   Completes status = ((status ≡ Done) × WroteWell) ⊎ (status ≡ NoMemory)
-      ⊎ (IsTrue w.threads × (session : ℕ) × (place : ℕ) × (given : List ℕ) × (kept : List ℕ) × (status ≡ Differ session place given kept))

@@ -2,15 +2,11 @@
 use Rattle.std.specs.Prelude.{◌≡◌, ◌⊎◌, ℕ, Bool, true, IsTrue, List, Option, Some, None}
 use Rattle.std.specs.Io.KnownBytes.{Appends, Keeps}
 use Rattle.lv_core.specs.Run.{CoreView, IsRun}
-use Rattle.lv_engine.specs.Kept.{length_of}
 use Rattle.lv_outside.specs.Causes.{AppendsFront, Rose}
 use Rattle.lv_plain.specs.declared.event.Event.{Event}
-use Rattle.lv_plain.specs.declared.program.Program.{Program}
 use Rattle.lv_plain.specs.Programs.{all_answered}
-use Rattle.lv_runner.specs.declared.differing.Counts.{Counts}
 use Rattle.lv_runner.specs.declared.status.Status.{Status}
-use Rattle.lv_runner.specs.declared.status.Status.TheVariants.{Done, SinkFault, Differ, NoMemory}
-use Rattle.lv_runner.specs.Differing.{IsDifference, shown}
+use Rattle.lv_runner.specs.declared.status.Status.TheVariants.{Done, SinkFault, NoMemory}
 use Rattle.lv_runner.specs.Following.{GoesOn, HasCome, HasFollowed, HasRun, names_now}
 use Rattle.lv_runner.specs.Output.{output_by}
 
@@ -45,36 +41,16 @@ module _ {D : Type 0} (seen : D → Option (List ℕ)) (may_leave : D → List �
   HasRunBy (Some n) old events written0 written1 is_flushed faults0 faults1 status back = HasSummed (Some n) old events written0 written1 is_flushed faults0 faults1 status back
 
   -- ---- threads
-
-  -- what is compared of a core beside its program
-  abbrev pub counts_of : CoreView D → Counts
-  counts_of c = record {
-    combine = c.settings.combine;
-    log_limit = c.settings.limit;
-    policy = c.settings.policy;
-    length = length_of c.opened.journal;
-    faults = failures c.opened.journal.disk;
-  }
-
-  -- the core that came back has the same program, and the same numbers
-  pub record IsSameStore (p : Program) (counts : Counts) (c : CoreView D) : Type 0 where
-    pub program : c.program ≡ p
-    pub counts_are : counts_of c ≡ counts
-
   -- how a run in threads ends, over the core that came back
-  abbrev pub EndsThreaded : Program → Counts → CoreView D → Option (List ℕ) → Option (List ℕ) → Bool → ℕ → ℕ → Status → Type 0
-  EndsThreaded p counts c written0 written1 is_flushed faults0 faults1 Done =
-      IsSameStore p counts c × IsAnswered c × Appends written0 written1 (output_now None c) × IsTrue is_flushed
-  EndsThreaded p counts c written0 written1 is_flushed faults0 faults1 SinkFault =
-      IsSameStore p counts c × IsAnswered c × AppendsFront written0 written1 (output_now None c) × Rose faults0 faults1
-  EndsThreaded p counts c written0 written1 is_flushed faults0 faults1 (Differ session place given kept) =
-      IsDifference p c.program counts (counts_of c) (shown session place given kept) × Keeps written0 written1
-  EndsThreaded p counts c written0 written1 is_flushed faults0 faults1 NoMemory =
-      Keeps written0 written1 ⊎ (IsSameStore p counts c × IsAnswered c × AppendsFront written0 written1 (output_now None c))
-  EndsThreaded p counts c written0 written1 is_flushed faults0 faults1 status = ⊥
+  abbrev pub EndsThreaded : CoreView D → Option (List ℕ) → Option (List ℕ) → Bool → ℕ → ℕ → Status → Type 0
+  EndsThreaded c written0 written1 is_flushed faults0 faults1 Done = IsAnswered c × Appends written0 written1 (output_now None c) × IsTrue is_flushed
+  EndsThreaded c written0 written1 is_flushed faults0 faults1 SinkFault = IsAnswered c × AppendsFront written0 written1 (output_now None c) × Rose faults0 faults1
+  EndsThreaded c written0 written1 is_flushed faults0 faults1 NoMemory = Keeps written0 written1 ⊎ (IsAnswered c × AppendsFront written0 written1 (output_now None c))
+  EndsThreaded c written0 written1 is_flushed faults0 faults1 status = ⊥
 
-  pub record HasThreaded (p : Program) (counts : Counts) (written0 written1 : Option (List ℕ)) (is_flushed : Bool) (faults0 faults1 : ℕ) (status : Status) (back : Option D) : Type 0 where
+  pub record HasThreaded (old : CoreView D) (written0 written1 : Option (List ℕ)) (is_flushed : Bool) (faults0 faults1 : ℕ) (status : Status) (back : Option D) : Type 0 where
     pub new : CoreView D
     pub run : IsRun seen may_leave moment left_since failures new
+    pub same : GoesOn old new
     pub disk : back ≡ Some new.engine.journal.disk
-    pub ends : EndsThreaded p counts new written0 written1 is_flushed faults0 faults1 status
+    pub ends : EndsThreaded new written0 written1 is_flushed faults0 faults1 status

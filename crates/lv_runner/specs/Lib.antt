@@ -1,5 +1,4 @@
 pub mod Begun
-pub mod Differing
 pub mod Ends
 pub mod Following
 pub mod Late

@@ -1,5 +1,5 @@
 -- The world over which a program is run, by what a disk tells.
-use Rattle.std.specs.Prelude.{◌≡◌, ◌≤◌, ℕ, Bool, true, false, List, ◌++◌, map, Option, IfSome, option_map}
+use Rattle.std.specs.Prelude.{◌≡◌, ◌≤◌, ℕ, true, List, ◌++◌, map, Option, IfSome, option_map}
 use Rattle.lv_crash.specs.Attempts.{Attempt, MayStay}
 use Rattle.lv_journal.specs.Standing.{RecordsIn}
 use Rattle.lv_record.specs.Spelling.{spelling}
@@ -9,23 +9,11 @@ use Rattle.lv_replay.specs.Replayed.{state_of}
 use Rattle.lv_schema.specs.declared.rec.Rec.{Rec}
 use Rattle.lv_schema.specs.World.{World}
 
--- the world of these records has a journal as long as that of the records as which these bytes open
-pub record IsAsLong (bytes : List ℕ) (recs : List Rec) : Type 0 where
-  pub first : List Rec
-  pub opens : OpensAs bytes first
-  pub length : (state_of recs).upkeep.journal ≡ (state_of first).upkeep.journal
-
--- The records of the opened world: those that the journal spells; with threads, those that the returned store says that it
--- was opened with, of which the length alone was compared.
-abbrev pub OpensBy : Bool → List ℕ → List Rec → Type 0
-OpensBy false bytes recs = OpensAs bytes recs
-OpensBy true bytes recs = IsAsLong bytes recs
-
 -- The opened world is the one that records make which apply one after another: those of the journal, where it is told what
 -- the journal holds.
-pub record IsOpened (threads : Bool) (told : Option (List ℕ)) (opened : World) : Type 0 where
+pub record IsOpened (told : Option (List ℕ)) (opened : World) : Type 0 where
   pub recs : List Rec
-  pub opens : IfSome told (λ bytes. OpensBy threads bytes recs)
+  pub opens : IfSome told (λ bytes. OpensAs bytes recs)
   pub apply : all_apply recs ≡ true
   pub is : opened ≡ state_of recs
 

@@ -1,7 +1,7 @@
 -- The numbers of statuses.
 use Rattle.std.specs.Prelude.{ℕ}
 use Rattle.lv_runner.specs.declared.status.Status.{Status}
-use Rattle.lv_runner.specs.declared.status.Status.TheVariants.{Done, Words, Script, SourceFault, SinkFault, BadJournal, OpenFault, Differ, NoMemory}
+use Rattle.lv_runner.specs.declared.status.Status.TheVariants.{Done, Words, Script, SourceFault, SinkFault, BadJournal, OpenFault, NoMemory}
 
 abbrev pub number_of : Status → ℕ
 number_of Done = 0
@@ -11,5 +11,4 @@ number_of SourceFault = 3
 number_of SinkFault = 4
 number_of (BadJournal offset) = 5
 number_of OpenFault = 6
-number_of (Differ session place given kept) = 7
 number_of NoMemory = 8

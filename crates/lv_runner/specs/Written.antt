@@ -70,7 +70,7 @@ module _ {D : Type 0} (seen : D → Option (List ℕ)) (may_leave : D → List �
   -- the records of its entries, and was handed out with this count of failures.
   pub record HasWritten (w : Words) (told : Option (List ℕ)) (bytes : List ℕ) (written0 written1 : Option (List ℕ)) (count : ℕ) (disk : D) : Type 0 where
     pub opened : World
-    pub opens : IsOpened w.threads told opened
+    pub opens : IsOpened told opened
     pub failures : List Bool
     pub text : List ℕ
     pub gives : IsOutput w opened failures bytes text
@@ -83,7 +83,7 @@ module _ {D : Type 0} (seen : D → Option (List ℕ)) (may_leave : D → List �
     pub program : Program
     pub script : script_of bytes ≡ Ok program
     pub opened : World
-    pub opens : IsOpened w.threads told opened
+    pub opens : IsOpened told opened
     pub entries : List Entry
     pub legal : Legal (run_rules w program) (begin_state w program opened) entries
     pub order : AreFirst w.threads program (events_of (run_rules w program) (begin_state w program opened) entries)

@@ -1,9 +1,11 @@
 //! A program over the disk of a path.
-ghost use Rattle.std.specs.Prelude.{◌≡◌, ◌≤◌, ◌<◌, ◌-◌, ◌^◌, [], true, false, ℕ, List, Option, None, Ok};
+ghost use Rattle.std.specs.Prelude.{◌≡◌, ◌≤◌, ◌<◌, ◌-◌, ◌^◌, [], true, false, ℕ, Bool, List, Option, None, Ok};
 ghost use Rattle.std.specs.Option.{option_map};
 ghost use Rattle.lv_core.specs.Run.{IsOpenedBy, IsOpening};
 ghost use Rattle.lv_lines.specs.Script.{script_of};
+ghost use Rattle.lv_plain.specs.declared.program.Program.{Program};
 ghost use Rattle.lv_schema.specs.declared.rec.Rec.{Rec};
+ghost use Rattle.lv_words.specs.declared.words.Words.{Words as SaidWords};
 ghost use Rattle.lv_words.specs.Range.{IsInRange};
 ghost use Rattle.lv_runner.specs.Begun.{EndsFrom, EndsOpened, TellsAtLeast, store_settings, unopened_as};
 ghost use Rattle.lv_runner.specs.Ends.{Ends, HasInput};
@@ -26,7 +28,7 @@ use lv_picker::Picker;
 use lv_plain::Event;
 use lv_recover::{Reopen, reopen};
 use lv_store::Settings;
-use lv_values::{Copying, Steps, Text};
+use lv_values::{Steps, Text};
 use lv_words::Words;
 use std::alloc::Global;
 use std::marker::Brand;
@@ -65,6 +67,17 @@ fn run_ordered<K: Sink, D: Disk, L: Ledger>(
     }
 }
 
+/// How a run over an opened engine ends where there is no memory for a core.
+fn unbegun<D: Disk>(engine: Engine<D>) -> Ran<D>
+    ensures { (w : SaidWords) (p : Program) (written : Option (List ℕ)) (is_flushed : Bool) (faults : ℕ)
+        → EndsFrom D.seen D.may_leave D.moment D.left_since D.failures w p engine written written is_flushed faults faults result.status result.disk }
+{
+    Ran {
+        status: Status::NoMemory,
+        disk: Some(engine.into_disk()),
+    }
+}
+
 /// Makes a core over an opened engine, and runs its program without threads.
 fn run_alone<K: Sink, D: Disk, L: Ledger>(
     alloc: Global,
@@ -92,15 +105,11 @@ fn run_alone<K: Sink, D: Disk, L: Ledger>(
     let Plan { program, events } = plan;
     match Core::new(alloc, engine, program, picker) {
         Ok(core) => run_ordered(alloc, core, words, events.as_slice(), sink, steps),
-        Err(engine) => Ran {
-            status: Status::NoMemory,
-            disk: Some(engine.into_disk()),
-        },
+        Err(engine) => unbegun(engine),
     }
 }
 
-/// Makes a core over an opened engine, and runs its program in threads. The program is copied: what comes back is compared
-/// with it.
+/// Makes a core over an opened engine, and runs its program in threads.
 fn run_beside<R: Threads + Wait + Sync, K: Sink, D: Disk + Send, G: Gate + Sync, L: Ledger>(
     rt: &R,
     alloc: Global,
@@ -126,18 +135,9 @@ fn run_beside<R: Threads + Wait + Sync, K: Sink, D: Disk + Send, G: Gate + Sync,
     fresh_engines_stand_for_one_world();
     what_a_crash_leaves_applies();
     let Plan { program, .. } = plan;
-    let Ok(copied) = program.copy(alloc) else {
-        return Ran {
-            status: Status::NoMemory,
-            disk: Some(engine.into_disk()),
-        };
-    };
-    match Core::new(alloc, engine, copied, picker) {
-        Ok(core) => run_in_threads(rt, alloc, core, &program, words, gate, sink, steps),
-        Err(engine) => Ran {
-            status: Status::NoMemory,
-            disk: Some(engine.into_disk()),
-        },
+    match Core::new(alloc, engine, program, picker) {
+        Ok(core) => run_in_threads(rt, alloc, core, words, gate, sink, steps),
+        Err(engine) => unbegun(engine),
     }
 }
 

@@ -1,8 +1,6 @@
 //! How a run ends.
 ghost use Rattle.std.specs.Prelude.{◌≡◌};
 
-use lv_values::Text;
-
 /// How a run ends.
 #[derive(Drop, PartialEq, Eq)]
 pub enum Status {
@@ -12,28 +10,15 @@ pub enum Status {
     Words,
     /// The script is refused: the first line with a fault, counted from 1, and the lowest kind of its faults, 1 to 12.
     /// A script that is too long has kind 2 at line 0.
-    Script {
-        line: u64,
-        kind: u8,
-    },
+    Script { line: u64, kind: u8 },
     /// The source failed.
     SourceFault,
     /// The sink failed.
     SinkFault,
     /// The journal is bad at this place.
-    BadJournal {
-        offset: u64,
-    },
+    BadJournal { offset: u64 },
     /// No disk was handed out, or the one that was could not be read.
     OpenFault,
-    /// What came back from the threads is not what was handed in: the session and the place where the programs differ first,
-    /// with both statements, names or items of the order; or session 17, and what each store is run with.
-    Differ {
-        session: u32,
-        place: u32,
-        given: Text,
-        kept: Text,
-    },
     /// Memory was refused.
     NoMemory,
 }
@@ -41,7 +26,7 @@ pub enum Status {
 impl Status {
     ghost use Rattle.lv_runner.specs.Status.{number_of};
 
-    /// The number of the status, which is the program's exit status.
+    /// The number of the status, which is the program's exit status; 7 is given to none.
     pub fn number(&self) -> u8
         ensures { result ≡ number_of self.now }
     {
@@ -53,7 +38,6 @@ impl Status {
             Status::SinkFault => 4,
             Status::BadJournal { .. } => 5,
             Status::OpenFault => 6,
-            Status::Differ { .. } => 7,
             Status::NoMemory => 8,
         }
     }

@@ -1,13 +1,12 @@
 //! The top call.
-ghost use Rattle.std.specs.Prelude.{◌≡◌, ◌≤◌, ◌<◌, ◌-◌, ◌^◌, ◌↔◌, ◌⊎◌, ◌∷◌, ℕ, [], false, IsTrue, None, Some, IfSome, List, map};
+ghost use Rattle.std.specs.Prelude.{◌≡◌, ◌≤◌, ◌<◌, ◌-◌, ◌^◌, ◌↔◌, ◌⊎◌, ◌∷◌, ℕ, [], IsTrue, None, Some, IfSome, List, map};
 ghost use Rattle.std.specs.Io.KnownBytes.{Keeps};
 ghost use Rattle.lv_outside.specs.Causes.{Rose};
 ghost use Rattle.lv_recover.specs.Opening.{BadAt};
 ghost use Rattle.lv_words.specs.declared.words.Words.{Words as SaidWords};
 ghost use Rattle.lv_words.specs.Range.{IsInRange};
 ghost use Rattle.lv_words.specs.Words.{said};
-ghost use Rattle.lv_runner.specs.Differing.{shown};
-ghost use Rattle.lv_runner.specs.Ends.{Completes, DidAll, DidDiffer, DidPart, Ends, FailedOpening, HandedOut, HasProgram, IsLeft, IsSpared, IsUnbegun, IsWell, NotAsked, Refused, TurnedAway, unread_as};
+ghost use Rattle.lv_runner.specs.Ends.{Completes, DidAll, DidPart, Ends, FailedOpening, HandedOut, HasProgram, IsLeft, IsSpared, IsUnbegun, IsWell, NotAsked, Refused, TurnedAway, unread_as};
 
 use crate::opening::open_and_run;
 use crate::ran::Ran;
@@ -76,8 +75,7 @@ fn answer<R: Threads + Wait + Sync, S: Source, K: Sink, O: Disks, G: Gate + Sync
 /// Without `--threads` and `--make` the entries come in the order of the program's schedule, and each is written as one piece,
 /// right after the call that gave it; so where the run ends early, whole entries and perhaps a part of one more are written.
 /// With `--threads` the setup is answered first, then sessions and workers run in threads, in any order, and then what they
-/// left is answered; the text is written at the end, and nothing of it where the store that comes back is not the one that was
-/// handed in. With `--make` the source is left alone, and the summary is written at the end. The disk comes back wherever one
+/// left is answered; the text is written at the end. With `--make` the source is left alone, and the summary is written at the end. The disk comes back wherever one
 /// was handed out, with the records of the entries. The pickers are three, of kinds 0, 1 and 2. With `--threads` it waits for
 /// a lock. Cost: linear in the script and the journal, and what each event takes.
 pub fn run<R: Threads + Wait + Sync, S: Source, K: Sink, O: Disks, G: Gate + Sync>(
@@ -112,10 +110,9 @@ pub fn run<R: Threads + Wait + Sync, S: Source, K: Sink, O: Disks, G: Gate + Syn
     ensures open { result.status ≡ Status.OpenFault → FailedOpening O.Disk.failures (O.failures disks.old) (O.failures disks.new) (O.openings disks.new).count result.disk }
     // No journal is opened before there is a program.
     ensures read { (w : SaidWords) → said words.now ≡ Some w → (result.status ≡ Status.OpenFault) ⊎ ((offset : ℕ) × (result.status ≡ Status.BadJournal offset)) → HasProgram w.make (S.left source.old) (S.left source.new) }
-    // With threads alone: what came back is not what was handed in.
-    ensures differs { (w : SaidWords) (session place : ℕ) (given kept : List ℕ) → said words.now ≡ Some w → result.status ≡ Status.Differ session place given kept → DidDiffer O.Disk.seen O.Disk.may_leave O.Disk.moment O.Disk.left_since O.Disk.failures w (O.holds disks.old w.log) (S.left source.old) (S.left source.new) (K.written sink.old) (K.written sink.new) (O.openings disks.new).count (shown session place given kept) result.disk }
-    // Want of memory has no cause; before the first event it writes nothing.
-    ensures short { (w : SaidWords) → said words.now ≡ Some w → result.status ≡ Status.NoMemory → Keeps (K.written sink.old) (K.written sink.new)
+    // Want of memory has no cause: nothing was run over the disk, and nothing is written; or a part of the output is.
+    ensures short { (w : SaidWords) → said words.now ≡ Some w → result.status ≡ Status.NoMemory
+        → (Keeps (K.written sink.old) (K.written sink.new) × (NotAsked (O.openings disks.old) (O.openings disks.new) result.disk ⊎ IsUnbegun O.Disk.seen (O.holds disks.old w.log) result.disk))
         ⊎ DidPart O.Disk.seen O.Disk.may_leave O.Disk.moment O.Disk.left_since O.Disk.failures w (O.holds disks.old w.log) (S.left source.old) (S.left source.new) (K.written sink.old) (K.written sink.new) (O.openings disks.new).count result.disk }
     // Where nothing goes wrong, all is answered and written, but for want of memory.
     ensures complete { (w : SaidWords) → said words.now ≡ Some w
@@ -127,15 +124,10 @@ pub fn run<R: Threads + Wait + Sync, S: Source, K: Sink, O: Disks, G: Gate + Syn
         (record { left = S.left source.old; source_faults = S.faults source.old; written = K.written sink.old; is_flushed = K.is_flushed sink.old; sink_faults = K.faults sink.old; disks_faults = O.failures disks.old; openings = O.openings disks.old })
         (record { left = S.left source.new; source_faults = S.faults source.new; written = K.written sink.new; is_flushed = K.is_flushed sink.new; sink_faults = K.faults sink.new; disks_faults = O.failures disks.new; openings = O.openings disks.new })
         result.disk result.status }
-    // Without threads nothing is written then only where nothing was run over the disk.
-    ensures early { (w : SaidWords) → said words.now ≡ Some w → w.threads ≡ false → result.status ≡ Status.NoMemory → NotAsked (O.openings disks.old) (O.openings disks.new) result.disk
-        ⊎ IsUnbegun O.Disk.seen (O.holds disks.old w.log) result.disk
-        ⊎ DidPart O.Disk.seen O.Disk.may_leave O.Disk.moment O.Disk.left_since O.Disk.failures w (O.holds disks.old w.log) (S.left source.old) (S.left source.new) (K.written sink.old) (K.written sink.new) (O.openings disks.new).count result.disk }
     ensures nothing { (result.status ≡ Status.Done → ⊥) → (result.status ≡ Status.SinkFault → ⊥) → (result.status ≡ Status.NoMemory → ⊥) → Keeps (K.written sink.old) (K.written sink.new) }
     // Which openings were asked, and when the disk comes back.
     ensures unasked { (result.status ≡ Status.Words) ⊎ ((line kind : ℕ) × (result.status ≡ Status.Script line kind)) ⊎ (result.status ≡ Status.SourceFault) → NotAsked (O.openings disks.old) (O.openings disks.new) result.disk }
     ensures opened { (w : SaidWords) → said words.now ≡ Some w → (result.status ≡ Status.Done) ⊎ (result.status ≡ Status.SinkFault) ⊎ ((offset : ℕ) × (result.status ≡ Status.BadJournal offset)) → HandedOut w.log (O.openings disks.old) (O.openings disks.new) result.disk }
-    ensures returned { (w : SaidWords) (session place : ℕ) (given kept : List ℕ) → said words.now ≡ Some w → result.status ≡ Status.Differ session place given kept → HandedOut w.log (O.openings disks.old) (O.openings disks.new) result.disk }
     ensures once { (w : SaidWords) → said words.now ≡ Some w → result.status ≡ Status.OpenFault → HandedOut w.log (O.openings disks.old) (O.openings disks.new) result.disk ⊎ TurnedAway w.log (O.openings disks.old) (O.openings disks.new) result.disk }
     ensures at_most_once { (w : SaidWords) → said words.now ≡ Some w → result.status ≡ Status.NoMemory → NotAsked (O.openings disks.old) (O.openings disks.new) result.disk ⊎ HandedOut w.log (O.openings disks.old) (O.openings disks.new) result.disk }
     ensures source_count { S.faults source.old ≤ S.faults source.new }

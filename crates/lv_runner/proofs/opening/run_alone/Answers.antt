@@ -1,12 +1,12 @@
-use Rattle.std.proofs.Common.{◌≡◌, ◌∙◌, ap, subst, sym}
+use Rattle.std.proofs.Common.{◌≡◌, ◌∙◌, subst, sym}
 use Rattle.lv_core.specs.Run.{settings_of}
 use Rattle.lv_engine.specs.Kept.{EngineView}
 use Rattle.lv_plain.specs.declared.program.Program.{Program}
 use Rattle.lv_plain.specs.Events.{schedule}
 use Rattle.lv_runner.specs.Following.{MayFollow}
-use Rattle.lv_runner.specs.Written.{HasWrittenPart}
+use Rattle.lv_runner.specs.Begun.{EndsFrom}
 use Rattle.lv_runner.proofs.Followed.{may_follow}
-use Rattle.lv_runner.proofs.Outputs.{ends_alone, ends_at_once, short_alone}
+use Rattle.lv_runner.proofs.Outputs.{ends_alone}
 use Rattle.lv_runner.proofs.opening.run_alone.Goals as goal
 
 pub run_ordered-requires-clause-may : goal.run_ordered-requires-clause-may
@@ -27,10 +27,9 @@ returns-in-Ok-clause-ends g c told bytes count begun =
     made.program (made.settings ∙ (λ i. settings_of (c.requires.settings i) (c.requires.policy i))) made.opened all c.run_ordered.ensures.ends
 
 pub returns-clause-ends : goal.returns-clause-ends
-returns-clause-ends g c told bytes count begun =
-    let written = g.K.Sink.written c.args.sink.now in
-    let same = c.into_disk.ensures ∙ ap (λ (e : EngineView _). e.journal.disk) c.in-Err.ensures.refused in
-    short_alone g.D.Disk.seen g.D.Disk.may_leave g.D.Disk.moment g.D.Disk.left_since g.D.Disk.failures c.args.words.now told bytes count written written (g.K.Sink.is_flushed c.args.sink.now) (g.K.Sink.faults c.args.sink.now) (g.K.Sink.faults c.args.sink.now)
-    c.requires.alone _
-    (subst (HasWrittenPart g.D.Disk.seen g.D.Disk.may_leave g.D.Disk.moment g.D.Disk.left_since g.D.Disk.failures c.args.words.now told bytes written written count) (sym same)
-    (ends_at_once g.D.Disk.seen g.D.Disk.may_leave g.D.Disk.moment g.D.Disk.left_since g.D.Disk.failures c.args.words.now told bytes c.args.plan.program count c.args.engine begun g.met.D.Disk.only_now written c.requires.alone))
+returns-clause-ends g c =
+    let sink = c.args.sink.now in
+    let written = g.K.Sink.written sink in
+    let faults = g.K.Sink.faults sink in
+    subst (λ (e : EngineView _). EndsFrom g.D.Disk.seen g.D.Disk.may_leave g.D.Disk.moment g.D.Disk.left_since g.D.Disk.failures c.args.words.now c.args.plan.program e written written (g.K.Sink.is_flushed sink) faults faults c.unbegun.result.status c.unbegun.result.disk) c.in-Err.ensures.refused
+    (c.unbegun.ensures c.args.words.now c.args.plan.program written (g.K.Sink.is_flushed sink) faults)
