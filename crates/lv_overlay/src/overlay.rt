@@ -132,7 +132,7 @@ impl Overlay {
         ensures added { self.new.list ≡ insert self.old.list at put }
         ensures room { self.old.spare ≤ self.new.spare + 1 }
     {
-        self.writes.insert(at, put);
+        self.writes.insert(at, put, 0);
     }
 
     /// Puts a row at a key of a table, or deletes the one there. It takes no memory.

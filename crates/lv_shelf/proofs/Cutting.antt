@@ -1,5 +1,5 @@
 -- Where a test stops to pass, as a search finds it.
-use Rattle.std.proofs.Common.{◌≡◌, ℕ, zero, suc, ◌<◌, ◌≤◌, Bool, true, false, cond, List, [], ◌∷◌, length, filter, get_or, Some, refl, arith}
+use Rattle.std.proofs.Common.{◌≡◌, ◌∙◌, ap, ℕ, zero, suc, ◌-◌, ◌<◌, ◌≤◌, Bool, true, false, not, cond, List, [], ◌∷◌, length, filter, get_or, Some, refl, arith}
 use Rattle.std.specs.Prelude.{slice_get}
 use Rattle.std.specs.List.{AllByRecursion}
 use Rattle.lv_shelf.specs.Cuts.{Falls, IsCut}
@@ -54,6 +54,23 @@ cut_at p zero k xs d h lt = absurd (omega arith)
 cut_at p (suc i) k [] d h lt = absurd h
 cut_at p (suc i) zero (x ∷ xs) d h lt = h.0
 cut_at p (suc i) (suc k) (x ∷ xs) d h lt = cut_at p i k xs d h.1 (omega arith)
+
+pub cut_fails : {X : Type 0} (p : X → Bool) (i k : ℕ) (xs : List X) (d : X) → IsCut p i xs → i ≤ k → k < length xs → p (get_or xs k d) ≡ false
+cut_fails p zero k xs d h le lt = all_at (λ x. p x ≡ false) xs k d lt h
+cut_fails p (suc i) k [] d h le lt = absurd h
+cut_fails p (suc i) zero (x ∷ xs) d h le lt = absurd (omega (arith, le))
+cut_fails p (suc i) (suc k) (x ∷ xs) d h le lt = cut_fails p i k xs d h.1 (omega (arith, le)) (omega (arith, lt))
+
+pub not_not : (b c : Bool) → not b ≡ c → b ≡ not c
+not_not true c e = ap not e
+not_not false c e = ap not e
+
+-- what a look at the element before a place, and at the one there, says of the others
+pub passed_up_to : {X : Type 0} (p : X → Bool) (xs : List X) (i : ℕ) (x : X) → Falls p xs → 0 < i → slice_get xs (i - 1) ≡ Some x → p x ≡ true → (k : ℕ) (d : X) → k < i → p (get_or xs k d) ≡ true
+passed_up_to p xs i x h more e t k d lt = falls_at p xs k (i - 1) d h (omega (arith, more, lt)) (got_within xs (i - 1) x e) (ap p (got xs (i - 1) x d e) ∙ t)
+
+pub failed_from : {X : Type 0} (p : X → Bool) (xs : List X) (i : ℕ) (x : X) → Falls p xs → slice_get xs i ≡ Some x → p x ≡ false → (k : ℕ) (d : X) → i ≤ k → k < length xs → p (get_or xs k d) ≡ false
+failed_from p xs i x h e t k d le lt = fails_at p xs i k d h le lt (ap p (got xs i x d e) ∙ t)
 
 -- ---- a filter
 pub all_kept : {X : Type 0} (p : X → Bool) (xs : List X) → AllByRecursion (λ x. p x ≡ true) (filter p xs)

@@ -2,6 +2,7 @@
 #![tactic(auto)]
 
 mod order;
+mod ranked_places;
 mod shelf;
 mod slots;
 

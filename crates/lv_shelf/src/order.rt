@@ -3,12 +3,12 @@ ghost use Rattle.std.specs.Prelude.{◌≡◌, ℕ, ◌+◌, ◌≤◌, ◌<◌,
 ghost use Rattle.std.specs.List.{insert, remove};
 ghost use Rattle.lv_shelf.specs.Shelves.{HaveRoom, is_taken, lists_of, passes_in};
 
+use crate::ranked_places::RankedPlaces;
 use crate::slots::passes_in;
-use lv_places::Places;
 use lv_values::{Any, NoMemory, Test};
 
 /// Keeps the numbers of the slots whose elements pass. Cost: one pass over the numbers.
-fn keep_passing<T, P: Test<T>>(test: &P, slots: &[Option<T>], order: &mut Places)
+fn keep_passing<T, P: Test<T>>(test: &P, slots: &[Option<T>], order: &mut RankedPlaces)
     ensures kept { order.new.list ≡ filter (passes_in (P.passed test.now) slots.now) order.old.list }
     ensures room { order.new.room ≡ order.old.room }
 {
@@ -24,7 +24,7 @@ fn keep_passing<T, P: Test<T>>(test: &P, slots: &[Option<T>], order: &mut Places
 }
 
 /// Keeps the numbers of slots that have elements. Cost: one pass over the numbers.
-pub(crate) fn keep_taken<T>(slots: &[Option<T>], order: &mut Places)
+pub(crate) fn keep_taken<T>(slots: &[Option<T>], order: &mut RankedPlaces)
     ensures kept { order.new.list ≡ filter (is_taken slots.now) order.old.list }
     ensures room { order.new.room ≡ order.old.room }
 {
@@ -44,12 +44,12 @@ fn reserve_to(places: &mut Vec<u32>, room: usize) -> Result<(), NoMemory>
     Ok(())
 }
 
-/// Makes room for one slot more, and for its number in every list of numbers.
+/// Makes room for one slot more, and for its number and rank in every order.
 pub(crate) fn make_room<T>(
     slots: &mut Vec<Option<T>>,
-    order: &mut Places,
+    order: &mut RankedPlaces,
     free: &mut Vec<u32>,
-    others: &mut Vec<Places>,
+    others: &mut Vec<RankedPlaces>,
 ) -> Result<(), NoMemory>
     ensures slots { slots.new.items ≡ slots.old.items }
     ensures order { order.new.list ≡ order.old.list }
@@ -71,7 +71,7 @@ pub(crate) fn make_room<T>(
 }
 
 /// Makes room for so many numbers in all, in each order.
-fn reserve_each(orders: &mut Vec<Places>, room: usize) -> Result<(), NoMemory>
+fn reserve_each(orders: &mut Vec<RankedPlaces>, room: usize) -> Result<(), NoMemory>
     ensures same { lists_of orders.new.items ≡ lists_of orders.old.items }
     ensures room { OnOk result (HaveRoom room orders.new.items) }
     ensures kept { (n : ℕ) → HaveRoom n orders.old.items → HaveRoom n orders.new.items }
@@ -83,7 +83,11 @@ fn reserve_each(orders: &mut Vec<Places>, room: usize) -> Result<(), NoMemory>
 }
 
 /// Keeps, in each order, the numbers of the slots whose elements pass.
-pub(crate) fn keep_each<T, P: Test<T>>(test: &P, slots: &[Option<T>], orders: &mut Vec<Places>)
+pub(crate) fn keep_each<T, P: Test<T>>(
+    test: &P,
+    slots: &[Option<T>],
+    orders: &mut Vec<RankedPlaces>,
+)
     ensures kept { lists_of orders.new.items ≡ map (filter (passes_in (P.passed test.now) slots.now)) (lists_of orders.old.items) }
     ensures room { (n : ℕ) → HaveRoom n orders.old.items → HaveRoom n orders.new.items }
 {

@@ -5,21 +5,22 @@ ghost use Rattle.lv_shelf.specs.Cuts.{Falls, IsCut};
 ghost use Rattle.lv_shelf.specs.Shelves.{ChangesOnly, LacksItem, other_at};
 
 use crate::order::{keep_each, keep_taken, make_room};
-use crate::slots::{clear_failing, cut_at, edit_slot, item_at, set_slot};
-use lv_places::Places;
+use crate::ranked_places::RankedPlaces;
+use crate::slots::{clear_failing, cut_at, cut_near, edit_slot, item_at, set_slot};
 use lv_values::{Edit, NoMemory, Test};
 use std::alloc::Global;
 use std::marker::Model;
 
 /// A list whose elements lie still: each keeps its slot as long as it is in the list, and the order is kept by the
 /// numbers of the slots, four bytes each, in blocks. Beside the list there may be further orders, each of some of its
-/// elements.
+/// elements. In each order an element has a rank, a number that should not fall along the order: where it does not,
+/// `cut_near` is faster, and nothing else depends on it.
 /// Contracts see the list, the further orders as lists, and the number of elements that still go in without memory.
 #[derive(Drop)]
 pub struct Shelf<T> {
     slots: Vec<Option<T>>,
-    order: Places,
-    others: Vec<Places>,
+    order: RankedPlaces,
+    others: Vec<RankedPlaces>,
     free: Vec<u32>,
 }
 
@@ -46,7 +47,7 @@ impl<T> Shelf<T> {
     {
         Shelf {
             slots: Vec::new(alloc),
-            order: Places::new(alloc),
+            order: RankedPlaces::new(alloc),
             others: Vec::new(alloc),
             free: Vec::new(alloc),
         }
@@ -74,6 +75,16 @@ impl<T> Shelf<T> {
         ensures cut { IsCut (P.passed test.now) result self.now.list }
     {
         cut_at(test, self.slots.as_slice(), &self.order)
+    }
+
+    /// What `cut` gives. `rank` should be that of the first element that does not pass: then the cost is a binary search
+    /// among the ranks, a look at each element met that has this rank, and two more; else that of `cut` is added.
+    pub fn cut_near<P: Test<T>>(&self, rank: i64, test: &P) -> usize
+        requires { Falls (P.passed test.now) self.now.list }
+        ensures within { result ≤ length self.now.list }
+        ensures cut { IsCut (P.passed test.now) result self.now.list }
+    {
+        cut_near(test, rank, self.slots.as_slice(), &self.order)
     }
 
     /// The number of further orders.
@@ -109,6 +120,16 @@ impl<T> Shelf<T> {
         ensures cut { IsCut (P.passed test.now) result (other_at self.now.others order) }
     {
         cut_at(test, self.slots.as_slice(), &self.others[order])
+    }
+
+    /// What `cut_in` gives. Cost: as of `cut_near`, by the ranks in this order.
+    pub fn cut_in_near<P: Test<T>>(&self, order: usize, rank: i64, test: &P) -> usize
+        requires order { order < length self.now.others }
+        requires falls { Falls (P.passed test.now) (other_at self.now.others order) }
+        ensures within { result ≤ length (other_at self.now.others order) }
+        ensures cut { IsCut (P.passed test.now) result (other_at self.now.others order) }
+    {
+        cut_near(test, rank, self.slots.as_slice(), &self.others[order])
     }
 }
 
@@ -155,7 +176,7 @@ impl<T: Drop> Shelf<T> {
         ensures refused { OnErr result (self.new.others ≡ self.old.others) }
         ensures room { self.new.spare ≡ self.old.spare }
     {
-        let mut order = Places::new(alloc);
+        let mut order = RankedPlaces::new(alloc);
         order.reserve(self.slots.len())?;
         self.others.push(order)?;
         Ok(())
@@ -168,9 +189,9 @@ impl<T: Drop> Shelf<T> {
         self.free.len() as u64
     }
 
-    /// Puts an element at a place, before those from there on. It comes into no further order. It takes no memory.
-    /// Cost: a move of at most 512 numbers of slots, and of one more for each 1,024 behind.
-    pub fn insert(&mut self, at: usize, item: T)
+    /// Puts an element with a rank at a place, before those from there on. It comes into no further order. It takes no
+    /// memory. Cost: a move of at most 512 numbers of slots, and of one more for each 1,024 behind.
+    pub fn insert(&mut self, at: usize, item: T, rank: i64)
         requires room { 0 < self.old.spare }
         requires place { at ≤ length self.old.list }
         ensures added { self.new.list ≡ insert self.old.list at item }
@@ -179,10 +200,10 @@ impl<T: Drop> Shelf<T> {
     {
         let slot = self.free.pop().unwrap();
         self.slots[slot as usize] = Some(item);
-        self.order.insert(at, slot);
+        self.order.insert(at, slot, rank);
     }
 
-    /// Puts an element in the place of another one, in every order. It takes no memory. Cost: constant.
+    /// Puts an element in the place of another one, in every order, with its ranks. It takes no memory. Cost: constant.
     pub fn set(&mut self, at: usize, item: T)
         requires { at < length self.old.list }
         ensures replaced { self.new.list ≡ slice_set self.old.list at item }
@@ -192,9 +213,9 @@ impl<T: Drop> Shelf<T> {
         set_slot(&mut self.slots, self.order.at(at), item);
     }
 
-    /// Puts the element at a place of the list into a further order that does not have it, before those from a place
-    /// of that order on. It takes no memory. Cost: as of `insert`.
-    pub fn enter(&mut self, order: usize, place: usize, at: usize)
+    /// Puts the element at a place of the list into a further order that does not have it, with a rank there, before those
+    /// from a place of that order on. It takes no memory. Cost: as of `insert`.
+    pub fn enter(&mut self, order: usize, place: usize, at: usize, rank: i64)
         requires order { order < length self.old.others }
         requires place { place ≤ length (other_at self.old.others order) }
         requires at { at < length self.old.list }
@@ -204,7 +225,7 @@ impl<T: Drop> Shelf<T> {
         ensures room { self.new.spare ≡ self.old.spare }
     {
         let slot = self.order.at(at);
-        self.others[order].insert(place, slot);
+        self.others[order].insert(place, slot, rank);
     }
 
     /// Takes the element at a place of a further order out of that order. It stays in the list and in the others.

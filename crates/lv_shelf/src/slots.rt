@@ -4,8 +4,9 @@ ghost use Rattle.std.specs.List.{AllByRecursion};
 ghost use Rattle.lv_shelf.specs.Cuts.{Falls, IsCut};
 ghost use Rattle.lv_shelf.specs.Shelves.{IsHeld, cleared, clear_of, dropped, is_taken, items_at, passes_in, slot_of};
 
-use lv_places::Places;
+use crate::ranked_places::RankedPlaces;
 use lv_values::{Edit, Test};
+use std::cmp::Ordering;
 
 /// The element in a slot that has one.
 pub(crate) fn in_slot<T>(slots: &[Option<T>], slot: u32) -> &T
@@ -65,7 +66,7 @@ pub(crate) fn clear_slot<T: Drop, P: Test<T>>(
 /// Empties the slots, among these, whose elements do not pass, and lists them as free.
 pub(crate) fn clear_failing<T: Drop, P: Test<T>>(
     test: &P,
-    order: &Places,
+    order: &RankedPlaces,
     slots: &mut Vec<Option<T>>,
     free: &mut Vec<u32>,
 )
@@ -81,7 +82,7 @@ pub(crate) fn clear_failing<T: Drop, P: Test<T>>(
 }
 
 /// The element at a place of some slots.
-pub(crate) fn item_at<'a, T>(slots: &'a [Option<T>], places: &Places, at: usize) -> &'a T
+pub(crate) fn item_at<'a, T>(slots: &'a [Option<T>], places: &RankedPlaces, at: usize) -> &'a T
     requires held { AllByRecursion (IsHeld slots.now) places.now.list }
     requires place { at < length places.now.list }
     ensures { slice_get (items_at slots.now places.now.list) at ≡ Some result.now }
@@ -91,7 +92,7 @@ pub(crate) fn item_at<'a, T>(slots: &'a [Option<T>], places: &Places, at: usize)
 
 /// How many of the elements in some slots pass a test that no later one passes where an earlier one fails.
 /// Cost: a binary search.
-pub(crate) fn cut_at<T, P: Test<T>>(test: &P, slots: &[Option<T>], places: &Places) -> usize
+pub(crate) fn cut_at<T, P: Test<T>>(test: &P, slots: &[Option<T>], places: &RankedPlaces) -> usize
     requires held { AllByRecursion (IsHeld slots.now) places.now.list }
     requires falls { Falls (P.passed test.now) (items_at slots.now places.now.list) }
     ensures within { result ≤ length places.now.list }
@@ -108,4 +109,65 @@ pub(crate) fn cut_at<T, P: Test<T>>(test: &P, slots: &[Option<T>], places: &Plac
         }
     }
     low
+}
+
+/// About how many of the elements in some slots pass a test: the ranks of the slots tell, which are below that of the first
+/// element that does not pass, and where the two are equal the element does.
+fn guess_at<T, P: Test<T>>(test: &P, rank: i64, slots: &[Option<T>], places: &RankedPlaces) -> usize
+    requires held { AllByRecursion (IsHeld slots.now) places.now.list }
+    ensures within { result ≤ length places.now.list }
+{
+    let mut low = 0;
+    let mut high = places.len();
+    while low < high {
+        let middle = low + (high - low) / 2;
+        let slot = places.at(middle);
+        let passes = match places.rank(slot).cmp(&rank) {
+            Ordering::Less => true,
+            Ordering::Equal => test.passes(in_slot(slots, slot)),
+            Ordering::Greater => false,
+        };
+        if passes {
+            low = middle + 1;
+        } else {
+            high = middle;
+        }
+    }
+    low
+}
+
+/// Whether the elements in some slots pass a test up to a place and fail it from there on. Cost: two looks.
+fn is_cut_at<T, P: Test<T>>(test: &P, slots: &[Option<T>], places: &RankedPlaces, at: usize) -> bool
+    requires held { AllByRecursion (IsHeld slots.now) places.now.list }
+    requires falls { Falls (P.passed test.now) (items_at slots.now places.now.list) }
+    requires within { at ≤ length places.now.list }
+    ensures cut { result ≡ true → IsCut (P.passed test.now) at (items_at slots.now places.now.list) }
+    ensures other { result ≡ false → IsCut (P.passed test.now) at (items_at slots.now places.now.list) → ⊥ }
+{
+    if at > 0 && !test.passes(item_at(slots, places, at - 1)) {
+        return false;
+    }
+    at == places.len() || !test.passes(item_at(slots, places, at))
+}
+
+/// How many of the elements in some slots pass a test that no later one passes where an earlier one fails. Cost: where the
+/// ranks do not fall, and `rank` is that of the first element that does not pass, a binary search among the ranks and a
+/// look at each element met that has this rank; else a binary search more.
+pub(crate) fn cut_near<T, P: Test<T>>(
+    test: &P,
+    rank: i64,
+    slots: &[Option<T>],
+    places: &RankedPlaces,
+) -> usize
+    requires held { AllByRecursion (IsHeld slots.now) places.now.list }
+    requires falls { Falls (P.passed test.now) (items_at slots.now places.now.list) }
+    ensures within { result ≤ length places.now.list }
+    ensures cut { IsCut (P.passed test.now) result (items_at slots.now places.now.list) }
+{
+    let at = guess_at(test, rank, slots, places);
+    if is_cut_at(test, slots, places, at) {
+        at
+    } else {
+        cut_at(test, slots, places)
+    }
 }

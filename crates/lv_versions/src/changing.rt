@@ -8,6 +8,7 @@ ghost use Rattle.lv_schema.specs.declared.version.RowVersion.{RowVersion};
 ghost use Rattle.lv_versions.specs.Versions.{AreNew, EndsAtMost, HaveOrders, IsNewTo, Precedes, lost, new_version, version_cmp, with_versions};
 
 use crate::indexes::enter_each;
+use crate::rank::rank;
 use crate::version::{ComesBefore, EndAt, is_current};
 use lv_schema::{Net, Positions, RowVersion};
 use lv_shelf::Shelf;
@@ -23,7 +24,7 @@ fn enter_last(at: usize, versions: &mut Shelf<RowVersion>)
     ensures room { versions.new.spare ≡ versions.old.spare }
 {
     let last = versions.len_in(0);
-    versions.enter(0, last, at);
+    versions.enter(0, last, at, 0);
 }
 
 /// Ends the version that has the row and has not ended, if there is one. Cost: a binary search.
@@ -42,11 +43,12 @@ fn end_row(
     ensures orders { HaveOrders positions.now indexes.now versions.new.spare versions.new.others versions.new.list }
     ensures room { versions.new.spare ≡ versions.old.spare }
 {
-    let at = versions.cut(&ComesBefore {
+    let before = ComesBefore {
         positions,
         row,
         number,
-    });
+    };
+    let at = versions.cut_near(rank(positions, row), &before);
     if at > 0 && is_current(versions.get(at - 1), row) {
         versions.edit(at - 1, &EndAt { row, number });
         enter_last(at - 1, versions);
@@ -91,17 +93,19 @@ fn put_row(
     ensures orders { HaveOrders positions.now indexes.now versions.new.spare versions.new.others versions.new.list }
     ensures room { versions.new.spare + 1 ≡ versions.old.spare }
 {
-    let at = versions.cut(&ComesBefore {
+    let rank = rank(positions, &row);
+    let before = ComesBefore {
         positions,
         row: &row,
         number,
-    });
+    };
+    let at = versions.cut_near(rank, &before);
     let version = RowVersion {
         row,
         from: number,
         until: None,
     };
-    versions.insert(at, version);
+    versions.insert(at, version, rank);
     enter_each(positions, indexes, at, versions);
 }
 

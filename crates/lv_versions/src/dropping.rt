@@ -7,6 +7,7 @@ ghost use Rattle.lv_schema.specs.declared.version.RowVersion.{RowVersion};
 ghost use Rattle.lv_versions.specs.Versions.{AreOrders, HaveOrders, Precedes, ends_after, is_over};
 
 use crate::indexes::leave_each;
+use crate::rank::rank;
 use crate::version::{ComesBefore, EndsAfter, IsOver};
 use lv_schema::{Positions, RowVersion};
 use lv_shelf::Shelf;
@@ -27,11 +28,12 @@ fn drop_first(positions: &[u8], indexes: &[Positions], versions: &mut Shelf<RowV
     ensures room { versions.old.spare ≤ versions.new.spare }
 {
     let first = versions.get_in(0, 0);
-    let at = versions.cut(&ComesBefore {
+    let before = ComesBefore {
         positions,
         row: &first.row,
         number: first.from,
-    });
+    };
+    let at = versions.cut_near(rank(positions, &first.row), &before);
     versions.leave(0, 0);
     leave_each(positions, indexes, at, versions);
     versions.remove(at);

@@ -9,6 +9,7 @@ ghost use Rattle.lv_shelf.specs.Cuts.{Apart, IsCut};
 ghost use Rattle.lv_shelf.specs.Shelves.{LacksItem, other_at};
 ghost use Rattle.lv_versions.specs.Versions.{AreIndexed, AreIndexedBut, HaveOrders, IsIn, Precedes, columns_at, index_cmp};
 
+use crate::rank::rank;
 use crate::version::ComesBeforeIn;
 use lv_schema::{Positions, RowVersion};
 use lv_shelf::Shelf;
@@ -42,15 +43,13 @@ fn place_in(
     ensures cut { (v : RowVersion) → slice_get versions.now.list at ≡ Some v → IsCut (λ w. is_lt (index_cmp columns.now positions.now w v)) result (other_at versions.now.others order) }
 {
     let version = versions.get(at);
-    versions.cut_in(
-        order,
-        &ComesBeforeIn {
-            columns,
-            positions,
-            row: &version.row,
-            number: version.from,
-        },
-    )
+    let before = ComesBeforeIn {
+        columns,
+        positions,
+        row: &version.row,
+        number: version.from,
+    };
+    versions.cut_in_near(order, rank(columns, &version.row), &before)
 }
 
 /// Puts the version at a place into an index that lacks it. Cost: a binary search, and a move of small numbers.
@@ -70,7 +69,8 @@ fn enter(
     ensures room { versions.new.spare ≡ versions.old.spare }
 {
     let place = place_in(positions, columns, order, at, versions);
-    versions.enter(order, place, at);
+    let rank = rank(columns, &versions.get(at).row);
+    versions.enter(order, place, at, rank);
 }
 
 /// Takes the version at a place out of an index that has it. Cost: a binary search, and a move of small numbers.

@@ -4,6 +4,7 @@
 mod changing;
 mod dropping;
 mod indexes;
+mod rank;
 mod version;
 mod versions;
 

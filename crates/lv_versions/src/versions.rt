@@ -13,6 +13,7 @@ ghost use Rattle.lv_versions.specs.Versions.{Applies, EndsFrom, HaveOrders, IsBy
 use crate::changing::change;
 use crate::dropping::drop_over;
 use crate::indexes::{add_first, add_index, index_by};
+use crate::rank::rank_of_key;
 use crate::version::{IsUpTo, Reaches, hits, is_at};
 use lv_schema::{Net, Positions, RowVersion, TableDef};
 use lv_shelf::Shelf;
@@ -21,8 +22,8 @@ use std::alloc::Global;
 use std::marker::Model;
 use std::sync::ledger::Ledger;
 
-/// A table's rows after each commit. It may have indexes, by columns of which `probe` is asked: they make it faster,
-/// and no answer tells of them. A move of small numbers, in the costs below, is one of at most 512 numbers, and of one
+/// A table's rows after each commit. It may have indexes, by columns of which `probe` is asked: they make it faster, and
+/// its answers are the same. A search looks at ranks, which lie close together, and at few rows (`Shelf::cut_near`). A move of small numbers, in the costs below, is one of at most 512 numbers, and of one
 /// more for each 1,024 versions behind the place.
 #[derive(Drop)]
 pub struct Versions {
@@ -79,7 +80,9 @@ impl Versions {
         ensures cost { steps.new ≡ steps.old + length (option_to_list result) }
     {
         let positions = self.def.key.as_slice();
-        let at = self.versions.cut(&Reaches { positions, key, n });
+        let at = self
+            .versions
+            .cut_near(rank_of_key(key), &Reaches { positions, key, n });
         if at == 0 {
             return None;
         }
@@ -380,13 +383,14 @@ fn rows_between<L: Ledger>(
         values,
         themselves: false,
     };
-    let first = versions.cut_in(order, &below);
+    let rank = rank_of_key(values);
+    let first = versions.cut_in_near(order, rank, &below);
     let upto = IsUpTo {
         columns,
         values,
         themselves: true,
     };
-    let end = versions.cut_in(order, &upto);
+    let end = versions.cut_in_near(order, rank, &upto);
     let mut rows = Rows::new(alloc);
     for at in first..end {
         push_hit(

@@ -16,8 +16,8 @@ use Rattle.lv_versions.proofs.dropping.drop_first.Goals as goal
 pub get_in-first-requires-clause-order : goal.get_in-first-requires-clause-order
 get_in-first-requires-clause-order c = omega (arith, c.requires.orders.count)
 
-pub cut-at-requires : goal.cut-at-requires
-cut-at-requires c = before_falls c.args.positions.now c.get_in-first.result.now.row c.get_in-first.result.now.from c.args.versions.now.list c.requires.stand
+pub cut_near-at-requires : goal.cut_near-at-requires
+cut_near-at-requires c = before_falls c.args.positions.now c.get_in-first.result.now.row c.get_in-first.result.now.from c.args.versions.now.list c.requires.stand
 
 pub leave-requires-clause-order : goal.leave-requires-clause-order
 leave-requires-clause-order c = omega (arith, c.requires.orders.count)
@@ -29,9 +29,9 @@ leave_each-requires c =
     let old = c.args.versions.now in
     let v = c.get_in-first.result.now in
     let rest = remove (other_at old.others 0) 0 in
-    let found = first_found ps v (other_at old.others 0) old.list c.cut-at.result c.get_in-first.ensures c.requires.stand c.requires.orders.ended c.cut-at.ensures.cut in
+    let found = first_found ps v (other_at old.others 0) old.list c.cut_near-at.result c.get_in-first.ensures c.requires.stand c.requires.orders.ended c.cut_near-at.ensures.cut in
     record {
-      at = rw c.leave.ensures.same (got_within old.list c.cut-at.result v found);
+      at = rw c.leave.ensures.same (got_within old.list c.cut_near-at.result v found);
       count = ap length c.leave.ensures.left ∙ length-set old.others 0 rest ∙ c.requires.orders.count;
       indexed = λ j lt. rw (c.leave.ensures.same, c.leave.ensures.left) (subst (λ l. AreIndexed (columns_at cs j) ps l old.list) (sym (later_set old.others rest j)) (c.requires.orders.indexed j lt));
     }
@@ -42,9 +42,9 @@ remove-requires c =
     let cs = c.args.indexes.now in
     let old = c.args.versions.now in
     let v = c.get_in-first.result.now in
-    let at = c.cut-at.result in
+    let at = c.cut_near-at.result in
     let rest = remove (other_at old.others 0) 0 in
-    let found = first_found ps v (other_at old.others 0) old.list at c.get_in-first.ensures c.requires.stand c.requires.orders.ended c.cut-at.ensures.cut in
+    let found = first_found ps v (other_at old.others 0) old.list at c.get_in-first.ensures c.requires.stand c.requires.orders.ended c.cut_near-at.ensures.cut in
     let list = c.leave_each.ensures.same ∙ c.leave.ensures.same in
     let there = ap (λ l. slice_get l at) list ∙ found in
     let ended = c.leave_each.ensures.ended ∙ ap (λ l. other_at l 0) c.leave.ensures.left ∙ get_or-set_same old.others 0 rest [] (omega (arith, c.requires.orders.count)) in
@@ -58,7 +58,7 @@ remove-requires c =
     }
 
 pub returns-clause-stand : goal.returns-clause-stand
-returns-clause-stand c = rw (c.remove.ensures.removed, c.leave_each.ensures.same, c.leave.ensures.same) (apart_remove (Precedes c.args.positions.now) c.args.versions.now.list c.cut-at.result c.requires.stand)
+returns-clause-stand c = rw (c.remove.ensures.removed, c.leave_each.ensures.same, c.leave.ensures.same) (apart_remove (Precedes c.args.positions.now) c.args.versions.now.list c.cut_near-at.result c.requires.stand)
 
 pub returns-clause-orders : goal.returns-clause-orders
 returns-clause-orders c =
@@ -66,9 +66,9 @@ returns-clause-orders c =
     let cs = c.args.indexes.now in
     let old = c.args.versions.now in
     let v = c.get_in-first.result.now in
-    let at = c.cut-at.result in
+    let at = c.cut_near-at.result in
     let rest = remove (other_at old.others 0) 0 in
-    let found = first_found ps v (other_at old.others 0) old.list at c.get_in-first.ensures c.requires.stand c.requires.orders.ended c.cut-at.ensures.cut in
+    let found = first_found ps v (other_at old.others 0) old.list at c.get_in-first.ensures c.requires.stand c.requires.orders.ended c.cut_near-at.ensures.cut in
     let list = c.leave_each.ensures.same ∙ c.leave.ensures.same in
     let there = ap (λ l. slice_get l at) list ∙ found in
     let ended = c.leave_each.ensures.ended ∙ ap (λ l. other_at l 0) c.leave.ensures.left ∙ get_or-set_same old.others 0 rest [] (omega (arith, c.requires.orders.count)) in
@@ -93,7 +93,7 @@ returns-clause-kept c = λ w floor e over.
     let ps = c.args.positions.now in
     let old = c.args.versions.now in
     let v = c.get_in-first.result.now in
-    let found = first_found ps v (other_at old.others 0) old.list c.cut-at.result c.get_in-first.ensures c.requires.stand c.requires.orders.ended c.cut-at.ensures.cut in
+    let found = first_found ps v (other_at old.others 0) old.list c.cut_near-at.result c.get_in-first.ensures c.requires.stand c.requires.orders.ended c.cut_near-at.ensures.cut in
     let same : v ≡ w = sym (got (other_at old.others 0) 0 v v c.get_in-first.ensures) ∙ got (other_at old.others 0) 0 w v e in
     rw (c.remove.ensures.removed, c.leave_each.ensures.same, c.leave.ensures.same)
-    (filter_gone (λ x. ends_after floor x.until) v old.list c.cut-at.result found (not_after floor v (subst (λ x. is_over floor x ≡ true) (sym same) over)))
+    (filter_gone (λ x. ends_after floor x.until) v old.list c.cut_near-at.result found (not_after floor v (subst (λ x. is_over floor x ≡ true) (sym same) over)))

@@ -7,11 +7,11 @@ use Rattle.lv_versions.proofs.Finding.{hit_step}
 use Rattle.lv_versions.proofs.Indexing.{hits_from, no_more_hits}
 use Rattle.lv_versions.proofs.versions.rows_between.Goals as goal
 
-pub cut_in-first-requires-clause-falls : goal.cut_in-first-requires-clause-falls
-cut_in-first-requires-clause-falls g c = c.requires.falls false
+pub cut_in_near-first-requires-clause-falls : goal.cut_in_near-first-requires-clause-falls
+cut_in_near-first-requires-clause-falls g c = c.requires.falls false
 
-pub cut_in-end-requires-clause-falls : goal.cut_in-end-requires-clause-falls
-cut_in-end-requires-clause-falls g c = c.requires.falls true
+pub cut_in_near-end-requires-clause-falls : goal.cut_in_near-end-requires-clause-falls
+cut_in_near-end-requires-clause-falls g c = c.requires.falls true
 
 pub loop-at-init : goal.loop-at-init
 loop-at-init g c =
@@ -19,12 +19,12 @@ loop-at-init g c =
     let values = c.args.values.now in
     let order = other_at c.args.versions.now.others c.args.order in
     record {
-      rows = ap (λ l. l ++ rows_hit columns values c.args.n (drop c.cut_in-first.result order)) c.new-rows.ensures ∙ hits_from columns values c.args.n c.cut_in-first.result order c.cut_in-first.ensures.cut;
+      rows = ap (λ l. l ++ rows_hit columns values c.args.n (drop c.cut_in_near-first.result order)) c.new-rows.ensures ∙ hits_from columns values c.args.n c.cut_in_near-first.result order c.cut_in_near-first.ensures.cut;
       cost = omega (arith, ap length c.new-rows.ensures);
     }
 
 pub get_in-requires-clause-place : goal.get_in-requires-clause-place
-get_in-requires-clause-place g c = omega (arith, c.loop-at-test.true, c.cut_in-end.ensures.within)
+get_in-requires-clause-place g c = omega (arith, c.loop-at-test.true, c.cut_in_near-end.ensures.within)
 
 pub loop-at-preserved : goal.loop-at-preserved
 loop-at-preserved g c =
@@ -44,11 +44,11 @@ loop-at-preserved g c =
 pub returns-clause-rows : goal.returns-clause-rows
 returns-clause-rows g c =
     let order = other_at c.args.versions.now.others c.args.order in
-    let none = no_more_hits c.args.columns.now c.args.values.now c.args.n c.cut_in-end.result c.loop-at.at order c.loop-at-test.false c.cut_in-end.ensures.cut in
+    let none = no_more_hits c.args.columns.now c.args.values.now c.args.n c.cut_in_near-end.result c.loop-at.at order c.loop-at-test.false c.cut_in_near-end.ensures.cut in
     sym (append-nil c.loop-at.rows) ∙ sym (ap (λ l. c.loop-at.rows ++ l) none) ∙ c.loop-at.invariant.rows
 
 pub returns-clause-cost : goal.returns-clause-cost
 returns-clause-cost g c =
     let order = other_at c.args.versions.now.others c.args.order in
-    let none = no_more_hits c.args.columns.now c.args.values.now c.args.n c.cut_in-end.result c.loop-at.at order c.loop-at-test.false c.cut_in-end.ensures.cut in
+    let none = no_more_hits c.args.columns.now c.args.values.now c.args.n c.cut_in_near-end.result c.loop-at.at order c.loop-at-test.false c.cut_in_near-end.ensures.cut in
     c.loop-at.invariant.cost ∙ ap (λ l. c.args.steps.now + length l) (sym (append-nil c.loop-at.rows) ∙ sym (ap (λ l. c.loop-at.rows ++ l) none) ∙ c.loop-at.invariant.rows)
