@@ -89,6 +89,18 @@ fn value_of(alloc: Global, literal: &Operand) -> Result<Value, NoMemory>
     }
 }
 
+/// The value that a column has in every row that the condition keeps, where one of the parts that all have to hold says
+/// that it equals a literal. Cost: a pass over the condition.
+pub fn fixed_value(alloc: Global, column: u8, cond: &Cond) -> Result<Option<Value>, NoMemory>
+    ensures found { IfOk result (λ found. is_some found ≡ says_column cond.now column) }
+    ensures fixes { IfOk result (λ found. MatchOption found (Unit {0}) (Fixes column cond.now)) }
+{
+    let Some(literal) = fixed_by(column, cond) else {
+        return Ok(None);
+    };
+    Ok(Some(value_of(alloc, literal)?))
+}
+
 /// The key of every row that the condition keeps, where the condition fixes each key column.
 /// Cost: a pass over the condition for each key column.
 pub(crate) fn fixed_key(

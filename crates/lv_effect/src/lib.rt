@@ -11,5 +11,6 @@ mod reading;
 
 pub use changes::effect;
 pub use fault::EffectFault;
+pub use fixing::fixed_value;
 pub use laws::sums_of_a_bound_change_fit;
 pub use reading::{merged_rows, rows_to_try};

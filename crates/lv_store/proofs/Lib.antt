@@ -2,6 +2,7 @@ pub mod ChangedParts
 pub mod CleanedParts
 pub mod Commits
 pub mod EvaluatedViews
+pub mod FirstValues
 pub mod Forcing
 pub mod JoinedSteps
 pub mod MadeTables

@@ -1,13 +1,14 @@
 //! Differences of views that are computed and not installed yet: what a view shows with them, and their install, which
 //! takes no memory once there is room.
-ghost use Rattle.std.specs.Prelude.{◌≡◌, ◌<◌, ◌≤◌, ◌∷◌, ◌++◌, [], filter, length, replicate, IfOk, OnErr, OnOk};
+ghost use Rattle.std.specs.Prelude.{◌≡◌, ◌<◌, ◌≤◌, ◌∷◌, ◌++◌, [], filter, length, replicate, IfOk, MatchOption, OnErr, OnOk};
+ghost use Rattle.lv_viewrows.specs.Beginning.{AllBegin};
 ghost use Rattle.lv_viewrows.specs.Changed.{CanInstall};
 ghost use Rattle.lv_viewrows.specs.Kept.{ViewKept, shown};
 ghost use Rattle.lv_store.specs.Querying.{OnlyRoom, RowsInstall};
 ghost use Rattle.lv_store.specs.Pending.{AllTake, AreUpTo, CanAllTake, CanTakeEach, HaveRoom, TakesEach, changed_rows, with_difference};
 
 use lv_schema::Signed;
-use lv_values::{Copying, Items, NoMemory, Room, Row, Rows, Test};
+use lv_values::{Copying, Items, NoMemory, Room, Row, Rows, Test, Value};
 use lv_viewrows::ViewRows;
 use std::alloc::Global;
 
@@ -76,23 +77,26 @@ fn copy_with(
 }
 
 /// Of the rows that a view shows at a commit once these differences are installed, which end at or below it, those that
-/// pass. Cost: where there is no difference, a pass over what is kept of the view; with one, that of its preview; with
-/// several, of a copy too. A row of a join view that does not pass is not copied for the answer.
+/// pass. `first` is the value with which the view's groups of all that pass begin, where it is known. Cost: where there is
+/// no difference, a pass over what is kept of the view, or over what begins with `first`; with one, that of its preview;
+/// with several, of a copy and a pass over all. A row of a join view that does not pass is not copied for the answer.
 pub(crate) fn rows_with<T: Test<Row>>(
     alloc: Global,
     n: u64,
     rows: &ViewRows,
     differences: &[Difference],
+    first: Option<&Value>,
     test: &T,
 ) -> Result<Rows, NoMemory>
+    requires only { MatchOption first (Unit {0}) (λ v. AllBegin rows.now.def (T.passed test.now) v.now) }
     requires can { CanTakeEach differences.now rows.now }
     requires upto { AreUpTo n differences.now }
     ensures { (new : ViewKept) → TakesEach differences.now rows.now new → IfOk result (λ list. list ≡ filter (T.passed test.now) (shown n new)) }
 {
     match differences {
-        [] => rows.read_passing(alloc, n, test),
-        [only] => rows.preview_passing(alloc, only.hi, &only.changes, test),
-        _ => copy_with(alloc, rows, differences)?.read_passing(alloc, n, test),
+        [] => rows.read_passing(alloc, n, first, test),
+        [only] => rows.preview_passing(alloc, only.hi, &only.changes, first, test),
+        _ => copy_with(alloc, rows, differences)?.read_passing(alloc, n, None, test),
     }
 }
 

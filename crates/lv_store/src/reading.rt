@@ -1,5 +1,5 @@
 //! The rows that a query reads, where differences of its views are pending.
-ghost use Rattle.std.specs.Prelude.{◌≡◌, ◌≢◌, ◌<◌, ◌∷◌, ℕ, List, [], true, false, filter, length, map, not, IfOk, MatchOption};
+ghost use Rattle.std.specs.Prelude.{◌≡◌, ◌≢◌, ◌<◌, ◌∷◌, ℕ, List, [], true, false, filter, length, map, not, slice_get, IfOk, MatchOption, Some};
 ghost use Rattle.std.specs.List.{list_all};
 ghost use Rattle.lv_schema.specs.declared.query.Rel.{Rel as ARel};
 ghost use Rattle.lv_schema.specs.Effects.{matching};
@@ -7,6 +7,8 @@ ghost use Rattle.lv_schema.specs.Answers.{answer_over};
 ghost use Rattle.lv_schema.specs.Bound.{rel_in_use};
 ghost use Rattle.lv_schema.specs.JoinViews.{selected};
 ghost use Rattle.lv_txn.specs.Kept.{IsLive};
+ghost use Rattle.lv_schema.specs.Truth.{holds};
+ghost use Rattle.lv_viewrows.specs.Beginning.{AllBegin};
 ghost use Rattle.lv_viewrows.specs.Kept.{ViewKept};
 ghost use Rattle.lv_store.specs.Querying.{has_written, reads_kept, rel_rows_in, view_rows_in};
 ghost use Rattle.lv_store.specs.Pending.{AllTake, CanRead};
@@ -15,9 +17,10 @@ ghost use Rattle.lv_store.specs.Kept.{IsStore};
 use crate::passing::KeptBy;
 use crate::pending::{Pending, rows_with};
 use crate::store::Store;
+use lv_effect::fixed_value;
 use lv_query::answer;
 use lv_schema::{Cond, Query, Rel};
-use lv_values::{Any, Items, NoMemory, Row, Rows, Steps, Test};
+use lv_values::{Any, Items, NoMemory, Row, Rows, Steps, Test, Value};
 use std::alloc::Global;
 use std::sync::ledger::Ledger;
 
@@ -32,17 +35,31 @@ fn only_rel(rels: &[Rel]) -> Option<Rel>
 }
 
 impl Store {
-    /// Rows of which the same pass as of a view's rows, as the transaction of a session reads them. Cost: that of
-    /// `rows_with`, where the transaction wrote none of its tables; else that of its definition.
+    /// The value with which what is kept of a view's rows begins wherever a condition keeps the row, where the condition
+    /// says so. Cost: a look at each item of the view, and a pass over the condition.
+    fn first_value(&self, alloc: Global, view: u32, cond: &Cond) -> Result<Option<Value>, NoMemory>
+        requires { view < length self.now.rows.list }
+        ensures { (kept : ViewKept) → slice_get self.now.rows.list view ≡ Some kept → IfOk result (λ found. MatchOption found (Unit {0}) (AllBegin kept.def (λ row. holds cond.now (row ∷ [])))) }
+    {
+        match self.rows.get(view as usize).first_column() {
+            Some(column) => fixed_value(alloc, column, cond),
+            None => Ok(None),
+        }
+    }
+
+    /// Rows of which the same pass as of a view's rows, as the transaction of a session reads them. `first` is as for
+    /// `rows_with`. Cost: that of `rows_with`, where the transaction wrote none of its tables; else that of its definition.
     fn view_rows<L: Ledger, T: Test<Row>>(
         &self,
         alloc: Global,
         session: u32,
         pending: &Pending,
         view: u32,
+        first: Option<&Value>,
         test: &T,
         steps: &mut Steps<L>,
     ) -> Result<Rows, NoMemory>
+        requires only { (kept : ViewKept) → slice_get self.now.rows.list view ≡ Some kept → MatchOption first (Unit {0}) (λ v. AllBegin kept.def (T.passed test.now) v.now) }
         requires whole { IsStore self.now }
         requires live { IsLive self.now.txns session }
         requires pending { CanRead self.now session pending.now }
@@ -56,7 +73,7 @@ impl Store {
         let snapshot = self.snapshot(session);
         let rows = self.rows.get(view as usize);
         let differences = pending.get(view as usize).as_slice();
-        rows_with(alloc, snapshot, rows, differences, test)
+        rows_with(alloc, snapshot, rows, differences, first, test)
     }
 
     /// The rows that a table or a view stands for.
@@ -77,7 +94,7 @@ impl Store {
     {
         match rel {
             Rel::Table(table) => self.own_rows(alloc, session, *table, steps),
-            Rel::View(view) => self.view_rows(alloc, session, pending, *view, &Any, steps),
+            Rel::View(view) => self.view_rows(alloc, session, pending, *view, None, &Any, steps),
         }
     }
 
@@ -105,7 +122,8 @@ impl Store {
     }
 
     /// Rows of a table or a view of which a condition keeps the same as of all: of a table the row with a key, where the
-    /// condition fixes it; of a view whose tables the transaction did not write those that the condition keeps.
+    /// condition fixes it; of a view whose tables the transaction did not write those that the condition keeps, found by a
+    /// search where the condition fixes the first value of what is kept of it.
     fn rel_rows_to_try<L: Ledger>(
         &self,
         alloc: Global,
@@ -125,7 +143,9 @@ impl Store {
         match rel {
             Rel::Table(table) => self.own_rows_to_try(alloc, session, table, cond, steps),
             Rel::View(view) => {
-                self.view_rows(alloc, session, pending, view, &KeptBy { cond }, steps)
+                let first = self.first_value(alloc, view, cond)?;
+                let test = KeptBy { cond };
+                self.view_rows(alloc, session, pending, view, first.as_ref(), &test, steps)
             }
         }
     }

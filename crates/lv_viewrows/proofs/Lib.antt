@@ -2,10 +2,12 @@ pub mod AddedUp
 pub mod Changes
 pub mod Ending
 pub mod Entries
+pub mod FirstValue
 pub mod Galloping
 pub mod Installing
 pub mod Keeping
 pub mod Merging
+pub mod Narrowing
 pub mod Order
 pub mod Passing
 pub mod RowsOfJoins

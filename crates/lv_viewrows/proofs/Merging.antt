@@ -28,15 +28,15 @@ use Rattle.lv_viewrows.proofs.Entries.{AtMostOne, at_most_one, below_all, filter
 use Rattle.lv_viewrows.proofs.Order.{is_over}
 
 -- ---- one change and one group
-merged_less : (s : SignedRow) (list : List SignedRow) (g : SignedRow) (groups : List SignedRow) → row_cmp s.row g.row ≡ Less → merged (s ∷ list) (g ∷ groups) ≡ if_some s ++ merged list (g ∷ groups)
+pub merged_less : (s : SignedRow) (list : List SignedRow) (g : SignedRow) (groups : List SignedRow) → row_cmp s.row g.row ≡ Less → merged (s ∷ list) (g ∷ groups) ≡ if_some s ++ merged list (g ∷ groups)
 merged_less s list g groups e =
     (λ i. by_order (e i) (if_some s ++ up_to g list) (if_some (group_with g s)) (g ∷ []) ++ merged (by_order (e i) (left_by g list) list (s ∷ list)) groups)
     ∙ append_assoc (if_some s) (up_to g list) (merged (left_by g list) groups)
 
-merged_equal : (s : SignedRow) (list : List SignedRow) (g : SignedRow) (groups : List SignedRow) → row_cmp s.row g.row ≡ Equal → merged (s ∷ list) (g ∷ groups) ≡ if_some (group_with g s) ++ merged list groups
+pub merged_equal : (s : SignedRow) (list : List SignedRow) (g : SignedRow) (groups : List SignedRow) → row_cmp s.row g.row ≡ Equal → merged (s ∷ list) (g ∷ groups) ≡ if_some (group_with g s) ++ merged list groups
 merged_equal s list g groups e = λ i. by_order (e i) (if_some s ++ up_to g list) (if_some (group_with g s)) (g ∷ []) ++ merged (by_order (e i) (left_by g list) list (s ∷ list)) groups
 
-merged_greater : (s : SignedRow) (list : List SignedRow) (g : SignedRow) (groups : List SignedRow) → row_cmp s.row g.row ≡ Greater → merged (s ∷ list) (g ∷ groups) ≡ g ∷ merged (s ∷ list) groups
+pub merged_greater : (s : SignedRow) (list : List SignedRow) (g : SignedRow) (groups : List SignedRow) → row_cmp s.row g.row ≡ Greater → merged (s ∷ list) (g ∷ groups) ≡ g ∷ merged (s ∷ list) groups
 merged_greater s list g groups e = λ i. by_order (e i) (if_some s ++ up_to g list) (if_some (group_with g s)) (g ∷ []) ++ merged (by_order (e i) (left_by g list) list (s ∷ list)) groups
 
 -- no change leaves the groups as they are

@@ -16,7 +16,7 @@ use Rattle.lv_viewrows.proofs.Passing.{passing_append}
 use Rattle.lv_viewrows.proofs.Walking.{there_cons, walk_step}
 
 -- the groups up to a place, and those from there on
-groups_append : (n : ℕ) (xs ys : List GroupVersion) → groups_at n (xs ++ ys) ≡ groups_at n xs ++ groups_at n ys
+pub groups_append : (n : ℕ) (xs ys : List GroupVersion) → groups_at n (xs ++ ys) ≡ groups_at n xs ++ groups_at n ys
 groups_append n xs ys = ap (map (λ (v : GroupVersion). v.group)) (filter-append (is_there n) xs ys) ∙ map-append (λ (v : GroupVersion). v.group) (filter (is_there n) xs) (filter (is_there n) ys)
 
 split : {X : Type 0} (i end : ℕ) (xs : List X) → i ≤ end → end ≤ length xs → drop i (take end xs) ++ drop end xs ≡ drop i xs

@@ -50,7 +50,7 @@ fn put_group(group: SignedRow, number: u64, at: usize, versions: &mut Shelf<Grou
     ensures cut { IsCut (comes_before group.row number) at versions.new.list }
     ensures room { versions.new.spare + 1 ≡ versions.old.spare }
 {
-    versions.insert(at, GroupVersion::from_commit(number, group));
+    versions.insert(at, GroupVersion::from_commit(number, group), 0);
 }
 
 /// Puts a group at its place if it has a tuple.

@@ -1,6 +1,7 @@
 //! Versions of the rows of a view, which change by signed rows.
 #![tactic(auto)]
 
+mod beginning;
 mod changing;
 mod laws;
 mod numbers;

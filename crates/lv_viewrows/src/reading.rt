@@ -1,21 +1,23 @@
 //! Rows of versions.
-ghost use Rattle.std.specs.Prelude.{◌≡◌, ◌+ℤ◌, ◌++◌, ◌∷◌, ◌≤◌, [], List, drop, take, length, filter, IfOk, OnOk};
+ghost use Rattle.std.specs.Prelude.{◌≡◌, ◌+ℤ◌, ◌++◌, ◌∷◌, ◌≤◌, [], List, drop, take, length, filter, IfOk, MatchOption, OnOk};
 ghost use Rattle.std.specs.List.{AllByRecursion};
 ghost use Rattle.lv_schema.specs.declared.signed.SignedRow.{SignedRow as ASignedRow};
 ghost use Rattle.lv_group.specs.Gathered.{has_tuples};
 ghost use Rattle.lv_shelf.specs.Cuts.{Apart};
+ghost use Rattle.lv_viewrows.specs.Beginning.{AllBegin, NonePasses};
 ghost use Rattle.lv_viewrows.specs.Changed.{group_with};
 ghost use Rattle.lv_viewrows.specs.Kept.{groups_at, rows_listed};
 ghost use Rattle.lv_viewrows.specs.Merged.{AllFitAt, FitsInto, if_some, left_by, merged, passing, up_to};
 ghost use Rattle.lv_viewrows.specs.Standing.{IsCount, Precedes};
 
+use crate::beginning::places_of;
 use crate::numbers::{has_tuples, with_group};
 use crate::searching::{NEAR, end_below};
 use crate::version::GroupVersion;
 use lv_group::listed_row;
 use lv_schema::{Signed, SignedRow, ViewDef};
 use lv_shelf::Shelf;
-use lv_values::{Copying, NoMemory, Row, Rows, Test};
+use lv_values::{Copying, NoMemory, Row, Rows, Test, Value};
 use std::alloc::Global;
 use std::cmp::Ordering;
 
@@ -210,27 +212,34 @@ fn push_rest<T: Test<Row>>(
     Ok(())
 }
 
-/// The rows of the groups that are there at commit n, with changes, that pass, in the order of the groups. Rows up to near
-/// the next change are handed out as they are, and those near it are compared with it.
+/// The rows of the groups that are there at commit n, with changes, that pass, in the order of the groups, where those of
+/// the versions before one place and from another on do not. Rows up to near the next change are handed out as they are,
+/// and those near it are compared with it.
 fn rows_in_order<T: Test<Row>>(
     alloc: Global,
     view: &ViewDef,
     test: &T,
     n: u64,
     versions: &Shelf<GroupVersion>,
+    from: usize,
+    end: usize,
     changes: &Signed,
 ) -> Result<Rows, NoMemory>
     requires order { Apart Precedes versions.now.list }
+    requires forward { from ≤ end }
+    requires within { end ≤ length versions.now.list }
+    requires before { NonePasses view.now (T.passed test.now) (take from versions.now.list) }
+    requires behind { NonePasses view.now (T.passed test.now) (drop end versions.now.list) }
     requires fit { AllByRecursion (AllFitAt n changes.now) versions.now.list }
     ensures { IfOk result (λ rows. rows ≡ passing view.now (T.passed test.now) (merged changes.now (groups_at n versions.now.list))) }
 {
     let mut rows = Rows::new(alloc);
     let mut next = 0;
-    let mut at = 0;
-    while at < versions.len() {
-        let near = end_below(at, changes, next, versions);
+    let mut at = from;
+    while at < end {
+        let near = end_below(at, end, changes, next, versions);
         push_unchanged(alloc, view, test, n, versions, at, near, &mut rows)?;
-        at = near.saturating_add(NEAR).min(versions.len());
+        at = near.saturating_add(NEAR).min(end);
         next = push_compared(
             alloc, view, test, n, versions, near, at, changes, next, &mut rows,
         )?;
@@ -239,8 +248,9 @@ fn rows_in_order<T: Test<Row>>(
     Ok(rows)
 }
 
-/// The rows of the groups that are there at commit n, with changes, that pass, in ascending order. Cost: a pass over the
-/// versions; for each change a search from the one before it and at most 16 comparisons, in all no more than one for each
+/// The rows of the groups that are there at commit n, with changes, that pass, in ascending order. `first` is the value
+/// with which the groups of the rows that pass begin, where there is one. Cost: a pass over the versions that begin with
+/// it, or over all; for each change a search from the one before it and at most 16 comparisons, in all no more than one for each
 /// version, one for each 16 of them and one for each change; of a join view a copy of each row that passes; of a grouped
 /// view a copy of each row and of each change whose group stays, and n log n comparisons of the rows that pass.
 pub(crate) fn rows_passing<T: Test<Row>>(
@@ -249,13 +259,19 @@ pub(crate) fn rows_passing<T: Test<Row>>(
     test: &T,
     n: u64,
     versions: &Shelf<GroupVersion>,
+    first: Option<&Value>,
     changes: &Signed,
 ) -> Result<Rows, NoMemory>
     requires order { Apart Precedes versions.now.list }
+    requires only { MatchOption first (Unit {0}) (λ v. AllBegin view.now (T.passed test.now) v.now) }
     requires fit { AllByRecursion (AllFitAt n changes.now) versions.now.list }
     ensures { IfOk result (λ rows. rows ≡ filter (T.passed test.now) (rows_listed view.now (merged changes.now (groups_at n versions.now.list)))) }
 {
-    let mut rows = rows_in_order(alloc, view, test, n, versions, changes)?;
+    let (from, end) = match first {
+        Some(first) => places_of(first, versions),
+        None => (0, versions.len()),
+    };
+    let mut rows = rows_in_order(alloc, view, test, n, versions, from, end, changes)?;
     if view.grouped {
         rows.sort();
     }

@@ -64,22 +64,24 @@ fn is_below(group: &SignedRow, changes: &Signed, from: usize) -> bool
     from >= changes.len() || changes.get(from).row.cmp(&group.row).is_gt()
 }
 
-/// A place such that the versions from `from` up to it have rows below those of the changes from `next` on. Cost: two
-/// comparisons for each time that it is twice as far, in steps of `NEAR`.
+/// A place up to `high` such that the versions from `from` up to it have rows below those of the changes from `next` on.
+/// Cost: two comparisons for each time that it is twice as far, in steps of `NEAR`.
 pub(crate) fn end_below(
     from: usize,
+    high: usize,
     changes: &Signed,
     next: usize,
     versions: &Shelf<GroupVersion>,
 ) -> usize
     requires order { Apart Precedes versions.now.list }
-    requires within { from ≤ length versions.now.list }
+    requires forward { from ≤ high }
+    requires within { high ≤ length versions.now.list }
     ensures forward { from ≤ result }
-    ensures within { result ≤ length versions.now.list }
+    ensures within { result ≤ high }
     ensures below { AllByRecursion (λ v. is_below (drop next changes.now) v.group ≡ true) (drop from (take result versions.now.list)) }
 {
     let mut end = from;
-    let mut high = versions.len();
+    let mut high = high;
     let mut step = NEAR;
     while high - end >= NEAR {
         let far = end + stride(step, high - end);

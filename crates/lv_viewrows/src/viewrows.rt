@@ -1,5 +1,5 @@
 //! The rows of a view at several commits.
-ghost use Rattle.std.specs.Prelude.{◌≡◌, ◌⊎◌, ℕ, true, false, ◌+◌, ◌≤◌, ◌<◌, ◌++◌, ◌∷◌, [], length, map, filter, IfOk, OnOk};
+ghost use Rattle.std.specs.Prelude.{◌≡◌, ◌⊎◌, ℕ, true, false, ◌+◌, ◌≤◌, ◌<◌, ◌++◌, ◌∷◌, [], length, map, filter, IfOk, MatchOption, OnOk};
 ghost use Rattle.std.specs.List.{AllByRecursion};
 ghost use Rattle.lv_values.specs.Ascending.{ascending};
 ghost use Rattle.lv_values.specs.Order.{row_cmp, row_eq};
@@ -8,16 +8,18 @@ ghost use Rattle.lv_schema.specs.Differences.{summed_columns};
 ghost use Rattle.lv_schema.specs.Once.{are_apart};
 ghost use Rattle.lv_schema.specs.Versions.{ends_after};
 ghost use Rattle.lv_group.specs.Gathered.{IsOfView, has_tuples, rows_of};
+ghost use Rattle.lv_viewrows.specs.Beginning.{AllBegin, IsFirst};
 ghost use Rattle.lv_viewrows.specs.Changed.{CanInstall, groups_with};
 ghost use Rattle.lv_viewrows.specs.Kept.{groups_at, one_row, rows_listed, shown, version_from};
 
+use crate::beginning::first_column;
 use crate::changing::apply_all;
 use crate::reading::rows_passing;
 use crate::version::{EndsAfter, GroupVersion};
 use lv_group::Groups;
 use lv_schema::{Signed, SignedRow, Sums, ViewDef};
 use lv_shelf::Shelf;
-use lv_values::{Any, Copying, NoMemory, Row, Rows, Test};
+use lv_values::{Any, Copying, NoMemory, Row, Rows, Test, Value};
 use std::alloc::Global;
 use std::marker::Model;
 
@@ -65,7 +67,7 @@ fn push_last(versions: &mut Shelf<GroupVersion>, version: GroupVersion) -> Resul
 {
     versions.reserve(1)?;
     let at = versions.len();
-    versions.insert(at, version);
+    versions.insert(at, version, 0);
     Ok(())
 }
 
@@ -178,21 +180,32 @@ impl ViewRows {
     pub fn read_at(&self, alloc: Global, n: u64) -> Result<Rows, NoMemory>
         ensures { IfOk result (λ rows. rows ≡ shown n self.now) }
     {
-        self.read_passing(alloc, n, &Any)
+        self.read_passing(alloc, n, None, &Any)
     }
 
-    /// Those rows of `read_at` that pass. Cost: that of `read_at`, but a row of a join view that does not pass is not
-    /// copied, and one of a grouped view is let go before the sort.
+    /// The column of its rows by which they are searched, the first one of a join view or that of the first column of
+    /// GROUP BY, if the view lists that: it is the first value of each group that is kept. Cost: a look at each item.
+    pub fn first_column(&self) -> Option<u8>
+        ensures { MatchOption result (Unit {0}) (IsFirst self.now.def) }
+    {
+        first_column(&self.def)
+    }
+
+    /// Those rows of `read_at` that pass. `first` is the value with which the groups of all that pass begin, where it is
+    /// known. Cost: that of `read_at`, but a row of a join view that does not pass is not copied, and one of a grouped view
+    /// is let go before the sort; and with `first` two binary searches, and a pass over the versions that begin with it alone.
     pub fn read_passing<T: Test<Row>>(
         &self,
         alloc: Global,
         n: u64,
+        first: Option<&Value>,
         test: &T,
     ) -> Result<Rows, NoMemory>
+        requires { MatchOption first (Unit {0}) (λ v. AllBegin self.now.def (T.passed test.now) v.now) }
         ensures { IfOk result (λ rows. rows ≡ filter (T.passed test.now) (shown n self.now)) }
     {
         let changes = Signed::new(alloc);
-        rows_passing(alloc, &self.def, test, n, &self.versions, &changes)
+        rows_passing(alloc, &self.def, test, n, &self.versions, first, &changes)
     }
 
     /// Makes room for the versions of `rows` rows. What is kept stays as it was, and the room never shrinks.
@@ -213,22 +226,32 @@ impl ViewRows {
         requires { CanInstall self.now hi changes.now }
         ensures { IfOk result (λ rows. rows ≡ rows_listed self.now.def (groups_with changes.now (groups_at self.now.at self.now.versions))) }
     {
-        self.preview_passing(alloc, hi, changes, &Any)
+        self.preview_passing(alloc, hi, changes, None, &Any)
     }
 
-    /// Those rows of `preview` that pass. Cost: that of `preview`, but a row of a join view that does not pass is not
-    /// copied, and one of a grouped view is let go before the sort.
+    /// Those rows of `preview` that pass. Cost: that of `preview`, with what `read_passing` spares; the changes are all
+    /// looked at.
     pub fn preview_passing<T: Test<Row>>(
         &self,
         alloc: Global,
         hi: u64,
         changes: &Signed,
+        first: Option<&Value>,
         test: &T,
     ) -> Result<Rows, NoMemory>
-        requires { CanInstall self.now hi changes.now }
+        requires change { CanInstall self.now hi changes.now }
+        requires only { MatchOption first (Unit {0}) (λ v. AllBegin self.now.def (T.passed test.now) v.now) }
         ensures { IfOk result (λ rows. rows ≡ filter (T.passed test.now) (rows_listed self.now.def (groups_with changes.now (groups_at self.now.at self.now.versions)))) }
     {
-        rows_passing(alloc, &self.def, test, self.at, &self.versions, changes)
+        rows_passing(
+            alloc,
+            &self.def,
+            test,
+            self.at,
+            &self.versions,
+            first,
+            changes,
+        )
     }
 
     /// Installs a change, whose commits end at `hi`: from there on the rows are those before with it, and below they stay.

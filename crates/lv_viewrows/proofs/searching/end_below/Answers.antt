@@ -11,8 +11,9 @@ loop-high-init c =
     let left = drop c.args.next c.args.changes.now in
     record {
       forward = omega arith;
-      order = omega (arith, c.requires.within, c.len-high.ensures);
-      within = omega (arith, c.len-high.ensures);
+      order = c.requires.forward;
+      within = c.requires.within;
+      upper = omega arith;
       step = omega arith;
       below = subst (AllByRecursion (λ (v : GroupVersion). is_below left v.group ≡ true)) (sym (nothing_between c.args.from c.args.versions.now.list)) tt;
     }
@@ -30,6 +31,7 @@ loop-high-preserved-then-is_below c =
       forward = omega (arith, was.forward);
       order = omega (arith, c.stride.ensures.within, was.order);
       within = was.within;
+      upper = was.upper;
       step = grind (arith, c.saturating_mul-step.ensures, was.step);
       below = all_drop (λ v. p v ≡ true) c.args.from (take far list) (subst (λ n. AllByRecursion (λ v. p v ≡ true) (take n list)) last up);
     }

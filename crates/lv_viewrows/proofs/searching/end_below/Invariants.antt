@@ -8,6 +8,7 @@ invariant-loop-high l = record {
   forward : l.from ≤ l.end;
   order : l.end ≤ l.high;
   within : l.high ≤ length l.versions.list;
+  upper : l.high ≤ l.initial.high;
   step : 0 < l.step;
   below : AllByRecursion (λ v. is_below (drop l.next l.changes) v.group ≡ true) (drop l.from (take l.end l.versions.list));
 }

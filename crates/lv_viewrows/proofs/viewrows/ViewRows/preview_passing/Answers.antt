@@ -16,7 +16,7 @@ rows_passing-requires-clause-fit g c =
     let hi = c.args.hi in
     let list = c.args.changes.now in
     let k : ViewKept = record { def = s.def; at = s.at; versions = s.versions.list; spare = s.versions.spare } in
-    let can : CanInstall k hi list = subst (λ (k : ViewKept). CanInstall k c.args.hi c.args.changes.now) (sym c.self.view_is) c.requires in
+    let can : CanInstall k hi list = subst (λ (k : ViewKept). CanInstall k c.args.hi c.args.changes.now) (sym c.self.view_is) c.requires.change in
     all_fit s.at hi list s.versions.list c.self.invariant.each (meet k c.self.invariant hi list can)
 
 pub returns : goal.returns
@@ -26,7 +26,7 @@ returns g c =
     let list = c.args.changes.now in
     let p = g.T.Test.passed c.args.test.now in
     let k : ViewKept = record { def = s.def; at = s.at; versions = s.versions.list; spare = s.versions.spare } in
-    let can : CanInstall k hi list = subst (λ (k : ViewKept). CanInstall k c.args.hi c.args.changes.now) (sym c.self.view_is) c.requires in
+    let can : CanInstall k hi list = subst (λ (k : ViewKept). CanInstall k c.args.hi c.args.changes.now) (sym c.self.view_is) c.requires.change in
     let now = groups_at s.at s.versions.list in
     let shows =
     ap (λ (groups : List SignedRow). filter p (rows_listed s.def groups))

@@ -1,0 +1,30 @@
+-- The value with which what is kept of a view begins wherever a condition keeps the row.
+use Rattle.std.proofs.Common.{◌≡◌, ℕ, Bool, true, false, not, [], ◌∷◌, Option, Some, None, refl, sym, ap, subst, ◌∙◌}
+use Rattle.std.specs.Prelude.{unwrap_or, IfOk, MatchOption, Result, Ok, Err}
+use Rattle.std.specs.Option.{option_map}
+use Rattle.lv_values.specs.declared.value.Value.{Value}
+use Rattle.lv_schema.specs.declared.cond.Cond.{Cond}
+use Rattle.lv_schema.specs.declared.view.ViewDef.{ViewDef}
+use Rattle.lv_schema.specs.Truth.{holds}
+use Rattle.lv_effect.specs.FixedKeys.{Fixes}
+use Rattle.lv_viewrows.specs.Beginning.{AllBegin, IsFirst}
+use Rattle.lv_viewrows.specs.Kept.{row_listed}
+
+all_begin : (view : ViewDef) (column : ℕ) (c : Cond) (found : Option Value) → IsFirst view column → MatchOption found (Unit {0}) (Fixes column c) → MatchOption found (Unit {0}) (AllBegin view (λ row. holds c (row ∷ [])))
+all_begin view column c None first fixes = tt
+all_begin view column c (Some v) first fixes = λ group t. sym (first group) ∙ fixes (row_listed view group) t
+
+pub found_begins : {E : Type 0} (view : ViewDef) (column : ℕ) (c : Cond) (result : Result (Option Value) E) → IsFirst view column → IfOk result (λ found. MatchOption found (Unit {0}) (Fixes column c))
+    → IfOk result (λ found. MatchOption found (Unit {0}) (AllBegin view (λ row. holds c (row ∷ []))))
+found_begins view column c (Ok found) first fixes = all_begin view column c found first fixes
+found_begins view column c (Err e) first fixes = fixes
+
+-- what holds of a value holds of a look at it
+pub seen_so : {A B : Type 0} (now : A → B) (P : B → Type 0) (seen : Option A) (value : Option B) → option_map now seen ≡ value → MatchOption value (Unit {0}) P → MatchOption seen (Unit {0}) (λ a. P (now a))
+seen_so now P None value e m = tt
+seen_so now P (Some a) None e m = cc
+seen_so now P (Some a) (Some b) e m = subst P (sym (ap (λ o. unwrap_or o b) e)) m
+
+pub not_so : (b : Bool) → not b ≡ true → b ≡ false
+not_so true e = cc
+not_so false e = refl

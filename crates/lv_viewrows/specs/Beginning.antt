@@ -1,0 +1,46 @@
+-- Rows by their first value.
+use Rattle.std.specs.Prelude.{◌≡◌, ℕ, Bool, true, false, not, List, [], ◌∷◌}
+use Rattle.std.specs.List.{AllByRecursion}
+use Rattle.std.specs.Ordering.{is_gt, is_lt}
+use Rattle.lv_values.specs.declared.value.Value.{Value}
+use Rattle.lv_values.specs.Order.{value_cmp}
+use Rattle.lv_values.specs.Rows.{value_in}
+use Rattle.lv_schema.specs.Bound.{same_col}
+use Rattle.lv_schema.specs.declared.cond.Col.{Col}
+use Rattle.lv_schema.specs.declared.view.Item.{Item}
+use Rattle.lv_schema.specs.declared.view.Item.TheVariants.{Plain, Sum, Count}
+use Rattle.lv_schema.specs.declared.signed.SignedRow.{SignedRow}
+use Rattle.lv_schema.specs.declared.view.ViewDef.{ViewDef}
+use Rattle.lv_viewrows.specs.declared.version.GroupVersion.{GroupVersion}
+use Rattle.lv_viewrows.specs.Kept.{row_listed}
+
+-- a group of which a view lists a row that passes has this value first
+abbrev pub AllBegin : ViewDef → (List Value → Bool) → Value → Type 0
+AllBegin view p first = (group : SignedRow) → p (row_listed view group) ≡ true → value_in group.row 0 ≡ first
+
+-- a column of what a view lists is the first value of its groups
+abbrev pub IsFirst : ViewDef → ℕ → Type 0
+IsFirst view column = (group : SignedRow) → value_in (row_listed view group) column ≡ value_in group.row 0
+
+-- whether an item of a view's list is this column
+abbrev pub is_plain : Item → Col → Bool
+is_plain (Plain col name) column = same_col col column
+is_plain (Sum col name) column = false
+is_plain (Count name) column = false
+
+-- whether a row begins below a value, and whether it begins with no greater one; a row without a value does
+abbrev pub begins_below : Value → List Value → Bool
+begins_below first [] = true
+begins_below first (v ∷ row) = is_lt (value_cmp v first)
+
+abbrev pub begins_up_to : Value → List Value → Bool
+begins_up_to first [] = true
+begins_up_to first (v ∷ row) = not (is_gt (value_cmp v first))
+
+-- no version's row has this value first
+abbrev pub NoneBegins : Value → List GroupVersion → Type 0
+NoneBegins first versions = AllByRecursion (λ v. value_in v.group.row 0 ≡ first → ⊥) versions
+
+-- no row passes that a view lists of a group with the row of one of these versions
+abbrev pub NonePasses : ViewDef → (List Value → Bool) → List GroupVersion → Type 0
+NonePasses view p versions = AllByRecursion (λ v. (group : SignedRow) → group.row ≡ v.group.row → p (row_listed view group) ≡ false) versions

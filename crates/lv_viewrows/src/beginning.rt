@@ -1,0 +1,133 @@
+//! Versions by the first value of their rows.
+ghost use Rattle.std.specs.Prelude.{◌≡◌, ◌≤◌, drop, length, nat_lt, slice_get, take, true, MatchOption, Some};
+ghost use Rattle.lv_shelf.specs.Cuts.{Apart};
+ghost use Rattle.lv_viewrows.specs.Beginning.{IsFirst, NoneBegins, is_plain};
+ghost use Rattle.lv_schema.specs.declared.view.Item.{Item as AnItem};
+ghost use Rattle.lv_viewrows.specs.Standing.{Precedes};
+
+use crate::version::GroupVersion;
+use lv_schema::{Col, Item, ViewDef};
+use lv_shelf::Shelf;
+use lv_values::{Test, Value};
+use std::marker::Model;
+
+/// Tests whether a version's row begins below a value, or has none.
+#[derive(Drop)]
+struct BeginsBelow<'a> {
+    first: &'a Value,
+}
+
+impl<'a> Model for BeginsBelow<'a> {
+    ghost use Rattle.lv_values.specs.declared.value.Value.{Value as AValue};
+
+    ghost Value = { AValue };
+
+    ghost view = { λ t. t.first.now };
+}
+
+impl<'a> Test<GroupVersion> for BeginsBelow<'a> {
+    ghost use Rattle.lv_viewrows.specs.Beginning.{begins_below};
+
+    ghost passed = { λ first v. begins_below first v.group.row };
+
+    fn passes(&self, version: &GroupVersion) -> bool {
+        match version.group.row.as_slice() {
+            [value, ..] => value.cmp(self.first).is_lt(),
+            [] => true,
+        }
+    }
+}
+
+/// Tests whether a version's row begins with no greater value, or has none.
+#[derive(Drop)]
+struct BeginsUpTo<'a> {
+    first: &'a Value,
+}
+
+impl<'a> Model for BeginsUpTo<'a> {
+    ghost use Rattle.lv_values.specs.declared.value.Value.{Value as AValue};
+
+    ghost Value = { AValue };
+
+    ghost view = { λ t. t.first.now };
+}
+
+impl<'a> Test<GroupVersion> for BeginsUpTo<'a> {
+    ghost use Rattle.lv_viewrows.specs.Beginning.{begins_up_to};
+
+    ghost passed = { λ first v. begins_up_to first v.group.row };
+
+    fn passes(&self, version: &GroupVersion) -> bool {
+        match version.group.row.as_slice() {
+            [value, ..] => !value.cmp(self.first).is_gt(),
+            [] => true,
+        }
+    }
+}
+
+/// Whether a version's row has a value.
+fn has_value(version: &GroupVersion) -> bool
+    ensures { result ≡ nat_lt 0 (length version.now.group.row) }
+{
+    version.group.row.len() > 0
+}
+
+/// Between which places the versions stand whose rows begin with a value. Where a row has no value, these are all.
+/// Cost: two binary searches.
+pub(crate) fn places_of(first: &Value, versions: &Shelf<GroupVersion>) -> (usize, usize)
+    requires { Apart Precedes versions.now.list }
+    ensures order { result.0 ≤ result.1 }
+    ensures within { result.1 ≤ length versions.now.list }
+    ensures before { NoneBegins first.now (take result.0 versions.now.list) }
+    ensures behind { NoneBegins first.now (drop result.1 versions.now.list) }
+{
+    let len = versions.len();
+    if len > 0 && !has_value(versions.get(0)) {
+        return (0, len);
+    }
+    (
+        versions.cut(&BeginsBelow { first }),
+        versions.cut(&BeginsUpTo { first }),
+    )
+}
+
+/// Whether an item is a column.
+fn is_plain(item: &Item, column: &Col) -> bool
+    ensures { result ≡ is_plain item.now column.now }
+{
+    match item {
+        Item::Plain { col, .. } => col.alias == column.alias && col.column == column.column,
+        Item::Sum { .. } | Item::Count { .. } => false,
+    }
+}
+
+/// The place of the first item that is a column.
+fn place_in(items: &[Item], column: &Col) -> Option<usize>
+    ensures { MatchOption result (Unit {0}) (λ at. (item : AnItem) × ((slice_get items.now at ≡ Some item) × (is_plain item column.now ≡ true))) }
+{
+    for (at, item) in items.iter().enumerate() {
+        if is_plain(item, column) {
+            return Some(at);
+        }
+    }
+    None
+}
+
+/// The column of a view's rows that is the first value of its groups, if it lists that. Cost: a look at each item.
+pub(crate) fn first_column(view: &ViewDef) -> Option<u8>
+    ensures { MatchOption result (Unit {0}) (IsFirst view.now) }
+{
+    if !view.grouped {
+        return Some(0);
+    }
+    let [first, ..] = view.groups.as_slice() else {
+        return None;
+    };
+    let Some(at) = place_in(view.items.as_slice(), first) else {
+        return None;
+    };
+    match u8::try_from(at) {
+        Ok(column) => Some(column),
+        Err(_) => None,
+    }
+}
