@@ -6,49 +6,64 @@ ghost use Rattle.lv_lexer.specs.Keywords.{spelled_by, in_lower_case, keyword_of}
 
 use crate::terminals::Class;
 
-/// Each keyword with its spelling in lower case.
-const KEYWORDS: [(&str, Class); 40] = [
-    ("and", Class::And),
+// The keywords by the number of their letters, each with its spelling in lower case.
+
+const OF_TWO: [(&str, Class); 5] = [
     ("as", Class::As),
-    ("asc", Class::Asc),
-    ("begin", Class::Begin),
     ("by", Class::By),
-    ("commit", Class::Commit),
-    ("count", Class::Count),
-    ("create", Class::Create),
-    ("delete", Class::Delete),
-    ("desc", Class::Desc),
-    ("drop", Class::Drop),
-    ("from", Class::From),
-    ("group", Class::Group),
-    ("inner", Class::Inner),
-    ("insert", Class::Insert),
-    ("int", Class::Int),
-    ("into", Class::Into),
     ("is", Class::Is),
-    ("join", Class::Join),
+    ("on", Class::On),
+    ("or", Class::Or),
+];
+
+const OF_THREE: [(&str, Class); 9] = [
+    ("and", Class::And),
+    ("asc", Class::Asc),
+    ("int", Class::Int),
     ("key", Class::Key),
     ("max", Class::Max),
     ("min", Class::Min),
     ("not", Class::Not),
-    ("null", Class::Null),
-    ("on", Class::On),
-    ("or", Class::Or),
-    ("order", Class::Order),
-    ("primary", Class::Primary),
-    ("rollback", Class::Rollback),
-    ("select", Class::Select),
     ("set", Class::Set),
-    ("show", Class::Show),
     ("sum", Class::Sum),
+];
+
+const OF_FOUR: [(&str, Class); 9] = [
+    ("desc", Class::Desc),
+    ("drop", Class::Drop),
+    ("from", Class::From),
+    ("into", Class::Into),
+    ("join", Class::Join),
+    ("null", Class::Null),
+    ("show", Class::Show),
+    ("text", Class::Text),
+    ("view", Class::View),
+];
+
+const OF_FIVE: [(&str, Class); 8] = [
+    ("begin", Class::Begin),
+    ("count", Class::Count),
+    ("group", Class::Group),
+    ("inner", Class::Inner),
+    ("order", Class::Order),
     ("table", Class::Table),
     ("tasks", Class::Tasks),
-    ("text", Class::Text),
-    ("update", Class::Update),
-    ("values", Class::Values),
-    ("view", Class::View),
     ("where", Class::Where),
 ];
+
+const OF_SIX: [(&str, Class); 7] = [
+    ("commit", Class::Commit),
+    ("create", Class::Create),
+    ("delete", Class::Delete),
+    ("insert", Class::Insert),
+    ("select", Class::Select),
+    ("update", Class::Update),
+    ("values", Class::Values),
+];
+
+const OF_SEVEN: [(&str, Class); 1] = [("primary", Class::Primary)];
+
+const OF_EIGHT: [(&str, Class); 1] = [("rollback", Class::Rollback)];
 
 /// The class of the first of these that spells the word, in any case.
 fn spelled_by(table: &[(&str, Class)], word: &[u8]) -> Option<Class>
@@ -62,9 +77,18 @@ fn spelled_by(table: &[(&str, Class)], word: &[u8]) -> Option<Class>
     None
 }
 
-/// The keyword that the word is, in any case. Cost: constant.
+/// The keyword that the word is, in any case. Cost: at most nine comparisons, with the keywords of as many letters.
 pub(crate) fn keyword_of(word: &[u8]) -> Option<Class>
     ensures { result ≡ keyword_of (str_to_ascii_lowercase word.now) }
 {
-    spelled_by(&KEYWORDS, word)
+    match word.len() {
+        2 => spelled_by(&OF_TWO, word),
+        3 => spelled_by(&OF_THREE, word),
+        4 => spelled_by(&OF_FOUR, word),
+        5 => spelled_by(&OF_FIVE, word),
+        6 => spelled_by(&OF_SIX, word),
+        7 => spelled_by(&OF_SEVEN, word),
+        8 => spelled_by(&OF_EIGHT, word),
+        _ => None,
+    }
 }
