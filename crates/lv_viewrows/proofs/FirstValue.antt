@@ -1,6 +1,8 @@
 -- Versions by the first value of their rows.
 use Rattle.std.proofs.Common.{◌≡◌, ℕ, ℤ, zero, suc, ◌<◌, ◌≤◌, Bool, true, false, not, cond, get_or, List, [], ◌∷◌, length, take, drop, Some, refl, sym, ap, ◌∙◌, arith}
-use Rattle.std.specs.Prelude.{nat_lt, slice_get, if◌then◌else◌}
+use Rattle.std.specs.Prelude.{nat_lt, slice_get, if◌then◌else◌, position, Option, None, MatchOption}
+use Rattle.std.proofs.lemmas.List.Quantifiers.{position-Some}
+use Rattle.std.proofs.lemmas.Option.{slice_get-get_or}
 use Rattle.std.proofs.lemmas.Bool.Decides.{nat_tests}
 use Rattle.std.specs.List.{AllByRecursion}
 use Rattle.std.specs.Ordering.{is_gt, is_lt, ordering_then}
@@ -21,7 +23,7 @@ use Rattle.lv_group.specs.Gathered.{group_value, listed_values}
 use Rattle.lv_shelf.specs.Cuts.{Apart, Falls, IsCut}
 use Rattle.lv_shelf.proofs.Cutting.{got, got_within}
 use Rattle.lv_viewrows.specs.declared.version.GroupVersion.{GroupVersion}
-use Rattle.lv_viewrows.specs.Beginning.{AllBegin, IsFirst, NoneBegins, NonePasses, begins_below, begins_up_to, is_plain}
+use Rattle.lv_viewrows.specs.Beginning.{AllBegin, IsFirst, NoneBegins, NonePasses, begins_below, begins_up_to, column_numbered, first_column, first_listed, is_plain}
 use Rattle.lv_viewrows.specs.Kept.{row_listed}
 use Rattle.lv_viewrows.specs.Standing.{Precedes, precedes_by}
 use Rattle.lv_viewrows.proofs.Galloping.{none_passes}
@@ -146,3 +148,25 @@ lists_first view (first ∷ more) items d at item grouped by listed lt e t group
 
 pub lists_all : (view : ViewDef) → view.grouped ≡ false → IsFirst view 0
 lists_all view grouped group = λ i. value_in (if grouped i then listed_values view.groups group view.items group.sums else group.row) 0
+
+-- the column that is found is the first value
+pub first_begins : (view : ViewDef) → MatchOption (first_column view) (Unit {0}) (IsFirst view)
+first_begins view = by view.grouped refl view.groups refl
+  where
+    by : (b : Bool) → view.grouped ≡ b → (groups : List Col) → groups ≡ view.groups → MatchOption (if b then column_numbered (first_listed groups view.items) else Some 0) (Unit {0}) (IsFirst view)
+    by false grouped groups same = lists_all view grouped
+    by true grouped [] same = tt
+    by true grouped (first ∷ more) same = found (position (λ item. is_plain item first) view.items) refl
+      where
+        found : (o : Option ℕ) → position (λ item. is_plain item first) view.items ≡ o → MatchOption (column_numbered o) (Unit {0}) (IsFirst view)
+        found None e = tt
+        found (Some at) e = numbered (nat_lt at 256) (position-Some (λ item. is_plain item first) view.items at (Count []) e)
+          where
+            numbered : (b : Bool) → (at < length view.items) × (is_plain (get_or view.items at (Count [])) first ≡ true) × ((k : ℕ) → k < at → is_plain (get_or view.items k (Count [])) first ≡ false)
+                → MatchOption (if b then Some at else None) (Unit {0}) (IsFirst view)
+            numbered false there = tt
+            numbered true there = lists_first view (first ∷ more) view.items first at (get_or view.items at (Count [])) grouped same refl (omega arith) (slice_get-get_or view.items at (Count []) there.0) there.1
+
+pub listed_of : (groups : List Col) (items : List Item) (d : Col) → 0 < length groups → position (λ item. is_plain item (get_or groups 0 d)) items ≡ first_listed groups items
+listed_of [] items d some = absurd (omega (arith, some))
+listed_of (first ∷ more) items d some = refl

@@ -1,5 +1,5 @@
 -- Rows by their first value.
-use Rattle.std.specs.Prelude.{◌≡◌, ℕ, Bool, true, false, not, List, [], ◌∷◌}
+use Rattle.std.specs.Prelude.{◌≡◌, ℕ, nat_lt, Bool, true, false, not, if◌then◌else◌, List, [], ◌∷◌, Option, Some, None, position}
 use Rattle.std.specs.List.{AllByRecursion}
 use Rattle.std.specs.Ordering.{is_gt, is_lt}
 use Rattle.lv_values.specs.declared.value.Value.{Value}
@@ -27,6 +27,20 @@ abbrev pub is_plain : Item → Col → Bool
 is_plain (Plain col name) column = same_col col column
 is_plain (Sum col name) column = false
 is_plain (Count name) column = false
+
+-- the first item that is the first column of the groups
+abbrev pub first_listed : List Col → List Item → Option ℕ
+first_listed [] items = None
+first_listed (first ∷ groups) items = position (λ item. is_plain item first) items
+
+-- a column has one of 256 numbers
+abbrev pub column_numbered : Option ℕ → Option ℕ
+column_numbered None = None
+column_numbered (Some at) = if nat_lt at 256 then Some at else None
+
+-- the column of what a view lists that is the first value of its groups
+abbrev pub first_column : ViewDef → Option ℕ
+first_column view = if view.grouped then column_numbered (first_listed view.groups view.items) else Some 0
 
 -- whether a row begins below a value, and whether it begins with no greater one; a row without a value does
 abbrev pub begins_below : Value → List Value → Bool

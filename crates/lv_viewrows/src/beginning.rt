@@ -1,8 +1,7 @@
 //! Versions by the first value of their rows.
-ghost use Rattle.std.specs.Prelude.{◌≡◌, ◌≤◌, drop, length, nat_lt, slice_get, take, true, MatchOption, Some};
+ghost use Rattle.std.specs.Prelude.{◌≡◌, ◌≤◌, drop, length, nat_lt, position, take};
 ghost use Rattle.lv_shelf.specs.Cuts.{Apart};
-ghost use Rattle.lv_viewrows.specs.Beginning.{IsFirst, NoneBegins, is_plain};
-ghost use Rattle.lv_schema.specs.declared.view.Item.{Item as AnItem};
+ghost use Rattle.lv_viewrows.specs.Beginning.{NoneBegins, column_numbered, first_column, first_listed, is_plain};
 ghost use Rattle.lv_viewrows.specs.Standing.{Precedes};
 
 use crate::version::GroupVersion;
@@ -103,31 +102,35 @@ fn is_plain(item: &Item, column: &Col) -> bool
 
 /// The place of the first item that is a column.
 fn place_in(items: &[Item], column: &Col) -> Option<usize>
-    ensures { MatchOption result (Unit {0}) (λ at. (item : AnItem) × ((slice_get items.now at ≡ Some item) × (is_plain item column.now ≡ true))) }
+    ensures { result ≡ position (λ item. is_plain item column.now) items.now }
 {
-    for (at, item) in items.iter().enumerate() {
-        if is_plain(item, column) {
-            return Some(at);
-        }
+    items.iter().position(|item| is_plain(item, column))
+}
+
+/// The place of the first item that is the first of these columns.
+fn first_listed(groups: &[Col], items: &[Item]) -> Option<usize>
+    ensures { result ≡ first_listed groups.now items.now }
+{
+    match groups {
+        [first, ..] => place_in(items, first),
+        [] => None,
     }
-    None
+}
+
+/// A place as the number of a column, if it is one.
+fn column_numbered(at: Option<usize>) -> Option<u8>
+    ensures { result ≡ column_numbered at }
+{
+    u8::try_from(at?).ok()
 }
 
 /// The column of a view's rows that is the first value of its groups, if it lists that. Cost: a look at each item.
 pub(crate) fn first_column(view: &ViewDef) -> Option<u8>
-    ensures { MatchOption result (Unit {0}) (IsFirst view.now) }
+    ensures { result ≡ first_column view.now }
 {
-    if !view.grouped {
-        return Some(0);
-    }
-    let [first, ..] = view.groups.as_slice() else {
-        return None;
-    };
-    let Some(at) = place_in(view.items.as_slice(), first) else {
-        return None;
-    };
-    match u8::try_from(at) {
-        Ok(column) => Some(column),
-        Err(_) => None,
+    if view.grouped {
+        column_numbered(first_listed(view.groups.as_slice(), view.items.as_slice()))
+    } else {
+        Some(0)
     }
 }

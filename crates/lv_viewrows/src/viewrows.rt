@@ -8,7 +8,7 @@ ghost use Rattle.lv_schema.specs.Differences.{summed_columns};
 ghost use Rattle.lv_schema.specs.Once.{are_apart};
 ghost use Rattle.lv_schema.specs.Versions.{ends_after};
 ghost use Rattle.lv_group.specs.Gathered.{IsOfView, has_tuples, rows_of};
-ghost use Rattle.lv_viewrows.specs.Beginning.{AllBegin, IsFirst};
+ghost use Rattle.lv_viewrows.specs.Beginning.{AllBegin, IsFirst, first_column};
 ghost use Rattle.lv_viewrows.specs.Changed.{CanInstall, groups_with};
 ghost use Rattle.lv_viewrows.specs.Kept.{groups_at, one_row, rows_listed, shown, version_from};
 
@@ -186,7 +186,8 @@ impl ViewRows {
     /// The column of its rows by which they are searched, the first one of a join view or that of the first column of
     /// GROUP BY, if the view lists that: it is the first value of each group that is kept. Cost: a look at each item.
     pub fn first_column(&self) -> Option<u8>
-        ensures { MatchOption result (Unit {0}) (IsFirst self.now.def) }
+        ensures exact { result ≡ first_column self.now.def }
+        ensures first { MatchOption result (Unit {0}) (IsFirst self.now.def) }
     {
         first_column(&self.def)
     }
