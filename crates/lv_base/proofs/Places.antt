@@ -4,7 +4,7 @@ use Rattle.std.specs.Prelude.{◌⊎◌, slice_set}
 use Rattle.std.specs.List.{filter, range_with_len, sum_by}
 use mathlib.Core.Logic.{inl, inr}
 use Rattle.std.proofs.Math.ListN.{get_or-map}
-use Rattle.std.proofs.Math.Seq.{get_or-append_seam}
+use Rattle.std.proofs.Math.Seq.{get_or-append_seam, map-set_same}
 use Rattle.std.proofs.lemmas.List.{append-nil, drop_all, take_all, get_or_append_left, get_or_default, get_or-set_other, get_or-set_same, length-append, length-map, length-set}
 use Rattle.std.proofs.lemmas.List.Sums.{count_by-le-length, length-filter, sum_by-cons}
 use Rattle.lv_schema.specs.declared.action.Action.{Action}
@@ -18,7 +18,7 @@ use Rattle.lv_stands.specs.Kept.{TableKept, no_table_kept, table_kept}
 use Rattle.lv_stands.specs.Moves.{TableCleaned, TableCommits, lost, no_net}
 use Rattle.lv_stands.proofs.Lists.{sum-map}
 use Rattle.lv_versions.specs.Versions.{Kept, new_version}
-use Rattle.lv_base.specs.Bases.{brought_in, kept_of, net_in, no_versions, table_in, versions_in}
+use Rattle.lv_base.specs.Bases.{brought_in, indexes_in, kept_of, net_in, no_versions, table_in, versions_in}
 
 pub kept_at : (tables : List Kept) (t : ℕ) → table_kept (map kept_of tables) t ≡ kept_of (table_in tables t)
 kept_at tables t = get_or-map kept_of tables t no_versions
@@ -99,6 +99,7 @@ pub record AreTaken (m : ℕ) (nets0 : List Net) (old : List Kept) (nets : List 
   pub nets_stay : (t : ℕ) → t < length nets → net_in nets t ≡ net_in nets0 t
   pub tables_stay : (t : ℕ) → t < length nets → table_in tables t ≡ table_in old t
   pub taken : (t : ℕ) → length nets ≤ t → t < length old → TableCommits m (net_in nets0 t) (kept_of (table_in old t)) (kept_of (table_in tables t))
+  pub indexes : indexes_in tables ≡ indexes_in old
 
 module _ (m : ℕ) (nets0 : List Net) (old : List Kept) (nets rest : List Net) (net : Net) (tables : List Kept) (held : AreTaken m nets0 old nets tables) (popped : nets ≡ rest ++ net ∷ []) where
   longer_by : length nets ≡ length rest + 1
@@ -113,13 +114,14 @@ module _ (m : ℕ) (nets0 : List Net) (old : List Kept) (nets rest : List Net) (
   pub last_net : net ≡ net_in nets0 (length rest)
   last_net = sym (get_or-append_seam rest net [] no_net) ∙ ap (λ (l : List Net). net_in l (length rest)) (sym popped) ∙ held.nets_stay (length rest) (omega (arith, longer_by))
 
-  pub one_more : (item new : Kept) → item ≡ table_in old (length rest) → TableCommits m net (kept_of item) (kept_of new) → AreTaken m nets0 old rest (slice_set tables (length rest) new)
-  one_more item new is c = record {
+  pub one_more : (item new : Kept) → item ≡ table_in old (length rest) → TableCommits m net (kept_of item) (kept_of new) → new.indexes ≡ item.indexes → AreTaken m nets0 old rest (slice_set tables (length rest) new)
+  one_more item new is c same = record {
     long = length-set tables (length rest) new ∙ held.long;
     short = omega (arith, longer_by, held.short);
     nets_stay = λ t lt. sym (get_or_append_left rest (net ∷ []) no_net t lt) ∙ ap (λ (l : List Net). net_in l t) (sym popped) ∙ held.nets_stay t (omega (arith, longer_by, lt));
     tables_stay = λ t lt. get_or-set_other tables (length rest) t new no_versions (other t (length rest) (omega (arith, lt))) ∙ held.tables_stay t (omega (arith, longer_by, lt));
     taken = λ t le lt. by t lt (split t (length rest) le);
+    indexes = map-set_same (λ (k : Kept). k.indexes) tables (length rest) new no_versions (same ∙ ap (λ (k : Kept). k.indexes) (is ∙ sym (held.tables_stay (length rest) (omega (arith, longer_by))))) ∙ held.indexes;
   }
     where
       other : (t at : ℕ) → t < at → t ≢ at
@@ -148,7 +150,7 @@ whole len new items e f =
     ap (λ l. take len (new ++ l)) (drop_all (length new) items (omega (arith, e))) ∙ ap (take len) (append-nil new) ∙ take_all len new (omega (arith, e, f))
 
 -- ---- what holds of each table, after one of them is changed
-split : (t at : ℕ) → (t ≡ at) ⊎ ((t < at) ⊎ (at < t))
+pub split : (t at : ℕ) → (t ≡ at) ⊎ ((t < at) ⊎ (at < t))
 split t at = grind arith
 
 module _ (P : ℕ → Kept → Type 0) (tables : List Kept) (at : ℕ) (new : Kept) (inside : at < length tables) (here : P at new) where

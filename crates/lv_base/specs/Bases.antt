@@ -1,5 +1,5 @@
 -- The committed states as they are kept, with the room that is ready for more.
-use Rattle.std.specs.Prelude.{◌≡◌, ℕ, ◌+◌, ◌^◌, ◌≤◌, ◌<◌, List, [], map, length, slice_index_or}
+use Rattle.std.specs.Prelude.{◌≡◌, ℕ, ◌+◌, ◌^◌, ◌≤◌, ◌<◌, true, List, [], map, length, slice_index_or}
 use Rattle.std.specs.List.{sum_by}
 use Rattle.lv_values.specs.declared.value.Value.{Value}
 use Rattle.lv_values.specs.Rows.{key_cmp}
@@ -15,7 +15,7 @@ use Rattle.lv_schema.specs.World.{no_table}
 use Rattle.lv_delta.specs.Kept.{DeltasKept}
 use Rattle.lv_stands.specs.Kept.{TableKept, BaseKept, shown}
 use Rattle.lv_stands.specs.Moves.{no_net}
-use Rattle.lv_versions.specs.Versions.{Kept}
+use Rattle.lv_versions.specs.Versions.{Kept, has_index}
 
 -- each table's versions, the entries of the commits, the number of the last one, the floor of the last clean-up, and how
 -- many more tables go in without memory
@@ -27,7 +27,7 @@ pub record BaseRoom : Type 0 where
   pub free : ℕ
 
 abbrev pub no_versions : Kept
-no_versions = record { def = no_table; versions = []; spare = 0; last = 0; floor = 0 }
+no_versions = record { def = no_table; versions = []; spare = 0; last = 0; floor = 0; indexes = []; soonest = 0 }
 
 -- a table's versions, and the net change of a table
 abbrev pub table_in : List Kept → ℕ → Kept
@@ -49,6 +49,28 @@ defs_of b = map (λ k. k.def) b.tables
 -- the last state
 abbrev pub last_state : BaseRoom → Db
 last_state b = map (λ k. shown b.number k.versions) b.tables
+
+-- the columns of each table's indexes
+abbrev pub indexes_in : List Kept → List (List (List ℕ))
+indexes_in tables = map (λ k. k.indexes) tables
+
+-- the same without the indexes
+abbrev pub unindexed : Kept → Kept
+unindexed k = record k { indexes = [] }
+
+abbrev pub without_indexes : BaseRoom → BaseRoom
+without_indexes b = record b { tables = map unindexed b.tables }
+
+-- the one is the other, but for the tables' indexes
+abbrev pub IsReindexed : BaseRoom → BaseRoom → Type 0
+IsReindexed old new = without_indexes new ≡ without_indexes old
+
+-- a table has an index by some columns, and each table has those that it had
+abbrev pub HasIndex : BaseRoom → ℕ → List ℕ → Type 0
+HasIndex b t columns = has_index columns (table_in b.tables t).indexes ≡ true
+
+abbrev pub KeepsIndexes : BaseRoom → BaseRoom → Type 0
+KeepsIndexes old new = (t : ℕ) (columns : List ℕ) → HasIndex old t columns → HasIndex new t columns
 
 -- how many versions tables have, and how many rows net changes bring
 abbrev pub versions_in : List Kept → ℕ

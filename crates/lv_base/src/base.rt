@@ -1,8 +1,9 @@
 //! The committed states.
-ghost use Rattle.std.specs.Prelude.{◌≡◌, ◌≤◌, ◌<◌, ◌+◌, ◌^◌, ◌++◌, ◌∷◌, [], ℕ, length, IfOk, OnOk};
-ghost use Rattle.lv_base.specs.Bases.{CanCommit, IsReady, base_of, defs_of, table_in};
+ghost use Rattle.std.specs.Prelude.{◌≡◌, ◌≤◌, ◌<◌, ◌+◌, ◌^◌, ◌++◌, ◌∷◌, [], ℕ, length, slice_set, IfOk, OnErr, OnOk};
+ghost use Rattle.lv_base.specs.Bases.{CanCommit, IsReady, IsReindexed, base_of, defs_of, indexes_in, table_in};
 ghost use Rattle.lv_stands.specs.Kept.{shown};
 ghost use Rattle.lv_stands.specs.Moves.{BaseCleaned, BaseCommits, table_new, versions_counted};
+ghost use Rattle.lv_versions.specs.Versions.{with_index};
 
 use crate::cleaning::Kept;
 use crate::preparing::{reserve_all, work_out};
@@ -71,16 +72,19 @@ impl Base {
         ensures kept { base_of self.new ≡ record (base_of self.old) { tables = (base_of self.old).tables ++ table_new def ∷ [] } }
         ensures entries { self.new.deltas ≡ self.old.deltas }
         ensures room { self.new.free + 1 ≡ self.old.free }
+        ensures indexes { indexes_in self.new.tables ≡ indexes_in self.old.tables ++ [] ∷ [] }
     {
         self.tables.push_reserved(Table::new(alloc, def));
     }
 
     /// Adds an index of a table's versions by some columns, in which `probe` then searches. Where there is one, nothing
-    /// is done. What is kept and the room for more stay as they were, also for want of memory. Cost: a binary search and
-    /// a move of small numbers for each version, and later as much for each row that goes or comes.
+    /// is done, as for want of memory. All else stays as it was. Cost: a binary search and a move of small numbers for
+    /// each version, and later as much for each row that goes or comes.
     pub fn add_index(&mut self, table: u32, columns: &[u8]) -> Result<(), NoMemory>
         requires { table < length self.old.tables }
-        ensures { self.new ≡ self.old }
+        ensures same { IsReindexed self.old self.new }
+        ensures added { OnOk result (indexes_in self.new.tables ≡ slice_set (indexes_in self.old.tables) table (with_index columns.now (table_in self.old.tables table).indexes)) }
+        ensures refused { OnErr result (indexes_in self.new.tables ≡ indexes_in self.old.tables) }
     {
         self.tables[table as usize].add_index(columns)
     }
@@ -139,6 +143,7 @@ impl Base {
         ensures tables_room { self.new.free ≡ self.old.free }
         ensures rows_room { (t : ℕ) → (table_in self.old.tables t).spare ≤ (table_in self.new.tables t).spare }
         ensures entries_room { self.old.deltas.spare ≤ self.new.deltas.spare }
+        ensures indexes { indexes_in self.new.tables ≡ indexes_in self.old.tables }
     {
         let ready = work_out(alloc, &self.tables, actions)?;
         reserve_all(&mut self.tables, &mut self.deltas, &ready)?;
@@ -153,6 +158,7 @@ impl Base {
         requires fits { self.old.number + 1 < 2 ^ 64 }
         ensures commits { BaseCommits (defs_of self.old) ready.actions (base_of self.old) (base_of self.new) }
         ensures room { self.new.free ≡ self.old.free }
+        ensures indexes { indexes_in self.new.tables ≡ indexes_in self.old.tables }
     {
         let Ready { actions, nets } = ready;
         commit_each(&mut self.tables, self.number, nets);
@@ -172,6 +178,7 @@ impl Base {
         ensures tables_room { self.new.free ≡ self.old.free }
         ensures rows_room { (t : ℕ) → (table_in self.old.tables t).spare ≤ (table_in self.new.tables t).spare }
         ensures entries_room { self.old.deltas.spare ≤ self.new.deltas.spare }
+        ensures indexes { indexes_in self.new.tables ≡ indexes_in self.old.tables }
     {
         prune_each(&mut self.tables, floor);
         self.deltas.prune(floor);

@@ -11,5 +11,5 @@ mod tables;
 
 pub use base::Base;
 pub use cleaning::Kept;
-pub use laws::bases_that_stand_can_commit;
+pub use laws::{bases_that_stand_can_commit, indexes_are_not_kept};
 pub use ready::Ready;

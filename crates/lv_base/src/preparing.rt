@@ -1,7 +1,7 @@
 //! What a commit needs before it is made.
 ghost use Rattle.std.specs.Prelude.{◌≡◌, ◌≤◌, ◌<◌, ◌+◌, ◌^◌, ℕ, length, map, IfOk, OnOk};
 ghost use Rattle.lv_schema.specs.Condensed.{condensed};
-ghost use Rattle.lv_base.specs.Bases.{brought_in, kept_of, net_in, table_in, versions_in};
+ghost use Rattle.lv_base.specs.Bases.{brought_in, indexes_in, kept_of, net_in, table_in, versions_in};
 
 use crate::ready::Ready;
 use crate::table::Table;
@@ -78,6 +78,7 @@ fn reserve_each(tables: &mut [Table], nets: &[Net]) -> Result<(), NoMemory>
     ensures same { map kept_of tables.new ≡ map kept_of tables.old }
     ensures room { OnOk result ((t : ℕ) → t < length tables.new → length (net_in nets.now t).plus ≤ (table_in tables.new t).spare) }
     ensures kept { (t : ℕ) → (table_in tables.old t).spare ≤ (table_in tables.new t).spare }
+    ensures indexes { indexes_in tables.new ≡ indexes_in tables.old }
 {
     for at in 0..tables.len() {
         tables[at].reserve(nets[at].plus.len() as u64)?;
@@ -95,6 +96,7 @@ pub(crate) fn reserve_all(
     ensures same { map kept_of tables.new ≡ map kept_of tables.old }
     ensures room { OnOk result ((t : ℕ) → t < length tables.new → length (net_in ready.now.nets t).plus ≤ (table_in tables.new t).spare) }
     ensures kept { (t : ℕ) → (table_in tables.old t).spare ≤ (table_in tables.new t).spare }
+    ensures indexes { indexes_in tables.new ≡ indexes_in tables.old }
     ensures entries { deltas.new ≡ record deltas.old { spare = deltas.new.spare } }
     ensures entries_room { OnOk result (length ready.now.actions ≤ deltas.new.spare) }
     ensures entries_kept { deltas.old.spare ≤ deltas.new.spare }

@@ -1,8 +1,9 @@
 //! One table.
-ghost use Rattle.std.specs.Prelude.{◌≡◌, ◌≤◌, ◌<◌, ◌+◌, ◌^◌, [], ℕ, length, OnOk};
-ghost use Rattle.lv_base.specs.Bases.{CanTakeNet, kept_of};
+ghost use Rattle.std.specs.Prelude.{◌≡◌, ◌≤◌, ◌<◌, ◌+◌, ◌-◌, ◌^◌, [], ℕ, length, OnErr, OnOk};
+ghost use Rattle.lv_base.specs.Bases.{CanTakeNet, kept_of, unindexed};
 ghost use Rattle.lv_stands.specs.Kept.{shown};
 ghost use Rattle.lv_stands.specs.Moves.{TableCleaned, TableCommits};
+ghost use Rattle.lv_versions.specs.Versions.{soonest_after, soonest_pruned, with_index};
 
 use lv_schema::{Net, TableDef};
 use lv_values::NoMemory;
@@ -36,6 +37,9 @@ impl Table {
         ensures none { result.versions ≡ [] }
         ensures last { result.last ≡ 0 }
         ensures floor { result.floor ≡ 0 }
+        ensures room { result.spare ≡ 0 }
+        ensures indexes { result.indexes ≡ [] }
+        ensures soonest { result.soonest ≡ 2 ^ 64 - 1 }
     {
         Table {
             versions: Versions::new(alloc, def),
@@ -63,13 +67,17 @@ impl Table {
         ensures same { kept_of self.new ≡ kept_of self.old }
         ensures room { OnOk result (rows ≤ self.new.spare) }
         ensures kept { self.old.spare ≤ self.new.spare }
+        ensures indexes { self.new.indexes ≡ self.old.indexes }
+        ensures soonest { self.new.soonest ≡ self.old.soonest }
     {
         self.versions.reserve(rows)
     }
 
-    /// Adds an index by some columns, if there is none. What is kept stays as it was.
+    /// Adds an index by some columns, if there is none. All else stays as it was.
     pub(crate) fn add_index(&mut self, columns: &[u8]) -> Result<(), NoMemory>
-        ensures { self.new ≡ self.old }
+        ensures same { unindexed self.new ≡ unindexed self.old }
+        ensures added { OnOk result (self.new.indexes ≡ with_index columns.now self.old.indexes) }
+        ensures refused { OnErr result (self.new.indexes ≡ self.old.indexes) }
     {
         self.versions.add_index(columns)
     }
@@ -78,7 +86,9 @@ impl Table {
     pub(crate) fn commit(&mut self, last: u64, net: Net)
         requires takes { CanTakeNet last net self.old }
         requires fits { last + 1 < 2 ^ 64 }
-        ensures { TableCommits last net (kept_of self.old) (kept_of self.new) }
+        ensures commits { TableCommits last net (kept_of self.old) (kept_of self.new) }
+        ensures indexes { self.new.indexes ≡ self.old.indexes }
+        ensures soonest { self.new.soonest ≡ soonest_after self.old.soonest (last + 1) net.minus }
     {
         let gone = net.minus.as_slice().len() as u64;
         let come = net.plus.as_slice().len() as u64;
@@ -92,6 +102,8 @@ impl Table {
         requires { self.old.floor ≤ floor }
         ensures cleaned { TableCleaned floor (kept_of self.old) (kept_of self.new) }
         ensures room { self.old.spare ≤ self.new.spare }
+        ensures indexes { self.new.indexes ≡ self.old.indexes }
+        ensures soonest { self.new.soonest ≡ soonest_pruned floor self.old.last self.old.soonest }
     {
         self.versions.prune(floor);
     }

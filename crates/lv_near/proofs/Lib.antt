@@ -2,3 +2,4 @@ pub mod Ordered
 pub mod Picked
 pub mod Parts
 pub mod Inputs
+pub mod LinkIndexes

@@ -1,6 +1,8 @@
 //! The indexes in which steps of a view look rows up.
-ghost use Rattle.std.specs.Prelude.{◌≡◌, true, length, nat_lt};
-ghost use Rattle.std.specs.List.{list_all};
+ghost use Rattle.std.specs.Prelude.{◌≡◌, true, length, nat_lt, OnOk};
+ghost use Rattle.std.specs.List.{AllByRecursion, list_all};
+ghost use Rattle.lv_base.specs.Bases.{IsReindexed, KeepsIndexes};
+ghost use Rattle.lv_near.specs.Orders.{HasBothIndexes, HasEndIndex, HasLinkIndexes};
 
 use lv_base::Base;
 use lv_reach::{Link, columns_to, links};
@@ -18,7 +20,9 @@ fn index_columns(
     to: u8,
 ) -> Result<(), NoMemory>
     requires { list_all (λ t. nat_lt t (length base.old.tables)) tables.now ≡ true }
-    ensures { base.new ≡ base.old }
+    ensures same { IsReindexed base.old base.new }
+    ensures kept { KeepsIndexes base.old base.new }
+    ensures there { OnOk result (HasEndIndex base.new tables.now links.now from to) }
 {
     match tables.get(to as usize) {
         Some(table) => {
@@ -37,7 +41,9 @@ fn index_each(
     links: &[Link],
 ) -> Result<(), NoMemory>
     requires { list_all (λ t. nat_lt t (length base.old.tables)) tables.now ≡ true }
-    ensures { base.new ≡ base.old }
+    ensures same { IsReindexed base.old base.new }
+    ensures kept { KeepsIndexes base.old base.new }
+    ensures there { OnOk result (AllByRecursion (HasBothIndexes base.new tables.now links.now) links.now) }
 {
     for link in links {
         let left = link.left.alias;
@@ -49,11 +55,13 @@ fn index_each(
 }
 
 /// Adds the indexes in which steps of a view look rows up: for both ends of each link, of the table of that alias by the
-/// columns that are linked. Those that there are stay, and what is kept and the room for more do not change, also for
-/// want of memory. Cost: for each that is new a binary search and a move of small numbers for each version.
+/// columns that are linked. Those that there are stay, and all else does not change, also for want of memory.
+/// Cost: for each that is new a binary search and a move of small numbers for each version.
 pub fn index_links(alloc: Global, base: &mut Base, def: &ViewDef) -> Result<(), NoMemory>
     requires { list_all (λ t. nat_lt t (length base.old.tables)) def.now.tables ≡ true }
-    ensures { base.new ≡ base.old }
+    ensures same { IsReindexed base.old base.new }
+    ensures kept { KeepsIndexes base.old base.new }
+    ensures there { OnOk result (HasLinkIndexes base.new def.now) }
 {
     let links = links(alloc, def)?;
     index_each(alloc, base, def.tables.as_slice(), links.as_slice())

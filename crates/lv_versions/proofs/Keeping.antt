@@ -1,6 +1,7 @@
 -- The further orders of versions, together.
-use Rattle.std.proofs.Common.{◌≡◌, ℕ, zero, suc, ◌+◌, ◌<◌, ◌≤◌, Bool, true, false, List, [], ◌∷◌, ◌++◌, length, length-append, map, filter, set, get_or, Some, refl, sym, ap, ◌∙◌, subst, arith}
-use Rattle.std.specs.Prelude.{nat_lt, slice_get}
+use Rattle.std.proofs.Common.{◌≡◌, ℕ, zero, suc, ◌+◌, ◌<◌, ◌≤◌, Bool, true, false, List, [], ◌∷◌, ◌++◌, length, length-append, map, filter, set, get_or, Option, Some, None, refl, sym, ap, ap₂, ◌∙◌, subst, arith}
+use Rattle.std.specs.Prelude.{◌||◌, MatchOption, is_some, nat_eq, nat_lt, slice_get}
+use Rattle.std.specs.Cmp.Lexicographic.{bytes_decides, pointwise}
 use Rattle.std.specs.List.{AllByRecursion}
 use Rattle.std.proofs.lemmas.List.{get_or-set_other, get_or-set_same, length-map, length-set}
 use Rattle.std.proofs.lemmas.Bool.Decides.{nat_tests}
@@ -14,7 +15,7 @@ use Rattle.lv_shelf.specs.Cuts.{Apart, IsCut}
 use Rattle.lv_shelf.specs.Shelves.{ChangesOnly, LacksItem, other_at}
 use Rattle.lv_shelf.proofs.Cutting.{all_at, got, got_within}
 use Rattle.lv_shelf.proofs.Orders.{nth_map}
-use Rattle.lv_versions.specs.Versions.{AreEnded, AreIndexed, AreOrders, EndsAtMost, HaveOrders, IsIn, IsNewTo, Precedes, columns_at, comes_before, is_current, lost, new_by, new_version}
+use Rattle.lv_versions.specs.Versions.{AreEnded, AreIndexed, AreOrders, EndsAtMost, HaveOrders, IsIn, IsNewTo, Precedes, columns_at, comes_before, has_index, is_current, lost, new_by, new_version}
 use Rattle.lv_versions.proofs.Cleaning.{absent, ended_more, kept_ended, stay}
 use Rattle.lv_versions.proofs.Indexing.{found_in, indexed_kept, indexed_lost, stand_ascend}
 use Rattle.lv_versions.proofs.Standing.{version_total}
@@ -65,6 +66,31 @@ columns_new [] c zero e = refl
 columns_new [] c (suc j) e = cc
 columns_new (d ∷ cs) c zero e = cc
 columns_new (d ∷ cs) c (suc j) e = columns_new cs c j (omega arith)
+
+-- ---- whether there is an index
+same_columns : (c : List ℕ) → pointwise nat_eq c c ≡ true
+same_columns c = (bytes_decides c c).1 refl
+
+other_columns : (c d : List ℕ) → (d ≡ c → ⊥) → (t : Bool) → pointwise nat_eq c d ≡ t → t ≡ false
+other_columns c d ne true e = absurd (ne (sym ((bytes_decides c d).0 e)))
+other_columns c d ne false e = refl
+
+none_has : (cs : List (List ℕ)) (c : List ℕ) → AllByRecursion (λ (d : List ℕ). d ≡ c → ⊥) cs → has_index c cs ≡ false
+none_has [] c a = refl
+none_has (d ∷ cs) c a = ap₂ (λ s t. s || t) (other_columns c d a.0 (pointwise nat_eq c d) refl) (none_has cs c a.1)
+
+some_has : (cs : List (List ℕ)) (c : List ℕ) (j : ℕ) → j < length cs → columns_at cs j ≡ c → has_index c cs ≡ true
+some_has [] c j lt is = absurd (omega arith)
+some_has (d ∷ cs) c zero lt is = ap (λ t. t || has_index c cs) (subst (λ l. pointwise nat_eq c l ≡ true) (sym is) (same_columns c))
+some_has (d ∷ cs) c (suc j) lt is = later (pointwise nat_eq c d) (some_has cs c j (omega arith) is)
+  where
+    later : (s : Bool) → has_index c cs ≡ true → (s || has_index c cs) ≡ true
+    later true e = refl
+    later false e = e
+
+pub has_told : (r : Option ℕ) (cs : List (List ℕ)) (c : List ℕ) → MatchOption r (AllByRecursion (λ (d : List ℕ). d ≡ c → ⊥) cs) (λ j. (j < length cs) × (columns_at cs j ≡ c)) → has_index c cs ≡ is_some r
+has_told None cs c h = none_has cs c h
+has_told (Some j) cs c h = some_has cs c j h.0 h.1
 
 -- ---- orders or none
 pub orders_have : (ps : List ℕ) (cs : List (List ℕ)) (spare : ℕ) (others : Lists) (vs : List RowVersion) → AreOrders ps cs others vs → HaveOrders ps cs spare others vs

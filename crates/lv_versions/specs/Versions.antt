@@ -1,6 +1,7 @@
 -- What a table's versions give after a commit.
-use Rattle.std.specs.Prelude.{◌≡◌, ℕ, min, ◌+◌, ◌<◌, ◌≤◌, Bool, true, false, not, ◌&&◌, nat_le, List, [], ◌∷◌, length, map, filter, slice_get, slice_index_or, Option, Some, None, is_none}
-use Rattle.std.specs.List.{AllByRecursion}
+use Rattle.std.specs.Prelude.{◌≡◌, ℕ, min, ◌+◌, ◌<◌, ◌≤◌, ◌-◌, ◌^◌, Bool, true, false, cond, not, ◌&&◌, nat_eq, nat_le, nat_lt, List, [], ◌∷◌, ◌++◌, length, map, filter, slice_get, slice_index_or, Option, Some, None, is_none}
+use Rattle.std.specs.Cmp.Lexicographic.{pointwise}
+use Rattle.std.specs.List.{AllByRecursion, list_any}
 use Rattle.std.specs.Ordering.{nat_cmp, on, then_cmp, is_lt}
 use Rattle.std.specs.declared.cmp.Ordering.{Ordering}
 use Rattle.std.specs.declared.cmp.Ordering.TheVariants.{Less, Equal, Greater}
@@ -123,6 +124,13 @@ pub record AreIndexedBut (columns positions : List ℕ) (one : RowVersion) (orde
 abbrev pub columns_at : List (List ℕ) → ℕ → List ℕ
 columns_at columns j = slice_index_or columns j []
 
+-- whether there is an index by these columns, and the indexes with one by them, which comes last if it is new
+abbrev pub has_index : List ℕ → List (List ℕ) → Bool
+has_index columns indexes = list_any (pointwise nat_eq columns) indexes
+
+abbrev pub with_index : List ℕ → List (List ℕ) → List (List ℕ)
+with_index columns indexes = cond (has_index columns indexes) indexes (indexes ++ columns ∷ [])
+
 -- the further orders: first that of the versions that ended, then an index by each of these lists of columns
 pub record AreOrders (positions : List ℕ) (columns : List (List ℕ)) (others : List (List RowVersion)) (versions : List RowVersion) : Type 0 where
   pub count : length others ≡ length columns + 1
@@ -145,14 +153,21 @@ abbrev pub soonest_after : ℕ → ℕ → List (List Value) → ℕ
 soonest_after soonest number [] = soonest
 soonest_after soonest number (row ∷ rows) = min soonest number
 
+-- and after a clean-up: below it none ended, so it stays; or else what is left ended above the floor, by the last commit
+abbrev pub soonest_pruned : ℕ → ℕ → ℕ → ℕ
+soonest_pruned floor last soonest = cond (nat_lt floor soonest) soonest (cond (nat_lt floor last) (floor + 1) (2 ^ 64 - 1))
+
 -- a table's versions: its definition, the versions in order, how many more rows go in without memory, the last
--- commit that changed it, and the floor of the last clean-up
+-- commit that changed it, the floor of the last clean-up, the columns of each index in the order in which they were
+-- added, and a number below which no version ends
 pub record Kept : Type 0 where
   pub def : TableDef
   pub versions : List RowVersion
   pub spare : ℕ
   pub last : ℕ
   pub floor : ℕ
+  pub indexes : List (List ℕ)
+  pub soonest : ℕ
 
 -- ---- what a commit does to the versions
 -- a version after a commit that takes these rows away

@@ -1,5 +1,5 @@
 //! A table's row versions.
-ghost use Rattle.std.specs.Prelude.{◌≡◌, ◌+◌, ◌<◌, ◌≤◌, ◌++◌, ◌∷◌, [], ℕ, Bool, length, map, filter, Some, None, MatchOption, IfOk, OnOk, OnErr, option_to_list};
+ghost use Rattle.std.specs.Prelude.{◌≡◌, ◌+◌, ◌-◌, ◌^◌, ◌<◌, ◌≤◌, ◌++◌, ◌∷◌, [], ℕ, Bool, length, map, filter, Some, None, MatchOption, IfOk, OnOk, OnErr, option_to_list};
 ghost use Rattle.std.specs.Option.{option_to_list};
 ghost use Rattle.std.specs.List.{AllByRecursion};
 ghost use Rattle.std.specs.List.Sorted.{IsPermutation};
@@ -8,7 +8,7 @@ ghost use Rattle.lv_schema.specs.Nets.{with_net};
 ghost use Rattle.lv_schema.specs.Once.{Ascends};
 ghost use Rattle.lv_shelf.specs.Cuts.{Apart, Falls};
 ghost use Rattle.lv_shelf.specs.Shelves.{other_at};
-ghost use Rattle.lv_versions.specs.Versions.{Applies, EndsFrom, HaveOrders, IsBy, Precedes, ends_after, is_upto, lost, new_version, row_with, rows_hit, rows_with, soonest_after, state_at};
+ghost use Rattle.lv_versions.specs.Versions.{Applies, EndsFrom, HaveOrders, IsBy, Precedes, ends_after, is_upto, lost, new_version, row_with, rows_hit, rows_with, soonest_after, soonest_pruned, state_at, with_index};
 
 use crate::changing::change;
 use crate::dropping::drop_over;
@@ -41,7 +41,7 @@ impl Model for Versions {
 
     ghost Value = { Kept };
 
-    ghost view = { λ v. record { def = v.def; versions = v.versions.list; spare = v.versions.spare; last = v.last; floor = v.floor } };
+    ghost view = { λ v. record { def = v.def; versions = v.versions.list; spare = v.versions.spare; last = v.last; floor = v.floor; indexes = v.indexes.list; soonest = v.soonest } };
 
     ghost invariant = { λ v. AreKept v.def.key v.last v.floor v.soonest v.indexes.list v.versions.spare v.versions.others v.versions.list };
 }
@@ -53,6 +53,9 @@ impl Versions {
         ensures none { result.versions ≡ [] }
         ensures last { result.last ≡ 0 }
         ensures floor { result.floor ≡ 0 }
+        ensures room { result.spare ≡ 0 }
+        ensures indexes { result.indexes ≡ [] }
+        ensures soonest { result.soonest ≡ 2 ^ 64 - 1 }
     {
         Versions {
             def,
@@ -145,6 +148,9 @@ impl Versions {
         ensures last { self.new.last ≡ self.old.last }
         ensures floor { self.new.floor ≡ self.old.floor }
         ensures room { self.new.spare ≡ self.old.spare }
+        ensures added { OnOk result (self.new.indexes ≡ with_index columns.now self.old.indexes) }
+        ensures refused { OnErr result (self.new.indexes ≡ self.old.indexes) }
+        ensures soonest { self.new.soonest ≡ self.old.soonest }
     {
         if index_by(self.indexes.as_slice(), columns).is_some() {
             return Ok(());
@@ -166,6 +172,8 @@ impl Versions {
         ensures floor { self.new.floor ≡ self.old.floor }
         ensures room { OnOk result (rows ≤ self.new.spare) }
         ensures kept { self.old.spare ≤ self.new.spare }
+        ensures indexes { self.new.indexes ≡ self.old.indexes }
+        ensures soonest { self.new.soonest ≡ self.old.soonest }
     {
         add_first(self.alloc, &mut self.versions)?;
         self.versions.reserve(rows)
@@ -185,6 +193,8 @@ impl Versions {
         ensures def { self.new.def ≡ self.old.def }
         ensures floor { self.new.floor ≡ self.old.floor }
         ensures room { self.new.spare + length net.plus ≡ self.old.spare }
+        ensures indexes { self.new.indexes ≡ self.old.indexes }
+        ensures soonest { self.new.soonest ≡ soonest_after self.old.soonest number net.minus }
     {
         let soonest = soonest_after(self.soonest, number, &net.minus);
         change(
@@ -210,6 +220,8 @@ impl Versions {
         ensures def { self.new.def ≡ self.old.def }
         ensures last { self.new.last ≡ self.old.last }
         ensures room { self.old.spare ≤ self.new.spare }
+        ensures indexes { self.new.indexes ≡ self.old.indexes }
+        ensures soonest { self.new.soonest ≡ soonest_pruned floor self.old.last self.old.soonest }
     {
         let soonest = drop_ended(
             self.def.key.as_slice(),
@@ -267,6 +279,7 @@ fn drop_ended(
     ensures room { versions.old.spare ≤ versions.new.spare }
     ensures orders { HaveOrders positions.now indexes.now versions.new.spare versions.new.others versions.new.list }
     ensures ends { AllByRecursion (λ v. EndsFrom result v.until) versions.new.list }
+    ensures soonest { result ≡ soonest_pruned floor last soonest }
 {
     if floor < soonest {
         return soonest;

@@ -13,6 +13,7 @@ loop-net-init c = record {
   nets_stay = λ t lt. refl;
   tables_stay = λ t lt. refl;
   taken = λ t le lt. absurd (omega (arith, le, lt, c.requires.all));
+  indexes = refl;
 }
 
 pub commit-requires-clause-takes : goal.commit-requires-clause-takes
@@ -47,4 +48,5 @@ loop-net-preserved c =
     let at : c.len.result ≡ length rest = c.len.ensures in
     subst (λ i. AreTaken m nets old rest (slice_set tables i new)) (sym at)
     (one_more m nets old c.loop-net.nets rest net tables held popped (get_or tables (length rest) d) new (last_table m nets old c.loop-net.nets rest net tables held popped d)
-    (subst (λ i. TableCommits m net (kept_of (get_or tables i d)) (kept_of new)) at c.commit.ensures))
+    (subst (λ i. TableCommits m net (kept_of (get_or tables i d)) (kept_of new)) at c.commit.ensures.commits)
+    (subst (λ i. new.indexes ≡ (get_or tables i d).indexes) at c.commit.ensures.indexes))

@@ -1,4 +1,5 @@
 use Rattle.std.proofs.Common.{◌<◌, ◌∙◌, length, ap, subst, arith}
+use Rattle.std.proofs.Math.Seq.{map-set_same}
 use Rattle.std.proofs.lemmas.List.{get_or-set_other, length-set}
 use Rattle.lv_stands.specs.Moves.{TableCleaned}
 use Rattle.lv_versions.specs.Versions.{Kept}
@@ -28,4 +29,5 @@ loop-at-preserved c =
           (subst (λ (k : Kept). TableCleaned c.args.floor (kept_of k) (kept_of new)) item c.prune.ensures.cleaned) c.loop-at.invariant.cleaned;
       rest = λ t le. get_or-set_other tables at t new no_versions (later t at le) ∙ c.loop-at.invariant.rest t (omega (arith, le));
       room = spare_kept c.args.tables.now tables at c.index-tables-at.result new there c.prune.ensures.room c.loop-at.invariant.room;
+      indexes = map-set_same (λ (k : Kept). k.indexes) tables at new c.index-tables-at.result c.prune.ensures.indexes ∙ c.loop-at.invariant.indexes;
     }

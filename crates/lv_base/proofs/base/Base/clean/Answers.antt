@@ -1,7 +1,7 @@
 use Rattle.std.proofs.Common.{◌≤◌, ◌-◌, ◌++◌, ◌∙◌, length, drop, take, refl, sym, ap, subst, arith}
 use Rattle.lv_stands.specs.Moves.{BaseCleaned}
-use Rattle.lv_base.specs.Bases.{BaseRoom, base_of, versions_in}
-use Rattle.lv_base.proofs.Places.{counted_is}
+use Rattle.lv_base.specs.Bases.{BaseRoom, base_of, indexes_in, versions_in}
+use Rattle.lv_base.proofs.Places.{counted_is, whole}
 use Rattle.lv_base.proofs.Prepared.{cleaned_base, cleaned_kept, written}
 use Rattle.lv_base.proofs.base.Base.clean.Goals as goal
 
@@ -31,3 +31,13 @@ returns-clause-versions c =
     let s = c.self.inside in
     let new = c.prune_each.new.tables in
     c.count_all.ensures ∙ ap versions_in c.deref.ensures.value ∙ sym (counted_is (take s.tables.len (new ++ drop (length new) s.tables.items)))
+
+pub returns-clause-indexes : goal.returns-clause-indexes
+returns-clause-indexes c =
+    let s = c.self.inside in
+    let new = c.prune_each.new.tables in
+    let old = c.deref_mut.ensures.value in
+    ap indexes_in (whole s.tables.len new s.tables.items (c.prune_each.ensures.all ∙ ap length old) (omega (arith, c.deref_mut.ensures.len, ap length old)))
+    ∙ c.prune_each.ensures.indexes
+    ∙ ap indexes_in old
+    ∙ ap (λ (b : BaseRoom). indexes_in b.tables) c.self.view_is

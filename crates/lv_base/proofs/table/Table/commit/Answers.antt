@@ -25,8 +25,8 @@ invariant_of-self c =
     rows_follow c.args.last c.args.net old takes c.newest.ensures c.self.inside.rows (length c.as_slice.result.now) (length c.as_slice-2.result.now) new.last new c.self.invariant
     (ap length c.as_slice.ensures) (ap length c.as_slice-2.ensures) (c.commit.ensures.state new.last (omega (arith, c.commit.ensures.last)))
 
-pub returns : goal.returns
-returns c =
+pub returns-clause-commits : goal.returns-clause-commits
+returns-clause-commits c =
     let old = c.self.inside.versions in
     let new = c.commit.new.self in
     let takes : CanTakeNet c.args.last c.args.net old = subst (CanTakeNet c.args.last c.args.net) (sym c.self.view_is) c.requires.takes in

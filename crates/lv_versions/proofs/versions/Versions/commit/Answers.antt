@@ -2,7 +2,7 @@ use Rattle.std.proofs.Common.{◌<◌, ◌++◌, map, sym, ap, ◌∙◌, subst,
 use Rattle.std.specs.List.Sorted.{IsPermutation}
 use Rattle.lv_schema.specs.Nets.{with_net}
 use Rattle.lv_shelf.specs.Cuts.{Apart}
-use Rattle.lv_versions.specs.Versions.{Applies, HaveOrders, Precedes, lost, new_version, state_at}
+use Rattle.lv_versions.specs.Versions.{Applies, HaveOrders, Precedes, lost, new_version, soonest_after, state_at}
 use Rattle.lv_versions.proofs.Cleaning.{all_at_most}
 use Rattle.lv_versions.proofs.Committed.{after_before, after_ends, after_is, after_state, after_versions, all_earlier, are_new}
 use Rattle.lv_versions.proofs.versions.Versions.commit.Goals as goal
@@ -63,4 +63,6 @@ returns c =
       def = ap (λ v. v.def) c.self.view_is;
       floor = ap (λ v. v.floor) c.self.view_is;
       room = omega (arith, c.change.ensures.room, ap (λ v. v.spare) c.self.view_is);
+      indexes = ap (λ v. v.indexes) c.self.view_is;
+      soonest = c.soonest_after-soonest.ensures ∙ ap (λ v. soonest_after v.soonest c.args.number c.args.net.minus) c.self.view_is;
     }
