@@ -1,6 +1,6 @@
 -- What is known of the bytes of a token of each kind.
-use Rattle.std.proofs.Common.{◌≡◌, ℕ, zero, suc, ◌+◌, ◌-◌, ◌*◌, ◌^◌, ◌≤◌, ◌<◌, Bool, true, false, cond, List, [], ◌∷◌, length, get_or, take, drop, slice_range, refl, sym, ap, ◌∙◌, subst, arith, inl, inr, eqb-true, length-drop}
-use Rattle.std.specs.List.{prefix_len}
+use Rattle.std.proofs.Common.{◌≡◌, ℕ, zero, suc, ◌+◌, ◌-◌, ◌*◌, ◌^◌, ◌≤◌, ◌<◌, Bool, true, false, cond, List, [], ◌∷◌, length, get_or, take, drop, slice_range, refl, sym, ap, ap₂, ◌==◌, ◌&&◌, ◌∙◌, subst, arith, inl, inr, eqb-true, length-drop}
+use Rattle.std.specs.List.{list_all, prefix_len}
 use Rattle.std.proofs.lemmas.Bool.{cases_lt, leb-true}
 use Rattle.std.proofs.lemmas.Bool.Decides.{nat_tests}
 use Rattle.std.proofs.lemmas.List.{get_or_past, take_all, length-take-le}
@@ -143,3 +143,13 @@ token_is_utf8 line t known kind u =
     let end = IsCharBoundary-after_ascii line (t.end - 1) u (omega arith) (omega arith) in
     let B : ℕ → Type 0 = λ i. IsCharBoundary line i in
     IsUtf8-between line t.start t.end u (omega arith) (subst B (omega arith) begin) (subst B (omega arith) end)
+
+-- a word of which each byte is itself in lower case is so too
+pub is_in_lower_case : (word : List ℕ) → list_all (λ byte. to_ascii_lowercase byte == byte) word ≡ true → str_to_ascii_lowercase word ≡ word
+is_in_lower_case [] e = refl
+is_in_lower_case (byte ∷ word) e = by (to_ascii_lowercase byte == byte) refl e (is_in_lower_case word)
+  where
+    by : (b : Bool) → (to_ascii_lowercase byte == byte) ≡ b → (b && list_all (λ byte. to_ascii_lowercase byte == byte) word) ≡ true
+        → (list_all (λ byte. to_ascii_lowercase byte == byte) word ≡ true → str_to_ascii_lowercase word ≡ word) → (to_ascii_lowercase byte ∷ str_to_ascii_lowercase word) ≡ byte ∷ word
+    by true q more rest = ap₂ (λ x xs. x ∷ xs) (eqb-true (to_ascii_lowercase byte) byte q) (rest more)
+    by false q more rest = cc

@@ -1,6 +1,8 @@
 //! What a token says.
 
-ghost use Rattle.std.specs.Prelude.{◌≡◌, ◌+◌, ◌-◌, ◌<◌, ◌≤◌, ◌^◌, ◌==◌, ◌&&◌, length, slice_index, map, All, IfOk, IsUtf8};
+ghost use Rattle.std.specs.Prelude.{◌≡◌, ◌+◌, ◌-◌, ◌<◌, ◌≤◌, ◌^◌, ◌==◌, ◌&&◌, [], length, slice_index, map, All, IfOk, IsUtf8};
+ghost use Rattle.std.specs.List.{list_all};
+ghost use Rattle.std.specs.Char.{to_ascii_lowercase};
 ghost use Rattle.std.specs.Str.{str_to_ascii_lowercase};
 ghost use Rattle.std.specs.Str.Parse.{digits_value};
 ghost use Rattle.lv_lexer.specs.declared.token.TokenKind.TheVariants as sort;
@@ -64,11 +66,28 @@ fn unquote(alloc: Global, bytes: &[u8]) -> Result<Text, NoMemory>
     as_text(alloc, inside.as_slice())
 }
 
+/// Whether a byte is itself in lower case.
+fn stays(byte: u8) -> bool
+    ensures { result ≡ (to_ascii_lowercase byte == byte) }
+{
+    byte.to_ascii_lowercase() == byte
+}
+
+/// Whether a word is itself in lower case.
+fn is_lower(word: &[u8]) -> bool
+    ensures { result ≡ list_all (λ byte. to_ascii_lowercase byte == byte) word.now }
+{
+    word.iter().all(|byte| stays(*byte))
+}
+
 /// The word in lower case.
 fn lower(alloc: Global, word: &[u8]) -> Result<Text, NoMemory>
     requires { Spells word.now sort.Word }
     ensures { IfOk result (λ text. text ≡ str_to_ascii_lowercase word.now) }
 {
+    if is_lower(word) {
+        return as_text(alloc, word);
+    }
     let lowered = word.to_ascii_lowercase(alloc)?;
     as_text(alloc, lowered.as_slice())
 }
@@ -160,13 +179,20 @@ pub fn read_token(alloc: Global, line: &Text, token: &Token) -> Result<Terminal,
     read_bytes(alloc, bytes, token.kind, token.start + 1)
 }
 
+/// No terminal, with room for so many.
+fn no_terminals(alloc: Global, room: usize) -> Result<Terminals, NoMemory>
+    ensures { IfOk result (λ list. list ≡ []) }
+{
+    Ok(Terminals::from_vec(Vec::with_capacity(alloc, room)?))
+}
+
 /// What the tokens of the line say, in their order. Cost: linear in the line.
 pub fn read_tokens(alloc: Global, line: &Text, tokens: &[Token]) -> Result<Terminals, NoMemory>
     requires { All (IsTokenOf line.now) tokens.now }
     ensures said { IfOk result (λ ts. ts ≡ map (terminal_of line.now) tokens.now) }
     ensures small { IfOk result (All (λ t. t.number < 10 ^ 38)) }
 {
-    let mut terminals = Terminals::new(alloc);
+    let mut terminals = no_terminals(alloc, tokens.len())?;
     for token in tokens {
         terminals.push(read_token(alloc, line, token)?)?;
     }
