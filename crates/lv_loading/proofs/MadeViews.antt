@@ -1,7 +1,7 @@
 -- Views over the states at their points.
 use Rattle.std.proofs.Common.{◌≡◌, ℕ, ◌+◌, ◌<◌, ◌≤◌, ◌⊎◌, inl, inr, true, List, [], ◌∷◌, ◌++◌, map, length, sym, ap, ◌∙◌, subst, arith}
-use Rattle.std.specs.Prelude.{slice_index, slice_index_or}
-use Rattle.std.specs.List.{AllByRecursion}
+use Rattle.std.specs.Prelude.{nat_lt, slice_index, slice_index_or}
+use Rattle.std.specs.List.{AllByRecursion, list_all}
 use Rattle.std.proofs.Math.ListN.{get_or-map}
 use Rattle.std.proofs.Math.Path.{subst₂}
 use Rattle.std.proofs.lemmas.List.{get_or_append_left, get_or_push, length-map, length_push}
@@ -17,6 +17,7 @@ use Rattle.lv_schema.specs.JoinViews.{parts_of}
 use Rattle.lv_schema.specs.Once.{Ascends}
 use Rattle.lv_schema.specs.SignedRows.{entries_of}
 use Rattle.lv_schema.specs.World.{World, last, point, snap, view_at}
+use Rattle.lv_schema.proofs.Apart.{all_weaker}
 use Rattle.lv_schema.proofs.Applies.{groups_counted, selected_few}
 use Rattle.lv_schema.proofs.NetsLead.{passes}
 use Rattle.lv_schema.proofs.ViewRows.{view_rows_ascend}
@@ -29,6 +30,10 @@ use Rattle.lv_stands.specs.Moves.{versions_made}
 use Rattle.lv_stands.specs.Stands.{StandsFor}
 use Rattle.lv_stands.proofs.Statements.{point_within}
 use Rattle.lv_stands.proofs.ViewGroups.{groups_lead, groups_netted}
+use Rattle.lv_base.specs.Bases.{BaseRoom, IsReindexed, KeepsIndexes, kept_of}
+use Rattle.lv_base.proofs.Reindexed.{same_kept}
+use Rattle.lv_near.specs.Orders.{HasBothIndexes, HasLinkIndexes}
+use Rattle.lv_near.proofs.LinkIndexes.{both_stay}
 use Rattle.lv_made.specs.Views.{parts_at}
 use Rattle.lv_made.proofs.Shown.{parts_shown}
 use Rattle.lv_loading.specs.declared.loaded.Loaded.{Loaded}
@@ -36,8 +41,20 @@ use Rattle.lv_loading.specs.declared.parts.Parts.{Parts}
 use Rattle.lv_loading.specs.Loads.{LoadingStands, no_rows, loaded_kept}
 use Rattle.lv_loading.specs.Loads as loads
 use Rattle.lv_loading.specs.Making.{AreMade, IsMadeAt}
-use Rattle.lv_loading.specs.Taking.{kept_in}
+use Rattle.lv_loading.specs.Taking.{IsWhole, kept_in}
 use Rattle.lv_loading.proofs.Standing.{made_at, stands_with}
+
+-- parts with other indexes keep the same
+pub same_parts : (old new : Parts) → new ≡ record old { base = new.base } → IsReindexed old.base new.base → kept_in new ≡ kept_in old
+same_parts old new same reindexed = ap kept_in same ∙ ap (λ (b : stands.BaseKept). record (kept_in old) { base = b }) (same_kept old.base new.base reindexed)
+
+-- and stand for the same worlds
+pub whole_still : (old new : Parts) → new ≡ record old { base = new.base } → IsReindexed old.base new.base → IsWhole old → IsWhole new
+whole_still old new same reindexed whole = (whole.0, subst (LoadingStands whole.0) (sym (same_parts old new same reindexed)) whole.1)
+
+-- a view keeps the indexes of its links
+pub links_stay : (old new : BaseRoom) → KeepsIndexes old new → (def : ViewDef) → HasLinkIndexes old def → HasLinkIndexes new def
+links_stay old new kept def h = all_weaker (HasBothIndexes old def.tables _) (HasBothIndexes new def.tables _) (both_stay old new kept def.tables _) _ h
 
 module _ (p : Parts) (w : World) (is : LoadingStands w (kept_in p)) where
   module _ (v : ℕ) (lt : v < length p.schema.views) where
@@ -55,6 +72,12 @@ module _ (p : Parts) (w : World) (is : LoadingStands w (kept_in p)) where
 
     abbrev db : Db
     db = snap w.visible (point w.upkeep v)
+
+    -- its tables are in use
+    pub tables_there : list_all (λ t. nat_lt t (length p.base.tables)) (view_at p.schema.views v).tables ≡ true
+    tables_there =
+        subst₂ (λ (n : ℕ) (d : ViewDef). list_all (λ t. nat_lt t n) d.tables ≡ true) (sym (sym (length-map p.base.tables kept_of) ∙ is.base_stands.all)) (sym same_view)
+        (is.steady.sound.schema.each_view v there).in_use
 
     fits : IsDatabase w.visible.tables db
     fits = is.steady.sound.fits (point w.upkeep v) within

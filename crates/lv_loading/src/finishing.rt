@@ -1,6 +1,7 @@
 //! The rows of all views, once the records are taken.
-ghost use Rattle.std.specs.Prelude.{◌≡◌, ◌<◌, ◌≤◌, length, IfOk};
-ghost use Rattle.lv_loading.specs.Making.{AreMade, IsMadeAt};
+ghost use Rattle.std.specs.Prelude.{◌≡◌, ◌<◌, ◌≤◌, length, IfOk, OnOk};
+ghost use Rattle.lv_base.specs.Bases.{IsReindexed, KeepsIndexes};
+ghost use Rattle.lv_loading.specs.Making.{AreMade, HaveLinkIndexes, IsMadeAt};
 ghost use Rattle.lv_loading.specs.Taking.{IsWhole};
 
 use crate::parts::Parts;
@@ -31,11 +32,14 @@ impl Parts {
         made_view(alloc, copied, commit, parts.as_slice())
     }
 
-    /// Adds the indexes in which steps of the views look rows up. What is kept does not change, also for want of memory.
+    /// Adds the indexes in which steps of the views look rows up. All else does not change, also for want of memory.
     /// Cost: for each that is new a binary search and a move of small numbers for each version.
     pub(crate) fn index_all(&mut self, alloc: Global) -> Result<(), NoMemory>
         requires whole { IsWhole self.old }
-        ensures { self.new ≡ self.old }
+        ensures same { self.new ≡ record self.old { base = self.new.base } }
+        ensures reindexed { IsReindexed self.old.base self.new.base }
+        ensures kept { KeepsIndexes self.old.base self.new.base }
+        ensures there { OnOk result (HaveLinkIndexes self.new.base self.new.schema.views (length self.new.schema.views)) }
     {
         for view in 0..self.schema.views() {
             index_links(alloc, &mut self.base, self.schema.view(view))?;

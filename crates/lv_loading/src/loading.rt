@@ -1,11 +1,12 @@
 //! The records of a journal, one after another.
-ghost use Rattle.std.specs.Prelude.{◌≡◌, ◌++◌, ◌∷◌, [], true, List, Ok, IfOk};
+ghost use Rattle.std.specs.Prelude.{◌≡◌, ◌++◌, ◌∷◌, [], true, List, length, Ok, IfOk};
 ghost use Rattle.lv_schema.specs.declared.rec.Rec.{Rec as SomeRec};
 ghost use Rattle.lv_record.specs.Kept.{IsKept};
 ghost use Rattle.lv_replay.specs.Applies.{applies};
 ghost use Rattle.lv_replay.specs.Replayed.{state_of};
 ghost use Rattle.lv_stands.specs.Stands.{StandsFor};
 ghost use Rattle.lv_loading.specs.Loads.{KnowViews, Loads, loaded_kept};
+ghost use Rattle.lv_loading.specs.Making.{HaveLinkIndexes};
 
 use crate::loaded::Loaded;
 use crate::parts::Parts;
@@ -73,6 +74,7 @@ impl Loading {
     pub fn finish<L: Ledger>(self, alloc: Global, steps: &mut Steps<L>) -> Result<Loaded, NoMemory>
         ensures stands { (recs : List SomeRec) → Loads recs self → IfOk result (λ l. StandsFor (state_of recs) (loaded_kept (state_of recs).upkeep.journal l)) }
         ensures defs { IfOk result KnowViews }
+        ensures indexes { IfOk result (λ l. HaveLinkIndexes l.base l.schema.views (length l.schema.views)) }
     {
         let Loading { mut parts } = self;
         parts.index_all(alloc)?;

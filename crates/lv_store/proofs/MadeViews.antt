@@ -24,12 +24,14 @@ use Rattle.lv_schema.proofs.SteadySteps.{view_made_steady}
 use Rattle.lv_overlay.specs.Puts.{StandUnder}
 use Rattle.lv_txn.specs.Kept.{TransactionKept, live_kept, transaction_of}
 use Rattle.lv_viewrows.specs.Kept as viewrows
-use Rattle.lv_stands.specs.Kept.{EngineKept, ViewKept}
+use Rattle.lv_stands.specs.Kept.{BaseKept, EngineKept, ViewKept}
 use Rattle.lv_stands.specs.Moves.{engine_with_view, view_made_kept}
 use Rattle.lv_stands.specs.Stands.{StandsFor}
 use Rattle.lv_stands.proofs.Cleans.{live_kept_is}
 use Rattle.lv_stands.proofs.Whole.{lengths_are}
 use Rattle.lv_upkeep.specs.Moves.{upkeep_with_view}
+use Rattle.lv_base.specs.Bases.{BaseRoom, IsReindexed}
+use Rattle.lv_base.proofs.Reindexed.{same_kept}
 use Rattle.lv_made.specs.Views.{IsMadeView, parts_at}
 use Rattle.lv_store.specs.declared.store.Store.{Store}
 use Rattle.lv_store.specs.declared.settings.Settings.{Settings}
@@ -56,6 +58,10 @@ module _ (p q : Store) (whole : IsStore p) (tables : q.schema.tables ≡ p.schem
   used_still : (session : ℕ) → list_all (is_used q.schema.tables) (transaction_of q.txns session).puts ≡ true
   used_still session = subst₂ (λ (ts : List TableDef) (ks : List (Option TransactionKept)). list_all (is_used ts) (transaction_of ks session).puts ≡ true) (sym tables) (sym sessions) (whole.used session)
 
+-- parts with other indexes keep the same
+pub same_store : (p : Store) (base : BaseRoom) → IsReindexed p.base base → store_of (record p { base = base }) ≡ store_of p
+same_store p base reindexed = ap (λ (b : BaseKept). record (store_of p) { base = b }) (same_kept p.base base reindexed)
+
 -- parts that keep the same
 pub same_whole : (p q : Store) → store_of q ≡ store_of p → q.rows.list ≡ p.rows.list → IsStore p → IsStore q
 same_whole p q same rows whole =
@@ -69,6 +75,9 @@ same_whole p q same rows whole =
       under = under_still p q whole tables sessions;
       used = used_still p q whole tables sessions;
     }
+
+pub same_indexed : (p : Store) (base : BaseRoom) → IsReindexed p.base base → IsStore p → IsStore (record p { base = base })
+same_indexed p base reindexed whole = same_whole p (record p { base = base }) (same_store p base reindexed) refl whole
 
 -- ---- parts with one view more
 -- what is kept with one view more, whose rows are these

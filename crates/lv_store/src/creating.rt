@@ -6,7 +6,9 @@ ghost use Rattle.lv_schema.specs.Cases as cases;
 ghost use Rattle.lv_schema.specs.Records.{table_record, view_record};
 ghost use Rattle.lv_schema.specs.World.{World};
 ghost use Rattle.lv_txn.specs.Kept.{live_kept};
+ghost use Rattle.lv_base.specs.Bases.{KeepsIndexes};
 ghost use Rattle.lv_made.specs.Views.{IsMadeView, parts_at};
+ghost use Rattle.lv_near.specs.Orders.{HasLinkIndexes};
 ghost use Rattle.lv_store.specs.Answering.{wrote};
 ghost use Rattle.lv_store.specs.MadeViews.{HasRoom, IsReadyTable, IsReadyView, with_view};
 ghost use Rattle.lv_store.specs.Kept.{IsStore, Stands, store_of};
@@ -97,6 +99,7 @@ impl Store {
         ensures store { store_of self.new ≡ store_of self.old }
         ensures rows { self.new.rows.list ≡ self.old.rows.list }
         ensures room { OnOk result (HasRoom name.now self.new) }
+        ensures base { self.new.base ≡ self.old.base }
     {
         self.upkeep.reserve_view()?;
         self.rows.reserve(1)?;
@@ -133,6 +136,8 @@ impl Store {
         ensures bound { IfOk result (λ ready. IsBoundView (store_of self.new).tables (store_of self.new).views ready.def) }
         ensures ready { IfOk result (IsReadyView self.new) }
         ensures whole { IsStore self.new }
+        ensures indexes { OnOk result (HasLinkIndexes self.new.base def) }
+        ensures indexes_stay { KeepsIndexes self.old.base self.new.base }
     {
         let def = created_at(def, self.base.last());
         index_links(alloc, &mut self.base, &def)?;
