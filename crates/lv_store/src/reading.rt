@@ -1,5 +1,5 @@
 //! The rows that a query reads, where differences of its views are pending.
-ghost use Rattle.std.specs.Prelude.{◌≡◌, ◌≢◌, ◌<◌, ◌∷◌, ℕ, List, [], true, false, filter, length, map, not, slice_get, IfOk, MatchOption, Some};
+ghost use Rattle.std.specs.Prelude.{◌≡◌, ◌≢◌, ◌<◌, ◌∷◌, ℕ, List, [], true, false, filter, length, map, not, slice_get, IfOk, MatchOption, Some, is_some};
 ghost use Rattle.std.specs.List.{list_all};
 ghost use Rattle.lv_schema.specs.declared.query.Rel.{Rel as ARel};
 ghost use Rattle.lv_schema.specs.Effects.{matching};
@@ -10,7 +10,7 @@ ghost use Rattle.lv_txn.specs.Kept.{IsLive};
 ghost use Rattle.lv_schema.specs.Truth.{holds};
 ghost use Rattle.lv_viewrows.specs.Beginning.{AllBegin};
 ghost use Rattle.lv_viewrows.specs.Kept.{ViewKept};
-ghost use Rattle.lv_store.specs.Querying.{has_written, reads_kept, rel_rows_in, view_rows_in};
+ghost use Rattle.lv_store.specs.Querying.{has_written, reads_kept, rel_rows_in, says_first, view_rows_in};
 ghost use Rattle.lv_store.specs.Pending.{AllTake, CanRead};
 ghost use Rattle.lv_store.specs.Kept.{IsStore};
 
@@ -39,7 +39,8 @@ impl Store {
     /// says so. Cost: a look at each item of the view, and a pass over the condition.
     fn first_value(&self, alloc: Global, view: u32, cond: &Cond) -> Result<Option<Value>, NoMemory>
         requires { view < length self.now.rows.list }
-        ensures { (kept : ViewKept) → slice_get self.now.rows.list view ≡ Some kept → IfOk result (λ found. MatchOption found (Unit {0}) (AllBegin kept.def (λ row. holds cond.now (row ∷ [])))) }
+        ensures found { (kept : ViewKept) → slice_get self.now.rows.list view ≡ Some kept → IfOk result (λ found. is_some found ≡ says_first kept.def cond.now) }
+        ensures begins { (kept : ViewKept) → slice_get self.now.rows.list view ≡ Some kept → IfOk result (λ found. MatchOption found (Unit {0}) (AllBegin kept.def (λ row. holds cond.now (row ∷ [])))) }
     {
         match self.rows.get(view as usize).first_column() {
             Some(column) => fixed_value(alloc, column, cond),
