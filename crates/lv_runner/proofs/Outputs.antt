@@ -36,7 +36,7 @@ use Rattle.lv_runner.specs.Output.{AreInOrder, begin_state, end_state, failures_
 use Rattle.lv_runner.specs.Written.{AreFirst, HasPart, HasWritten, HasWrittenPart, is_at_end}
 use Rattle.lv_runner.proofs.Crashes.{CrashLaw, leaves_none}
 use Rattle.lv_runner.proofs.LateRuns.{on_and_on}
-use Rattle.lv_runner.proofs.Worlds.{IsFrom, OneWorldLaw, first_is, from_opened, has_entries, rules_are}
+use Rattle.lv_runner.proofs.Worlds.{IsFrom, first_is, from_opened, has_entries, rules_are}
 
 abbrev pub PlacesLaw : Type 0
 PlacesLaw = (rules : Rules) (w : World) (es : List Entry) → (after rules (begun rules w) es).places ≡ places_after rules.program (events_of rules (begun rules w) es)
@@ -168,7 +168,7 @@ module _ {D : Type 0} (seen : D → Option (List ℕ)) (may_leave : D → List �
 
   -- ---- how a run ends over the engine that it began with
   module _ (w : SaidWords) (told : Option (List ℕ)) (bytes : List ℕ) (p : Program) (count : ℕ) (e : EngineView D) (begun_ : HasBegun seen may_leave moment left_since failures told bytes p count e)
-      (law : OneWorldLaw) (crash_law : CrashLaw) (fresh : IsOpening e) (written0 written1 : Option (List ℕ)) (is_flushed : Bool) (faults0 faults1 : ℕ) where
+      (crash_law : CrashLaw) (fresh : IsOpening e) (written0 written1 : Option (List ℕ)) (is_flushed : Bool) (faults0 faults1 : ℕ) where
     abbrev Over : Status → Option D → Type 0
     Over status back = EndsOver seen may_leave moment left_since failures w told bytes count written0 written1 is_flushed faults0 faults1 status back
 
@@ -178,7 +178,7 @@ module _ {D : Type 0} (seen : D → Option (List ℕ)) (may_leave : D → List �
     -- a core that was just made, and goes on
     later : (old new : CoreView D) → old.program ≡ p → old.settings ≡ settings_in w → old.opened ≡ e → GoesOn old new → IsFrom seen may_leave moment left_since failures w p begun_.recs count new
     later old new program settings opened_ same =
-        from_opened seen may_leave moment left_since failures w told bytes p count e begun_ law crash_law fresh new (same.program ∙ program) (same.settings ∙ settings) (same.opened ∙ opened_)
+        from_opened seen may_leave moment left_since failures w told bytes p count e begun_ crash_law fresh new (same.program ∙ program) (same.settings ∙ settings) (same.opened ∙ opened_)
 
     -- ---- without threads
     module _ (places : PlacesLaw) (answered : AnsweredLaw) (followable : IsFollowable p) (alone : w.threads ≡ false) where

@@ -1,24 +1,19 @@
 -- The world that a run begins in, and the records that its disk tells.
 use Rattle.std.proofs.Common.{◌≡◌, ℕ, ◌+◌, ◌-◌, ◌^◌, ◌≤◌, List, ◌++◌, map, sym, ap, ◌∙◌, subst, arith}
 use Rattle.std.specs.Prelude.{min, true, Option, Some, None, option_map}
-use Rattle.lv_core.specs.Run.{CoreView, IsOpenedBy, IsOpening, IsRun, asked_of, failures_shown, first_state, rules_of, world_of, written_of}
+use Rattle.lv_core.proofs.FromRecords.{world_is}
+use Rattle.lv_core.specs.Run.{CoreView, IsOpening, IsRun, asked_of, failures_shown, first_state, rules_of, world_of, written_of}
 use Rattle.lv_crash.specs.Attempts.{attempts_of}
-use Rattle.lv_engine.specs.Fresh.{IsFresh, world_kept}
-use Rattle.lv_engine.specs.Kept.{EngineView, Stands, length_of}
+use Rattle.lv_engine.specs.Kept.{EngineView}
 use Rattle.lv_engine.specs.Records.{HasRecords}
 use Rattle.lv_journal.proofs.Meaning.{told_in}
 use Rattle.lv_plain.specs.declared.program.Program.{Program}
 use Rattle.lv_plain.specs.Legal.{begun}
 use Rattle.lv_plain.specs.WrittenRecords.{records_of}
 use Rattle.lv_record.specs.Spelling.{spelling}
-use Rattle.lv_recover.specs.Reopened.{IsReopened}
 use Rattle.lv_replay.specs.Applies.{all_apply}
 use Rattle.lv_replay.specs.Replayed as replay
 use Rattle.lv_schema.specs.declared.rec.Rec.{Rec}
-use Rattle.lv_schema.specs.World.{World}
-use Rattle.lv_stands.specs.Kept.{EngineKept}
-use Rattle.lv_stands.specs.Stands.{StandsFor}
-use Rattle.lv_store.specs.Kept.{kept}
 use Rattle.lv_words.specs.declared.words.Words.{Words as SaidWords}
 use Rattle.lv_runner.specs.Begun.{HasBegun}
 use Rattle.lv_runner.specs.Opened.{LeavesRun, TellsRecords}
@@ -26,19 +21,7 @@ use Rattle.lv_runner.specs.Output.{begin_state, run_rules, settings_in}
 use Rattle.lv_runner.specs.Written.{HasEntries, attempts_from, records_from}
 use Rattle.lv_runner.proofs.Crashes.{CrashLaw, leaves_run}
 
--- ---- an engine that is fresh stands for one world
-abbrev pub OneWorldLaw : Type 0
-OneWorldLaw = (w : World) (e : EngineKept) → IsFresh e → StandsFor w e → w ≡ world_kept e
-
-pub one_world : {D : Type 0} (e : EngineView D) (w : World) → OneWorldLaw → IsOpening e → Stands w e → world_of e ≡ w
-one_world e w law fresh stands =
-    sym (law w (kept (length_of e.journal) e.store) fresh (subst (λ n. StandsFor w (kept n e.store)) (sym stands.journal_is) stands.store_stands))
-
 module _ {D : Type 0} (seen : D → Option (List ℕ)) (may_leave : D → List ℕ → Type 0) (moment : D → ℕ) (left_since : D → ℕ → List ℕ → Type 0) (failures : D → ℕ) where
-  -- an engine that was reopened is opened by its records
-  pub opened_from : OneWorldLaw → {told : Option (List ℕ)} (recs : List Rec) (e : EngineView D) → IsOpening e → IsReopened seen may_leave told recs e → IsOpenedBy seen may_leave recs e
-  opened_from law recs e fresh reopened = record { apply = reopened.apply; made = one_world e (replay.state_of recs) law fresh reopened.stands; had = reopened.records }
-
   -- ---- what a run began with
 
   -- a core's run for these words of this program, which began over an engine that these records make, and whose disk has
@@ -88,12 +71,12 @@ module _ {D : Type 0} (seen : D → Option (List ℕ)) (may_leave : D → List �
 
   -- ---- the engine that was opened, and a core that goes on from it
   module _ (w : SaidWords) (told : Option (List ℕ)) (bytes : List ℕ) (p : Program) (count : ℕ) (e : EngineView D) (begun_ : HasBegun seen may_leave moment left_since failures told bytes p count e)
-      (law : OneWorldLaw) (crash_law : CrashLaw) (fresh : IsOpening e) where
+      (crash_law : CrashLaw) (fresh : IsOpening e) where
     pub from_opened : (c : CoreView D) → c.program ≡ p → c.settings ≡ settings_in w → c.opened ≡ e → IsFrom w p begun_.recs count c
     from_opened c program settings opened = record {
       program = program;
       settings = settings;
-      world = ap world_of opened ∙ one_world e (replay.state_of begun_.recs) law fresh begun_.reopened.stands;
+      world = ap world_of opened ∙ sym (world_is e (replay.state_of begun_.recs) fresh begun_.reopened.stands);
       had = subst (λ (o : EngineView D). HasRecords seen may_leave begun_.recs None o.journal) (sym opened) begun_.reopened.records;
       counted = subst (λ (o : EngineView D). count ≤ failures o.journal.disk) (sym opened) begun_.counted;
       apply = begun_.reopened.apply;

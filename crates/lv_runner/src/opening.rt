@@ -20,7 +20,7 @@ use crate::status::Status;
 use crate::threads::run_in_threads;
 use lv_core::Core;
 use lv_crash::what_a_crash_leaves_applies;
-use lv_engine::{Engine, fresh_engines_stand_for_one_world};
+use lv_engine::Engine;
 use lv_journal::JFault;
 use lv_order::{all_is_answered, each_event_may_come, places_after_events};
 use lv_outside::{Disk, Disks, Gate, OpenFault, Sink};
@@ -100,7 +100,6 @@ fn run_alone<K: Sink, D: Disk, L: Ledger>(
     each_event_may_come();
     places_after_events();
     all_is_answered();
-    fresh_engines_stand_for_one_world();
     what_a_crash_leaves_applies();
     let Plan { program, events } = plan;
     match Core::new(alloc, engine, program, picker) {
@@ -132,7 +131,6 @@ fn run_beside<R: Threads + Wait + Sync, K: Sink, D: Disk + Send, G: Gate + Sync,
     ensures ends { EndsFrom D.seen D.may_leave D.moment D.left_since D.failures words.now plan.program engine (K.written sink.old) (K.written sink.new) (K.is_flushed sink.new) (K.faults sink.old) (K.faults sink.new) result.status result.disk }
     ensures later { K.faults sink.old ≤ K.faults sink.new }
 {
-    fresh_engines_stand_for_one_world();
     what_a_crash_leaves_applies();
     let Plan { program, .. } = plan;
     match Core::new(alloc, engine, program, picker) {
@@ -191,7 +189,6 @@ fn run_on<R: Threads + Wait + Sync, K: Sink, D: Disk + Send, G: Gate + Sync, L: 
         → EndsOpened D.seen D.may_leave D.moment D.left_since D.failures words.now told bytes (D.failures disk) (K.written sink.old) (K.written sink.new) (K.is_flushed sink.new) (K.faults sink.old) (K.faults sink.new) result.status result.disk }
     ensures later { K.faults sink.old ≤ K.faults sink.new }
 {
-    fresh_engines_stand_for_one_world();
     let settings = Settings {
         combine: words.combine,
         log_limit: words.log_limit,

@@ -5,7 +5,6 @@ ghost use Rattle.lv_plain.specs.Limits.{IsWithinLimits};
 ghost use Rattle.lv_schema.specs.Policies.{chosen};
 
 use lv_core::Core;
-use lv_engine::fresh_engines_stand_for_one_world;
 use lv_outside::{Disk, MemDisk};
 use lv_picker::{Choice, Picker, place_of_oldest};
 use lv_plain::{Entry, Order, Program, Scripts, Texts};
@@ -98,7 +97,6 @@ fn is_fetched_again_there<L: Ledger>(alloc: Global, blank: Blank) -> Result<bool
     requires parts { blank.parts ≡ L.parts }
     requires some { 0 < blank.parts }
 {
-    fresh_engines_stand_for_one_world();
     let mut steps = Steps::<L>::new(blank);
     let oldest: Choice = Box::new(
         alloc,

@@ -21,7 +21,7 @@ returns-in-Ok-clause-ends g c told bytes count begun =
     let made = c.in-Ok.ensures in
     let events = c.as_slice.result.now in
     let all : events ≡ schedule c.args.plan.program = c.as_slice.ensures ∙ c.requires.plan.events in
-    ends_alone g.D.Disk.seen g.D.Disk.may_leave g.D.Disk.moment g.D.Disk.left_since g.D.Disk.failures c.args.words.now told bytes c.args.plan.program count c.args.engine begun c.fresh_engines_stand_for_one_world.ensures.world c.what_a_crash_leaves_applies.ensures.crash c.requires.fresh
+    ends_alone g.D.Disk.seen g.D.Disk.may_leave g.D.Disk.moment g.D.Disk.left_since g.D.Disk.failures c.args.words.now told bytes c.args.plan.program count c.args.engine begun c.what_a_crash_leaves_applies.ensures.crash c.requires.fresh
     (g.K.Sink.written c.args.sink.now) (g.K.Sink.written c.run_ordered.new.sink) (g.K.Sink.is_flushed c.run_ordered.new.sink) (g.K.Sink.faults c.args.sink.now) (g.K.Sink.faults c.run_ordered.new.sink)
     c.places_after_events.ensures c.all_is_answered.ensures c.requires.plan.followable c.requires.alone c.in-Ok.core.run events c.run_ordered.result.status c.run_ordered.result.disk
     made.program (made.settings ∙ (λ i. settings_of (c.requires.settings i) (c.requires.policy i))) made.opened all c.run_ordered.ensures.ends

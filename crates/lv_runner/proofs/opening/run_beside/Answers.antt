@@ -8,7 +8,7 @@ use Rattle.lv_runner.proofs.opening.run_beside.Goals as goal
 pub returns-in-Ok-clause-ends : goal.returns-in-Ok-clause-ends
 returns-in-Ok-clause-ends g c told bytes count begun =
     let made = c.in-Ok.ensures in
-    ends_beside g.D.Disk.seen g.D.Disk.may_leave g.D.Disk.moment g.D.Disk.left_since g.D.Disk.failures c.args.words.now told bytes c.args.plan.program count c.args.engine begun c.fresh_engines_stand_for_one_world.ensures.world c.what_a_crash_leaves_applies.ensures.crash c.requires.fresh
+    ends_beside g.D.Disk.seen g.D.Disk.may_leave g.D.Disk.moment g.D.Disk.left_since g.D.Disk.failures c.args.words.now told bytes c.args.plan.program count c.args.engine begun c.what_a_crash_leaves_applies.ensures.crash c.requires.fresh
     (g.K.Sink.written c.args.sink.now) (g.K.Sink.written c.run_in_threads.new.sink) (g.K.Sink.is_flushed c.run_in_threads.new.sink) (g.K.Sink.faults c.args.sink.now) (g.K.Sink.faults c.run_in_threads.new.sink)
     c.requires.beside c.requires.apart c.in-Ok.core.run c.run_in_threads.result.status c.run_in_threads.result.disk
     made.program (made.settings ∙ (λ i. settings_of (c.requires.settings i) (c.requires.policy i))) made.opened c.run_in_threads.ensures.ends

@@ -1,15 +1,15 @@
 use Rattle.std.proofs.Common.{List}
+use Rattle.lv_core.proofs.FromRecords.{opened_from}
 use Rattle.lv_core.specs.Run.{IsOpenedBy}
 use Rattle.lv_schema.specs.declared.rec.Rec.{Rec}
 use Rattle.lv_runner.proofs.HandedOut.{ends_unopened, over_opened, reopened_as_told}
-use Rattle.lv_runner.proofs.Worlds.{opened_from}
 use Rattle.lv_runner.proofs.opening.run_on.Goals as goal
 
 pub run_over-requires-clause-records : goal.run_over-requires-clause-records
 run_over-requires-clause-records g c lifetimes outlive =
     let opened = c.in-Ok.ensures.opened in
     let there : (recs : List Rec) × IsOpenedBy g.D.Disk.seen g.D.Disk.may_leave recs c.in-Ok.engine =
-    (opened.0, opened_from g.D.Disk.seen g.D.Disk.may_leave g.D.Disk.moment g.D.Disk.left_since g.D.Disk.failures c.fresh_engines_stand_for_one_world.ensures.world opened.0 c.in-Ok.engine c.in-Ok.ensures.fresh opened.1) in
+    (opened.0, opened_from g.D.Disk.seen g.D.Disk.may_leave opened.0 c.in-Ok.engine c.in-Ok.ensures.fresh opened.1.apply opened.1.stands opened.1.records) in
     there
 
 pub returns-in-Ok-clause-ends : goal.returns-in-Ok-clause-ends

@@ -1,7 +1,7 @@
-use Rattle.lv_trials_core.proofs.Opened.{opened_from}
+use Rattle.lv_core.proofs.FromRecords.{opened_from}
 use Rattle.lv_trials_core.proofs.claims.is_fetched_again_there.Goals as goal
 
 pub new-requires-4-clause-records : goal.new-requires-4-clause-records
 new-requires-4-clause-records g c =
     let opened = c.in-Ok.ensures.opened in
-    (opened.0, opened_from _ _ c.fresh_engines_stand_for_one_world.ensures.world opened.0 c.in-Ok.engine c.in-Ok.ensures.fresh opened.1)
+    (opened.0, opened_from _ _ opened.0 c.in-Ok.engine c.in-Ok.ensures.fresh opened.1.apply opened.1.stands opened.1.records)
