@@ -1,5 +1,5 @@
 //! A run over a core, in threads.
-ghost use Rattle.std.specs.Prelude.{◌≡◌, ◌≤◌};
+ghost use Rattle.std.specs.Prelude.{◌≡◌, ◌≤◌, length};
 ghost use Rattle.lv_runner.specs.Late.{HasThreaded};
 
 use crate::answering::{answer_rest, answer_setup};
@@ -19,7 +19,8 @@ use std::thread::Threads;
 
 /// How many sessions the program has.
 fn sessions_of<D: Disk>(core: &Core<D>) -> u32
-    ensures { result ≤ 16 }
+    ensures many { result ≡ length core.now.run.program.sessions }
+    ensures few { result ≤ 16 }
 {
     core.known();
     core.program().sessions.len() as u32

@@ -75,9 +75,10 @@ fn answer<R: Threads + Wait + Sync, S: Source, K: Sink, O: Disks, G: Gate + Sync
 /// Without `--threads` and `--make` the entries come in the order of the program's schedule, and each is written as one piece,
 /// right after the call that gave it; so where the run ends early, whole entries and perhaps a part of one more are written.
 /// With `--threads` the setup is answered first, then sessions and workers run in threads, in any order, and then what they
-/// left is answered; the text is written at the end. With `--make` the source is left alone, and the summary is written at the end. The disk comes back wherever one
-/// was handed out, with the records of the entries. The pickers are three, of kinds 0, 1 and 2. With `--threads` it waits for
-/// a lock. Cost: linear in the script and the journal, and what each event takes.
+/// left is answered; the text is written at the end. With `--make` the source is left alone, and the summary is written at
+/// the end. The disk comes back wherever one was handed out, with the records of the entries. The pickers are three, of
+/// kinds 0, 1 and 2. With `--threads` it waits for a lock. Cost: linear in the script and the journal, and what each event
+/// takes.
 pub fn run<R: Threads + Wait + Sync, S: Source, K: Sink, O: Disks, G: Gate + Sync>(
     rt: &R,
     alloc: Global,
