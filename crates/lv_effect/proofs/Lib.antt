@@ -1,5 +1,6 @@
 pub mod BoundSums
 pub mod FixedKeys
+pub mod KeptRows
 pub mod KeyedRows
 pub mod MostRows
 pub mod Matching

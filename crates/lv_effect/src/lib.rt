@@ -7,10 +7,12 @@ mod fault;
 mod fixing;
 mod inserting;
 mod laws;
+mod passing;
 mod reading;
 
 pub use changes::effect;
 pub use fault::EffectFault;
 pub use fixing::fixed_value;
 pub use laws::sums_of_a_bound_change_fit;
+pub use passing::KeptBy;
 pub use reading::{merged_rows, rows_to_try};

@@ -13,6 +13,7 @@ ghost use Rattle.lv_effect.specs.Seen.{rows_seen};
 ghost use Rattle.lv_effect.specs.Sums.{SumsFit};
 
 use crate::fixing::fixed_key;
+use crate::passing::KeptBy;
 use lv_overlay::{Overlay, writes_give_own_rows};
 use lv_schema::{Cond, TableDef};
 use lv_values::{Copying, NoMemory, Row, Rows, Steps};
@@ -85,8 +86,37 @@ fn rows_there<L: Ledger>(
 }
 
 /// Rows of a table after commit n with a transaction's own writes over them, of which a condition keeps the same as of
-/// all: the one with a key, where the condition fixes every key column, or else all. Want of memory is the only error.
-/// Cost: that of finding the key in the condition and two binary searches, or else that of `merged_rows`.
+/// all: those that it keeps, where the transaction wrote no row of the table, or else all.
+/// Cost: one pass over the versions, and a copy of each row that the condition keeps; or else that of `merged_rows`.
+fn rows_kept<L: Ledger>(
+    alloc: Global,
+    table: &TableDef,
+    base: &Versions,
+    n: u64,
+    own: &Overlay,
+    cond: &Cond,
+    steps: &mut Steps<L>,
+) -> Result<Rows, NoMemory>
+    requires table { base.now.def ≡ table.now }
+    requires floor { base.now.floor ≤ n }
+    requires own { StandUnder table.now.key table.now.no own.now.list }
+    ensures all { IfOk result (λ tried. matching cond.now tried ≡ matching cond.now (rows_seen table.now base.now.versions n own.now.list)) }
+    ensures sums { (sets : List ASet) → SumsFit sets (rows_seen table.now base.now.versions n own.now.list) → IfOk result (λ tried. SumsFit sets tried) }
+    ensures cost { steps.new ≤ steps.old + length (state_at n base.now.versions) }
+{
+    writes_give_own_rows();
+    if own.count(table.no) == 0 {
+        base.scan_passing(alloc, n, &KeptBy { cond }, steps)
+    } else {
+        merged_rows(alloc, table, base, n, own, steps)
+    }
+}
+
+/// Rows of a table after commit n with a transaction's own writes over them, of which a condition keeps the same as of
+/// all: the one with a key, where the condition fixes every key column, or else those that the condition keeps, where the
+/// transaction wrote no row of the table, or all. Want of memory is the only error.
+/// Cost: that of finding the key in the condition and two binary searches; or else one pass over the versions, and a copy of
+/// each row that the condition keeps; or that of `merged_rows`.
 pub fn rows_to_try<L: Ledger>(
     alloc: Global,
     table: &TableDef,
@@ -107,6 +137,6 @@ pub fn rows_to_try<L: Ledger>(
     writes_give_own_rows();
     match fixed_key(alloc, table.key.as_slice(), cond)? {
         Some(key) => rows_there(alloc, table, base, n, own, &key, steps),
-        None => merged_rows(alloc, table, base, n, own, steps),
+        None => rows_kept(alloc, table, base, n, own, cond, steps),
     }
 }

@@ -15,7 +15,6 @@ mod installing;
 mod joining;
 mod marking;
 mod own;
-mod passing;
 mod pending;
 mod planning;
 mod querying;

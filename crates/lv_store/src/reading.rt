@@ -14,10 +14,9 @@ ghost use Rattle.lv_store.specs.Querying.{has_written, reads_kept, rel_rows_in, 
 ghost use Rattle.lv_store.specs.Pending.{AllTake, CanRead};
 ghost use Rattle.lv_store.specs.Kept.{IsStore};
 
-use crate::passing::KeptBy;
 use crate::pending::{Pending, rows_with};
 use crate::store::Store;
-use lv_effect::fixed_value;
+use lv_effect::{KeptBy, fixed_value};
 use lv_query::answer;
 use lv_schema::{Cond, Query, Rel};
 use lv_values::{Any, Items, NoMemory, Row, Rows, Steps, Test, Value};

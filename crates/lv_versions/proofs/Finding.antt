@@ -7,6 +7,7 @@ use Rattle.std.specs.declared.cmp.Ordering.{Ordering}
 use Rattle.std.specs.declared.cmp.Ordering.TheVariants.{Less, Equal, Greater}
 use Rattle.std.proofs.lemmas.Bool.Decides.{nat_tests}
 use Rattle.std.proofs.lemmas.List.{drop_more}
+use Rattle.std.proofs.lemmas.List.Elements.{filter-append}
 use Rattle.lv_values.specs.declared.value.Value.{Value}
 use Rattle.lv_values.specs.Order.{row_cmp, row_eq}
 use Rattle.lv_values.specs.OrderLaws.{row_total}
@@ -178,6 +179,17 @@ pub shown_step : (n i : ℕ) (rows : List (List Value)) (v : RowVersion) (vs : L
 shown_step n i rows v vs lt e =
     append_assoc rows (state_at n (v ∷ [])) (state_at n (drop (i + 1) vs))
     ∙ ap (λ l. rows ++ l) (state_cons n v (drop (i + 1) vs) ∙ ap (λ x. state_at n (x ∷ drop (i + 1) vs)) (sym (got vs i v v e)) ∙ ap (state_at n) (sym (drop_more vs i v lt)))
+
+pub passing_step : (p : List Value → Bool) (n i : ℕ) (rows : List (List Value)) (v : RowVersion) (vs : List RowVersion) → i < length vs → slice_get vs i ≡ Some v
+    → (rows ++ filter p (state_at n (v ∷ []))) ++ filter p (state_at n (drop (i + 1) vs)) ≡ rows ++ filter p (state_at n (drop i vs))
+passing_step p n i rows v vs lt e =
+    append_assoc rows (filter p (state_at n (v ∷ []))) (filter p (state_at n (drop (i + 1) vs)))
+    ∙ ap (λ l. rows ++ l) (sym (filter-append p (state_at n (v ∷ [])) (state_at n (drop (i + 1) vs))) ∙ ap (filter p) (shown_step n i [] v vs lt e))
+
+-- where nothing is tested all stay
+pub all_pass : {X : Type 0} (xs : List X) → filter (λ _. true) xs ≡ xs
+all_pass [] = refl
+all_pass (x ∷ xs) = ap (λ l. x ∷ l) (all_pass xs)
 
 -- ---- the soonest end
 none_dropped : (soonest floor : ℕ) (u : Option ℕ) → floor < soonest → EndsFrom soonest u → ends_after floor u ≡ true

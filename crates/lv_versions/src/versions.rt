@@ -17,7 +17,7 @@ use crate::rank::rank_of_key;
 use crate::version::{IsUpTo, Reaches, hits, is_at};
 use lv_schema::{Net, Positions, RowVersion, TableDef};
 use lv_shelf::Shelf;
-use lv_values::{Copying, NoMemory, Room, Row, Rows, Steps};
+use lv_values::{Any, Copying, NoMemory, Room, Row, Rows, Steps, Test};
 use std::alloc::Global;
 use std::marker::Model;
 use std::sync::ledger::Ledger;
@@ -111,8 +111,25 @@ impl Versions {
         ensures cost { OnOk result (steps.new ≡ steps.old + length (state_at n self.now.versions)) }
         ensures most { OnErr result (steps.new ≤ steps.old + length (state_at n self.now.versions)) }
     {
-        let versions = &self.versions;
-        rows_at(alloc, n, versions, steps)
+        rows_at(alloc, n, &self.versions, &Any, steps)
+    }
+
+    /// Those rows of `scan` that pass. Cost: one pass over the versions, and a copy of each row that passes; a step is taken
+    /// for each row that is tested.
+    pub fn scan_passing<L: Ledger, T: Test<Row>>(
+        &self,
+        alloc: Global,
+        n: u64,
+        test: &T,
+        steps: &mut Steps<L>,
+    ) -> Result<Rows, NoMemory>
+        requires { self.now.floor ≤ n }
+        ensures rows { IfOk result (λ rows. rows ≡ filter (T.passed test.now) (state_at n self.now.versions)) }
+        ensures keyed { Ascends (key_cmp self.now.def.key) (state_at n self.now.versions) }
+        ensures cost { OnOk result (steps.new ≡ steps.old + length (state_at n self.now.versions)) }
+        ensures most { OnErr result (steps.new ≤ steps.old + length (state_at n self.now.versions)) }
+    {
+        rows_at(alloc, n, &self.versions, test, steps)
     }
 
     /// The rows after commit n that have these values in these columns, in the order of their keys.
@@ -288,39 +305,43 @@ fn drop_ended(
     if floor < last { floor + 1 } else { u64::MAX }
 }
 
-/// Appends a copy of the version's row, and takes one step, if the row is there after commit n.
-fn push_alive<L: Ledger>(
+/// Appends a copy of the version's row, if it passes, and takes one step, if the row is there after commit n.
+fn push_alive<L: Ledger, T: Test<Row>>(
     alloc: Global,
     n: u64,
     version: &RowVersion,
+    test: &T,
     rows: &mut Rows,
     steps: &mut Steps<L>,
 ) -> Result<(), NoMemory>
-    ensures pushed { OnOk result (rows.new ≡ rows.old ++ state_at n (version.now ∷ [])) }
+    ensures pushed { OnOk result (rows.new ≡ rows.old ++ filter (T.passed test.now) (state_at n (version.now ∷ []))) }
     ensures cost { OnOk result (steps.new ≡ steps.old + length (state_at n (version.now ∷ []))) }
     ensures refused { OnErr result (steps.new ≡ steps.old) }
 {
     if is_at(version, n) {
-        rows.push(version.row.copy(alloc)?)?;
+        if test.passes(&version.row) {
+            rows.push(version.row.copy(alloc)?)?;
+        }
         steps.tick();
     }
     Ok(())
 }
 
-/// Copies of the rows after commit n, and one step for each.
-fn rows_at<L: Ledger>(
+/// Copies of the rows after commit n that pass, and one step for each row after it.
+fn rows_at<L: Ledger, T: Test<Row>>(
     alloc: Global,
     n: u64,
     versions: &Shelf<RowVersion>,
+    test: &T,
     steps: &mut Steps<L>,
 ) -> Result<Rows, NoMemory>
-    ensures rows { IfOk result (λ rows. rows ≡ state_at n versions.now.list) }
+    ensures rows { IfOk result (λ rows. rows ≡ filter (T.passed test.now) (state_at n versions.now.list)) }
     ensures cost { OnOk result (steps.new ≡ steps.old + length (state_at n versions.now.list)) }
     ensures most { OnErr result (steps.new ≤ steps.old + length (state_at n versions.now.list)) }
 {
     let mut rows = Rows::new(alloc);
     for at in 0..versions.len() {
-        push_alive(alloc, n, versions.get(at), &mut rows, steps)?;
+        push_alive(alloc, n, versions.get(at), test, &mut rows, steps)?;
     }
     Ok(rows)
 }

@@ -1,7 +1,7 @@
-use Rattle.std.proofs.Common.{◌+◌, ◌++◌, ◌∷◌, [], length, length-append, drop, ap, ◌∙◌, arith}
+use Rattle.std.proofs.Common.{◌+◌, ◌++◌, ◌∷◌, [], length, length-append, drop, filter, ap, ◌∙◌, arith}
 use Rattle.lv_versions.specs.Versions.{state_at}
 use Rattle.lv_shelf.proofs.Cutting.{got_within}
-use Rattle.lv_versions.proofs.Finding.{shown_step}
+use Rattle.lv_versions.proofs.Finding.{passing_step, shown_step}
 use Rattle.lv_versions.proofs.versions.rows_at.Goals as goal
 
 pub loop-at-preserved : goal.loop-at-preserved
@@ -10,9 +10,12 @@ loop-at-preserved g c =
     let i = c.loop-at.at in
     let list = c.args.versions.now.list in
     let v = c.get.result.now in
-    let more = shown_step n i c.loop-at.rows v list (got_within list i v c.get.ensures) c.get.ensures in
-    let long = ap length c.in_ok-push_alive.ensures.pushed ∙ length-append c.loop-at.rows (state_at n (v ∷ [])) in
+    let within = got_within list i v c.get.ensures in
+    let p = g.T.Test.passed c.args.test.now in
+    let more = passing_step p n i c.loop-at.rows v list within c.get.ensures in
+    let shown = ap length (shown_step n i [] v list within c.get.ensures) in
+    let both = length-append (state_at n (v ∷ [])) (state_at n (drop (i + 1) list)) in
     record {
-      rows = ap (λ l. l ++ state_at n (drop (i + 1) list)) c.in_ok-push_alive.ensures.pushed ∙ more ∙ c.loop-at.invariant.rows;
-      cost = omega (arith, c.in_ok-push_alive.ensures.cost, c.loop-at.invariant.cost, long);
+      rows = ap (λ l. l ++ filter p (state_at n (drop (i + 1) list))) c.in_ok-push_alive.ensures.pushed ∙ more ∙ c.loop-at.invariant.rows;
+      cost = omega (arith, c.in_ok-push_alive.ensures.cost, c.loop-at.invariant.cost, shown, both);
     }

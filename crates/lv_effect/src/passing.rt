@@ -7,8 +7,9 @@ use std::slice::from_ref;
 
 /// Passed by the rows that a condition keeps.
 #[derive(Drop)]
-pub(crate) struct KeptBy<'a> {
-    pub(crate) cond: &'a Cond,
+pub struct KeptBy<'a> {
+    /// The condition.
+    pub cond: &'a Cond,
 }
 
 impl<'a> Model for KeptBy<'a> {
