@@ -47,7 +47,7 @@ both_yes Unknown No h = cc
 both_yes Unknown Unknown h = cc
 both_yes Unknown Yes h = cc
 
-all_yes : (parts : List Cond) (tuple : Tuple) → is_yes (all_of (map (λ part. truth part tuple) parts)) ≡ true → list_all (λ part. holds part tuple) parts ≡ true
+pub all_yes : (parts : List Cond) (tuple : Tuple) → is_yes (all_of (map (λ part. truth part tuple) parts)) ≡ true → list_all (λ part. holds part tuple) parts ≡ true
 all_yes [] tuple h = refl
 all_yes (part ∷ parts) tuple h =
     let each = both_yes (truth part tuple) (all_of (map (λ p. truth p tuple) parts)) h in

@@ -1,3 +1,4 @@
+pub mod Bounded
 pub mod BoundSums
 pub mod FixedKeys
 pub mod KeptRows

@@ -1,4 +1,5 @@
 pub mod Answered
+pub mod Bounds
 pub mod FixedKeys
 pub mod Seen
 pub mod Sums

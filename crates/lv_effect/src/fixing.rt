@@ -12,7 +12,7 @@ use lv_values::{Copying, NoMemory, Row, Value};
 use std::alloc::Global;
 
 /// Whether an operand is this column of the table.
-fn is_column(operand: &Operand, column: u8) -> bool
+pub(crate) fn is_column(operand: &Operand, column: u8) -> bool
     ensures is { result ≡ is_column column operand.now }
     ensures value { result ≡ true → (row : List AValue) → operand_value (row ∷ []) operand.now ≡ value_in row column }
 {
@@ -23,7 +23,7 @@ fn is_column(operand: &Operand, column: u8) -> bool
 }
 
 /// Whether an operand is a literal.
-fn is_literal(operand: &Operand) -> bool
+pub(crate) fn is_literal(operand: &Operand) -> bool
     ensures is { result ≡ is_literal operand.now }
     ensures value { result ≡ true → (tuple : Tuple) → operand_value tuple operand.now ≡ literal_value operand.now }
 {
@@ -79,7 +79,7 @@ fn fixed_by(column: u8, cond: &Cond) -> Option<&Operand>
 }
 
 /// The value of a literal.
-fn value_of(alloc: Global, literal: &Operand) -> Result<Value, NoMemory>
+pub(crate) fn value_of(alloc: Global, literal: &Operand) -> Result<Value, NoMemory>
     ensures { IfOk result (λ value. value ≡ literal_value literal.now) }
 {
     match literal {

@@ -1,6 +1,7 @@
 //! What a change does to a table's rows: those of a snapshot with a transaction's own writes over them.
 #![tactic(auto)]
 
+mod bounding;
 mod changes;
 mod effects;
 mod fault;
@@ -10,6 +11,7 @@ mod laws;
 mod passing;
 mod reading;
 
+pub use bounding::{Side, bound_value};
 pub use changes::effect;
 pub use fault::EffectFault;
 pub use fixing::fixed_value;

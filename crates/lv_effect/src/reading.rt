@@ -1,5 +1,5 @@
 //! The rows that a change reads: those of a snapshot with a transaction's own writes over them.
-ghost use Rattle.std.specs.Prelude.{◌≡◌, ◌≤◌, ◌+◌, true, false, length, List, Some, None, IfOk, MatchOption};
+ghost use Rattle.std.specs.Prelude.{◌≡◌, ◌≤◌, ◌+◌, true, false, length, List, Some, None, IfOk, MatchOption, is_some};
 ghost use Rattle.std.specs.Option.{option_to_list};
 ghost use Rattle.lv_values.specs.Rows.{key_cmp};
 ghost use Rattle.lv_schema.specs.Effects.{matching};
@@ -8,10 +8,12 @@ ghost use Rattle.lv_schema.specs.Once.{Ascends};
 ghost use Rattle.lv_schema.specs.declared.change.Set.{Set as ASet};
 ghost use Rattle.lv_overlay.specs.Puts.{StandUnder};
 ghost use Rattle.lv_versions.specs.Versions.{state_at};
+ghost use Rattle.lv_effect.specs.Bounds.{FirstBound, says_first};
 ghost use Rattle.lv_effect.specs.FixedKeys.{says_key};
 ghost use Rattle.lv_effect.specs.Seen.{rows_seen};
 ghost use Rattle.lv_effect.specs.Sums.{SumsFit};
 
+use crate::bounding::{Side, bound_value};
 use crate::fixing::fixed_key;
 use crate::passing::KeptBy;
 use lv_overlay::{Overlay, writes_give_own_rows};
@@ -85,9 +87,32 @@ fn rows_there<L: Ledger>(
     Ok(rows)
 }
 
+/// The first value of a table's key by which a condition bounds it on a side, alone in a row, where the condition says so.
+/// Cost: a pass over the condition.
+fn first_bound(
+    alloc: Global,
+    table: &TableDef,
+    side: Side,
+    cond: &Cond,
+) -> Result<Option<Row>, NoMemory>
+    ensures found { IfOk result (λ found. is_some found ≡ says_first side cond.now table.now.key) }
+    ensures bounds { IfOk result (λ found. MatchOption found (Unit {0}) (FirstBound side cond.now table.now.key)) }
+{
+    let [first, ..] = table.key.as_slice() else {
+        return Ok(None);
+    };
+    let Some(value) = bound_value(alloc, *first, side, cond)? else {
+        return Ok(None);
+    };
+    let mut values = Row::new(alloc);
+    values.push(value)?;
+    Ok(Some(values))
+}
+
 /// Rows of a table after commit n with a transaction's own writes over them, of which a condition keeps the same as of
 /// all: those that it keeps, where the transaction wrote no row of the table, or else all.
-/// Cost: one pass over the versions, and a copy of each row that the condition keeps; or else that of `merged_rows`.
+/// Cost: a pass over the versions, or those between the values by which the condition bounds the first key column, which two
+/// binary searches find, and a copy of each row that the condition keeps; or else that of `merged_rows`.
 fn rows_kept<L: Ledger>(
     alloc: Global,
     table: &TableDef,
@@ -106,7 +131,16 @@ fn rows_kept<L: Ledger>(
 {
     writes_give_own_rows();
     if own.count(table.no) == 0 {
-        base.scan_passing(alloc, n, &KeptBy { cond }, steps)
+        let low = first_bound(alloc, table, Side::Low, cond)?;
+        let high = first_bound(alloc, table, Side::High, cond)?;
+        base.scan_between(
+            alloc,
+            n,
+            low.as_ref(),
+            high.as_ref(),
+            &KeptBy { cond },
+            steps,
+        )
     } else {
         merged_rows(alloc, table, base, n, own, steps)
     }
@@ -115,8 +149,9 @@ fn rows_kept<L: Ledger>(
 /// Rows of a table after commit n with a transaction's own writes over them, of which a condition keeps the same as of
 /// all: the one with a key, where the condition fixes every key column, or else those that the condition keeps, where the
 /// transaction wrote no row of the table, or all. Want of memory is the only error.
-/// Cost: that of finding the key in the condition and two binary searches; or else one pass over the versions, and a copy of
-/// each row that the condition keeps; or that of `merged_rows`.
+/// Cost: that of finding the key in the condition and two binary searches; or else a pass over the versions, or those
+/// between the values by which the condition bounds the first key column, and a copy of each row that the condition keeps; or
+/// that of `merged_rows`.
 pub fn rows_to_try<L: Ledger>(
     alloc: Global,
     table: &TableDef,

@@ -1,3 +1,4 @@
+pub mod Between
 pub mod Standing
 pub mod Ending
 pub mod Bringing

@@ -1,8 +1,8 @@
 -- What a table's versions give after a commit.
-use Rattle.std.specs.Prelude.{◌≡◌, ℕ, min, ◌+◌, ◌<◌, ◌≤◌, ◌-◌, ◌^◌, Bool, true, false, cond, not, ◌&&◌, nat_eq, nat_le, nat_lt, List, [], ◌∷◌, ◌++◌, length, map, filter, slice_get, slice_index_or, Option, Some, None, is_none}
+use Rattle.std.specs.Prelude.{◌≡◌, ℕ, min, ◌+◌, ◌<◌, ◌≤◌, ◌-◌, ◌^◌, Bool, true, false, cond, not, ◌&&◌, nat_eq, nat_le, nat_lt, List, [], ◌∷◌, ◌++◌, length, map, filter, take, slice_get, slice_index_or, Option, Some, None, is_none}
 use Rattle.std.specs.Cmp.Lexicographic.{pointwise}
 use Rattle.std.specs.List.{AllByRecursion, list_any}
-use Rattle.std.specs.Ordering.{nat_cmp, on, then_cmp, is_lt}
+use Rattle.std.specs.Ordering.{nat_cmp, on, then_cmp, is_gt, is_lt}
 use Rattle.std.specs.declared.cmp.Ordering.{Ordering}
 use Rattle.std.specs.declared.cmp.Ordering.TheVariants.{Less, Equal, Greater}
 use Rattle.lv_values.specs.declared.value.Value.{Value}
@@ -205,6 +205,16 @@ reaches positions key n v = reaches_by (row_cmp (values_at positions v.row) key)
 -- whether its values in some columns are below others, or, if these count too, are these
 abbrev pub is_upto : List ℕ → List Value → Bool → RowVersion → Bool
 is_upto columns values themselves v = reaches_by (row_cmp (values_at columns v.row) values) themselves
+
+-- no row that passes has first key values below these
+pub record IsLow (key : List ℕ) (values : List Value) (p : List Value → Bool) : Type 0 where
+  pub fits : length values ≤ length key
+  pub least : (row : List Value) → p row ≡ true → is_lt (row_cmp (values_at (take (length values) key) row) values) ≡ false
+
+-- no row that passes has first key values above these
+pub record IsHigh (key : List ℕ) (values : List Value) (p : List Value → Bool) : Type 0 where
+  pub fits : length values ≤ length key
+  pub most : (row : List Value) → p row ≡ true → is_gt (row_cmp (values_at (take (length values) key) row) values) ≡ false
 
 -- the row of a version that has a key and is there after commit n
 abbrev pub hits : List ℕ → List Value → ℕ → RowVersion → Bool

@@ -1,14 +1,14 @@
 //! A table's row versions.
-ghost use Rattle.std.specs.Prelude.{◌≡◌, ◌+◌, ◌-◌, ◌^◌, ◌<◌, ◌≤◌, ◌++◌, ◌∷◌, [], ℕ, Bool, length, map, filter, Some, None, MatchOption, IfOk, OnOk, OnErr, option_to_list};
+ghost use Rattle.std.specs.Prelude.{◌≡◌, ◌+◌, ◌-◌, ◌^◌, ◌<◌, ◌≤◌, ◌++◌, ◌∷◌, [], ℕ, Bool, length, map, filter, Some, None, MatchOption, IfOk, OnOk, OnErr, option_to_list, drop, take, false, true};
 ghost use Rattle.std.specs.Option.{option_to_list};
 ghost use Rattle.std.specs.List.{AllByRecursion};
 ghost use Rattle.std.specs.List.Sorted.{IsPermutation};
 ghost use Rattle.lv_values.specs.Rows.{key_cmp};
 ghost use Rattle.lv_schema.specs.Nets.{with_net};
 ghost use Rattle.lv_schema.specs.Once.{Ascends};
-ghost use Rattle.lv_shelf.specs.Cuts.{Apart, Falls};
+ghost use Rattle.lv_shelf.specs.Cuts.{Apart, Falls, IsCut};
 ghost use Rattle.lv_shelf.specs.Shelves.{other_at};
-ghost use Rattle.lv_versions.specs.Versions.{Applies, EndsFrom, HaveOrders, IsBy, Precedes, ends_after, is_upto, lost, new_version, row_with, rows_hit, rows_with, soonest_after, soonest_pruned, state_at, with_index};
+ghost use Rattle.lv_versions.specs.Versions.{Applies, EndsFrom, HaveOrders, IsBy, IsHigh, IsLow, Precedes, ends_after, is_upto, lost, new_version, row_with, rows_hit, rows_with, soonest_after, soonest_pruned, state_at, with_index};
 
 use crate::changing::change;
 use crate::dropping::drop_over;
@@ -114,22 +114,30 @@ impl Versions {
         rows_at(alloc, n, &self.versions, &Any, steps)
     }
 
-    /// Those rows of `scan` that pass. Cost: one pass over the versions, and a copy of each row that passes; a step is taken
-    /// for each row that is tested.
-    pub fn scan_passing<L: Ledger, T: Test<Row>>(
+    /// Those rows of `scan` that pass. Where all that pass have first key values no less than some, or no greater than some,
+    /// those may be given. Cost: two binary searches, and one pass over the versions between these values, with a copy of
+    /// each row that passes; a step is taken for each row that is tested.
+    pub fn scan_between<L: Ledger, T: Test<Row>>(
         &self,
         alloc: Global,
         n: u64,
+        low: Option<&Row>,
+        high: Option<&Row>,
         test: &T,
         steps: &mut Steps<L>,
     ) -> Result<Rows, NoMemory>
-        requires { self.now.floor ≤ n }
+        requires floor { self.now.floor ≤ n }
+        requires low { MatchOption low (Unit {0}) (λ values. IsLow self.now.def.key values.now (T.passed test.now)) }
+        requires high { MatchOption high (Unit {0}) (λ values. IsHigh self.now.def.key values.now (T.passed test.now)) }
         ensures rows { IfOk result (λ rows. rows ≡ filter (T.passed test.now) (state_at n self.now.versions)) }
         ensures keyed { Ascends (key_cmp self.now.def.key) (state_at n self.now.versions) }
-        ensures cost { OnOk result (steps.new ≡ steps.old + length (state_at n self.now.versions)) }
-        ensures most { OnErr result (steps.new ≤ steps.old + length (state_at n self.now.versions)) }
+        ensures most { steps.new ≤ steps.old + length (state_at n self.now.versions) }
     {
-        rows_at(alloc, n, &self.versions, test, steps)
+        let positions = self.def.key.as_slice();
+        let versions = &self.versions;
+        let first = place_of_low(positions, low, versions);
+        let end = place_of_high(positions, high, versions);
+        rows_in(alloc, n, versions, first, end, test, steps)
     }
 
     /// The rows after commit n that have these values in these columns, in the order of their keys.
@@ -341,6 +349,72 @@ fn rows_at<L: Ledger, T: Test<Row>>(
 {
     let mut rows = Rows::new(alloc);
     for at in 0..versions.len() {
+        push_alive(alloc, n, versions.get(at), test, &mut rows, steps)?;
+    }
+    Ok(rows)
+}
+
+/// How many versions have first key values that are below these, or, if they count too, are these. Cost: a binary search.
+fn place_of(positions: &[u8], values: &Row, themselves: bool, versions: &Shelf<RowVersion>) -> usize
+    requires stand { Apart (Precedes positions.now) versions.now.list }
+    requires fits { length values.now ≤ length positions.now }
+    ensures within { result ≤ length versions.now.list }
+    ensures cut { IsCut (is_upto (take (length values.now) positions.now) values.now themselves) result versions.now.list }
+{
+    let columns = &positions[..values.len()];
+    let upto = IsUpTo {
+        columns,
+        values,
+        themselves,
+    };
+    versions.cut_near(rank_of_key(values), &upto)
+}
+
+/// How many versions have first key values below these, none where none are given. Cost: a binary search.
+fn place_of_low(positions: &[u8], low: Option<&Row>, versions: &Shelf<RowVersion>) -> usize
+    requires stand { Apart (Precedes positions.now) versions.now.list }
+    requires fits { MatchOption low (Unit {0}) (λ values. length values.now ≤ length positions.now) }
+    ensures within { result ≤ length versions.now.list }
+    ensures cut { MatchOption low.entry (result ≡ 0) (λ values. IsCut (is_upto (take (length values.now) positions.now) values.now false) result versions.now.list) }
+{
+    match low {
+        Some(values) => place_of(positions, values, false, versions),
+        None => 0,
+    }
+}
+
+/// How many versions have first key values no greater than these, all where none are given. Cost: a binary search.
+fn place_of_high(positions: &[u8], high: Option<&Row>, versions: &Shelf<RowVersion>) -> usize
+    requires stand { Apart (Precedes positions.now) versions.now.list }
+    requires fits { MatchOption high (Unit {0}) (λ values. length values.now ≤ length positions.now) }
+    ensures within { result ≤ length versions.now.list }
+    ensures cut { MatchOption high.entry (result ≡ length versions.now.list) (λ values. IsCut (is_upto (take (length values.now) positions.now) values.now true) result versions.now.list) }
+{
+    match high {
+        Some(values) => place_of(positions, values, true, versions),
+        None => versions.len(),
+    }
+}
+
+/// Copies of the rows after commit n that pass, none of which has its version before a place or from another one on, and one
+/// step for each row between.
+fn rows_in<L: Ledger, T: Test<Row>>(
+    alloc: Global,
+    n: u64,
+    versions: &Shelf<RowVersion>,
+    first: usize,
+    end: usize,
+    test: &T,
+    steps: &mut Steps<L>,
+) -> Result<Rows, NoMemory>
+    requires end { end ≤ length versions.now.list }
+    requires before { filter (T.passed test.now) (state_at n (drop first versions.now.list)) ≡ filter (T.passed test.now) (state_at n versions.now.list) }
+    requires behind { (at : ℕ) → end ≤ at → filter (T.passed test.now) (state_at n (drop at versions.now.list)) ≡ [] }
+    ensures rows { IfOk result (λ rows. rows ≡ filter (T.passed test.now) (state_at n versions.now.list)) }
+    ensures most { steps.new ≤ steps.old + length (state_at n versions.now.list) }
+{
+    let mut rows = Rows::new(alloc);
+    for at in first..end {
         push_alive(alloc, n, versions.get(at), test, &mut rows, steps)?;
     }
     Ok(rows)

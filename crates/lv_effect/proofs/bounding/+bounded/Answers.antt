@@ -1,0 +1,22 @@
+use Rattle.std.proofs.Common.{sym, ap, ◌∙◌}
+use Rattle.std.specs.List.{list_any}
+use Rattle.lv_effect.specs.Bounds.{says_bound}
+use Rattle.lv_effect.proofs.Bounded.{all_cmp_bounds, all_parts_bound, says-And}
+use Rattle.lv_effect.proofs.bounding.+bounded.Goals as goal
+
+pub bounded_by-returns-in-Cmp-clause-bounds : goal.bounded_by-returns-in-Cmp-clause-bounds
+bounded_by-returns-in-Cmp-clause-bounds t c =
+    all_cmp_bounds c.args.side c.args.column c.in-Cmp.op c.in-Cmp.left c.in-Cmp.right c.args.cond.now c.bounded_with.result c.in-Cmp.is c.bounded_with.ensures.bounds
+
+pub bounded_by-returns-in-And-clause-bounds : goal.bounded_by-returns-in-And-clause-bounds
+bounded_by-returns-in-And-clause-bounds t c =
+    all_parts_bound c.args.side c.args.column c.as_slice.result.now c.in-And.parts c.args.cond.now c.bounded_by_parts.result c.as_slice.ensures c.in-And.is c.bounded_by_parts.ensures.bounds
+
+pub bounded_by-returns-in-And-clause-found : goal.bounded_by-returns-in-And-clause-found
+bounded_by-returns-in-And-clause-found t c =
+    let column = c.args.column in
+    let side = c.args.side in
+    c.bounded_by_parts.ensures.found
+    ∙ ap (list_any (λ part. says_bound side part column)) c.as_slice.ensures
+    ∙ sym (says-And side column c.in-And.parts)
+    ∙ ap (λ cond. says_bound side cond column) (sym c.in-And.is)
