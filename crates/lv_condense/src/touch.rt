@@ -33,10 +33,12 @@ impl<'a> Model for Touch<'a> {
 fn compare_at(at: u8, a: &Row, other: u8, b: &Row) -> Ordering
     ensures { result ≡ value_cmp (value_in a.now at) (value_in b.now other) }
 {
-    let zero = Value::Num(0);
-    let left = a.as_slice().get(at as usize).unwrap_or(&zero);
-    let right = b.as_slice().get(other as usize).unwrap_or(&zero);
-    left.cmp(right)
+    match (a.as_slice().get(at as usize), b.as_slice().get(other as usize)) {
+        (Some(left), Some(right)) => left.cmp(right),
+        (Some(left), None) => left.cmp(&Value::Num(0)),
+        (None, Some(right)) => Value::Num(0).cmp(right),
+        (None, None) => Ordering::Equal,
+    }
 }
 
 /// Compares the values of two rows, each at positions of its own. Cost: at most the shorter key's values.

@@ -91,15 +91,19 @@ pub(crate) fn item_at<'a, T>(slots: &'a [Option<T>], places: &RankedPlaces, at: 
 }
 
 /// How many of the elements in some slots pass a test that no later one passes where an earlier one fails.
-/// Cost: a binary search.
+/// Cost: a look at the last one, and where it fails a binary search.
 pub(crate) fn cut_at<T, P: Test<T>>(test: &P, slots: &[Option<T>], places: &RankedPlaces) -> usize
     requires held { AllByRecursion (IsHeld slots.now) places.now.list }
     requires falls { Falls (P.passed test.now) (items_at slots.now places.now.list) }
     ensures within { result ≤ length places.now.list }
     ensures cut { IsCut (P.passed test.now) result (items_at slots.now places.now.list) }
 {
+    let len = places.len();
+    if is_cut_at(test, slots, places, len) {
+        return len;
+    }
     let mut low = 0;
-    let mut high = places.len();
+    let mut high = len;
     while low < high {
         let middle = low + (high - low) / 2;
         if test.passes(item_at(slots, places, middle)) {
