@@ -110,9 +110,9 @@ fn first_bound(
 }
 
 /// Rows of a table after commit n with a transaction's own writes over them, of which a condition keeps the same as of
-/// all: those that it keeps, where the transaction wrote no row of the table, or else all.
+/// all: those below that it keeps, with the writes over them.
 /// Cost: a pass over the versions, or those between the values by which the condition bounds the first key column, which two
-/// binary searches find, and a copy of each row that the condition keeps; or else that of `merged_rows`.
+/// binary searches find, a copy of each row that the condition keeps, and a pass over these and the writes of the table.
 fn rows_kept<L: Ledger>(
     alloc: Global,
     table: &TableDef,
@@ -130,28 +130,25 @@ fn rows_kept<L: Ledger>(
     ensures cost { steps.new ≤ steps.old + length (state_at n base.now.versions) }
 {
     writes_give_own_rows();
-    if own.count(table.no) == 0 {
-        let low = first_bound(alloc, table, Side::Low, cond)?;
-        let high = first_bound(alloc, table, Side::High, cond)?;
-        base.scan_between(
-            alloc,
-            n,
-            low.as_ref(),
-            high.as_ref(),
-            &KeptBy { cond },
-            steps,
-        )
-    } else {
-        merged_rows(alloc, table, base, n, own, steps)
-    }
+    let low = first_bound(alloc, table, Side::Low, cond)?;
+    let high = first_bound(alloc, table, Side::High, cond)?;
+    let kept = base.scan_between(
+        alloc,
+        n,
+        low.as_ref(),
+        high.as_ref(),
+        &KeptBy { cond },
+        steps,
+    )?;
+    own.merged(alloc, table, kept)
 }
 
 /// Rows of a table after commit n with a transaction's own writes over them, of which a condition keeps the same as of
-/// all: the one with a key, where the condition fixes every key column, or else those that the condition keeps, where the
-/// transaction wrote no row of the table, or all. Want of memory is the only error.
+/// all: the one with a key, where the condition fixes every key column, or else those below that the condition keeps, with
+/// the writes over them. Want of memory is the only error.
 /// Cost: that of finding the key in the condition and two binary searches; or else a pass over the versions, or those
-/// between the values by which the condition bounds the first key column, and a copy of each row that the condition keeps; or
-/// that of `merged_rows`.
+/// between the values by which the condition bounds the first key column, a copy of each row that the condition keeps, and a
+/// pass over these and the writes of the table.
 pub fn rows_to_try<L: Ledger>(
     alloc: Global,
     table: &TableDef,
