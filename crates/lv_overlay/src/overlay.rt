@@ -7,7 +7,7 @@ ghost use Rattle.lv_overlay.specs.declared.put.Put.{Put};
 ghost use Rattle.lv_overlay.specs.Puts.{put_at, put_keys, PutIs};
 ghost use Rattle.lv_overlay.specs.Ordered.{is_before, is_below, is_there, put_cmp};
 
-use crate::put::{Before, Below, Nothing, Put, is_at};
+use crate::put::{Before, Below, Put, is_at};
 use lv_shelf::Shelf;
 use lv_values::{NoMemory, Row};
 use std::alloc::Global;
@@ -50,20 +50,6 @@ impl Overlay {
         ensures kept { self.old.spare ≤ self.new.spare }
     {
         self.writes.reserve(rows)
-    }
-
-    /// How many writes go in without memory.
-    pub fn room(&self) -> u64
-        ensures { result ≡ self.now.spare }
-    {
-        self.writes.spare()
-    }
-
-    /// Forgets the writes, and keeps the room. It takes no memory. Cost: linear in the writes.
-    pub fn clear(&mut self)
-        ensures { self.new.list ≡ [] }
-    {
-        self.writes.keep(&Nothing);
     }
 
     /// How many places are written. They stand in order.

@@ -54,20 +54,6 @@ impl Test<Put> for Below {
     }
 }
 
-/// Tells no write.
-#[derive(Drop)]
-pub(crate) struct Nothing;
-
-impl Test<Put> for Nothing {
-    ghost use Rattle.std.specs.Prelude.{false};
-
-    ghost passed = { λ t q. false };
-
-    fn passes(&self, _put: &Put) -> bool {
-        false
-    }
-}
-
 /// Whether a write is at a place.
 pub(crate) fn is_at(put: &Put, table: u32, key: &Row) -> bool
     ensures { result ≡ same_place (table, key.now) (put_place put.now) }

@@ -183,7 +183,7 @@ impl<T: Drop> Shelf<T> {
     }
 
     /// The number of elements that still go in without memory.
-    pub fn spare(&self) -> u64
+    fn spare(&self) -> u64
         ensures { result ≡ self.now.spare }
     {
         self.free.len() as u64

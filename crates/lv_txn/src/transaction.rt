@@ -1,5 +1,5 @@
 //! One live transaction.
-ghost use Rattle.std.specs.Prelude.{◌≡◌, ◌<◌, [], Bool, true, map, OnErr, OnOk};
+ghost use Rattle.std.specs.Prelude.{◌≡◌, ◌<◌, Bool, true, map, OnErr, OnOk};
 ghost use Rattle.std.specs.List.{list_all};
 ghost use Rattle.lv_overlay.specs.declared.put.Put.{Put};
 ghost use Rattle.lv_txn.specs.Kept.{begun, Changes};
@@ -31,22 +31,16 @@ impl Model for Transaction {
 }
 
 impl Transaction {
-    /// A transaction that begins, with room for own rows of which there are none yet. It takes no memory.
-    pub(crate) fn begun(alloc: Global, snapshot: u64, own: Overlay) -> Transaction
-        requires { own.list ≡ [] }
+    /// A transaction that begins. It takes no memory.
+    pub(crate) fn begun(alloc: Global, snapshot: u64) -> Transaction
         ensures { result ≡ begun snapshot }
     {
         Transaction {
             snapshot,
-            own,
+            own: Overlay::new(alloc),
             actions: Room::new(alloc),
             changes: 0,
         }
-    }
-
-    /// What it had for its own rows.
-    pub(crate) fn into_own(self) -> Overlay {
-        self.own
     }
 
     /// The commit whose state it reads.

@@ -15,32 +15,26 @@ use lv_schema::{Action, Actions, Conflict, Live, Schema};
 use lv_values::{Items, NoMemory};
 use std::alloc::Global;
 use std::marker::Model;
-use std::mem;
 
 /// The setup is session 0, and the others are 1 to 16.
 const SESSIONS: usize = 17;
 
-/// For so many own rows an ended transaction leaves its room to the next one.
-const ROOM_LEFT: u64 = 64;
-
 /// The live transactions, each at the place of its session. There is a place for each of the 17 sessions from the start.
-/// Beside them lies the room for own rows of a transaction that ended, for the next one that begins.
 #[derive(Drop)]
 pub struct Txns {
     alloc: Global,
     sessions: Items<Option<Transaction>>,
-    spare: Overlay,
 }
 
 impl Model for Txns {
-    ghost use Rattle.std.specs.Prelude.{◌≡◌, List, Option, [], length};
+    ghost use Rattle.std.specs.Prelude.{◌≡◌, List, Option, length};
     ghost use Rattle.lv_txn.specs.Kept.{TransactionKept};
 
     ghost Value = { List (Option TransactionKept) };
 
     ghost view = { λ t. t.sessions };
 
-    ghost invariant = { λ t. (length t.sessions ≡ 17) × (t.spare.list ≡ []) };
+    ghost invariant = { λ t. length t.sessions ≡ 17 };
 }
 
 /// A place for each session, with nobody live.
@@ -60,11 +54,7 @@ impl Txns {
         ensures { IfOk result (λ txns. txns ≡ replicate 17 None) }
     {
         let sessions = places(alloc)?;
-        Ok(Txns {
-            alloc,
-            sessions,
-            spare: Overlay::new(alloc),
-        })
+        Ok(Txns { alloc, sessions })
     }
 
     /// Opens a transaction over a snapshot for a session, which has none. It takes no memory. Cost: constant.
@@ -73,8 +63,7 @@ impl Txns {
         requires free { transaction_at self.old session ≡ None }
         ensures { self.new ≡ slice_set self.old session (Some (begun snapshot)) }
     {
-        let own = mem::replace(&mut self.spare, Overlay::new(self.alloc));
-        let transaction = Transaction::begun(self.alloc, snapshot, own);
+        let transaction = Transaction::begun(self.alloc, snapshot);
         self.sessions.set(session as usize, Some(transaction));
     }
 
@@ -84,19 +73,7 @@ impl Txns {
         requires live { IsLive self.old session }
         ensures { self.new ≡ slice_set self.old session None }
     {
-        if let Some(transaction) = self.sessions.replace(session as usize, None) {
-            self.keep_room(transaction.into_own());
-        }
-    }
-
-    /// Keeps the room of a transaction's own rows for the next one, where it is small.
-    fn keep_room(&mut self, mut own: Overlay)
-        ensures { self.new ≡ self.old }
-    {
-        own.clear();
-        if own.room() <= ROOM_LEFT {
-            self.spare = own;
-        }
+        self.sessions.set(session as usize, None);
     }
 
     /// The transaction of a session that is live.
