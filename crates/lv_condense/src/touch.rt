@@ -33,7 +33,10 @@ impl<'a> Model for Touch<'a> {
 fn compare_at(at: u8, a: &Row, other: u8, b: &Row) -> Ordering
     ensures { result ≡ value_cmp (value_in a.now at) (value_in b.now other) }
 {
-    match (a.as_slice().get(at as usize), b.as_slice().get(other as usize)) {
+    match (
+        a.as_slice().get(at as usize),
+        b.as_slice().get(other as usize),
+    ) {
         (Some(left), Some(right)) => left.cmp(right),
         (Some(left), None) => left.cmp(&Value::Num(0)),
         (None, Some(right)) => Value::Num(0).cmp(right),

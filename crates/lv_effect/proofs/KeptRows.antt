@@ -57,7 +57,7 @@ module _ (key : List ℕ) where
           by false f = h k r (ap (λ b. cond b (Some x) (row_at key k rows)) f ∙ e)
 
   module _ (p : ARow → Bool) (t : ℕ) (puts : List Put) (rows : List ARow) (up : Ascends (key_cmp key) rows)
-    (own : AreOwnRows key puts t rows (rows_over key puts t rows)) (few : AreOwnRows key puts t (filter p rows) (rows_over key puts t (filter p rows))) where
+      (own : AreOwnRows key puts t rows (rows_over key puts t rows)) (few : AreOwnRows key puts t (filter p rows) (rows_over key puts t (filter p rows))) where
     over_kept : (w : Option (Option ARow)) (o : Option ARow) → if_kept p (unwrap_or w (if_kept p o)) ≡ if_kept p (unwrap_or w o)
     over_kept (Some row) o = refl
     over_kept None None = refl
@@ -73,9 +73,9 @@ module _ (key : List ℕ) where
         only_table key (filter p (rows_over key puts t (filter p rows))) (filter p (rows_over key puts t rows))
         (ascends_filter (key_cmp key) p (rows_over key puts t (filter p rows)) few.ascend) (ascends_filter (key_cmp key) p (rows_over key puts t rows) own.ascend)
         (λ k. kept_at k p (rows_over key puts t (filter p rows)) few.ascend
-          ∙ ap (if_kept p) (few.each k ∙ ap (unwrap_or (put_at puts (t, k))) (kept_at k p rows up))
-          ∙ over_kept (put_at puts (t, k)) (row_at key k rows)
-          ∙ sym (kept_at k p (rows_over key puts t rows) own.ascend ∙ ap (if_kept p) (own.each k)))
+        ∙ ap (if_kept p) (few.each k ∙ ap (unwrap_or (put_at puts (t, k))) (kept_at k p rows up))
+        ∙ over_kept (put_at puts (t, k)) (row_at key k rows)
+        ∙ sym (kept_at k p (rows_over key puts t rows) own.ascend ∙ ap (if_kept p) (own.each k)))
 
     same_over : (w : Option (Option ARow)) (o : Option ARow) (r : ARow) → unwrap_or w (if_kept p o) ≡ Some r → unwrap_or w o ≡ Some r
     same_over (Some row) o r e = e
@@ -91,4 +91,4 @@ module _ (key : List ℕ) where
     kept_among P all =
         all_keys P (rows_over key puts t (filter p rows)) few.ascend
         (λ k r e. at_key P k (rows_over key puts t rows) r all
-          (own.each k ∙ same_over (put_at puts (t, k)) (row_at key k rows) r (sym (few.each k ∙ ap (unwrap_or (put_at puts (t, k))) (kept_at k p rows up)) ∙ e)))
+        (own.each k ∙ same_over (put_at puts (t, k)) (row_at key k rows) r (sym (few.each k ∙ ap (unwrap_or (put_at puts (t, k))) (kept_at k p rows up)) ∙ e)))
