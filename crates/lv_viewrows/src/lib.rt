@@ -7,9 +7,11 @@ mod laws;
 mod numbers;
 mod reading;
 mod searching;
+mod seek;
 mod version;
 mod viewrows;
 
 pub use laws::groups_with_changes_are_regrouped;
+pub use seek::Seek;
 pub use version::GroupVersion;
 pub use viewrows::ViewRows;

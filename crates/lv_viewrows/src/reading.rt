@@ -13,11 +13,12 @@ ghost use Rattle.lv_viewrows.specs.Standing.{IsCount, Precedes};
 use crate::beginning::places_of;
 use crate::numbers::{has_tuples, with_group};
 use crate::searching::{NEAR, end_below};
+use crate::seek::Seek;
 use crate::version::GroupVersion;
 use lv_group::listed_row;
 use lv_schema::{Signed, SignedRow, ViewDef};
 use lv_shelf::Shelf;
-use lv_values::{Copying, NoMemory, Row, Rows, Test, Value};
+use lv_values::{Copying, NoMemory, Row, Rows, Test};
 use std::alloc::Global;
 use std::cmp::Ordering;
 
@@ -248,26 +249,25 @@ fn rows_in_order<T: Test<Row>>(
     Ok(rows)
 }
 
-/// The rows of the groups that are there at commit n, with changes, that pass, in ascending order. `first` is the value
-/// with which the groups of the rows that pass begin, where there is one. Cost: a pass over the versions that begin with
-/// it, or over all; for each change a search from the one before it and at most 16 comparisons, in all no more than one for each
-/// version, one for each 16 of them and one for each change; of a join view a copy of each row that passes; of a grouped
-/// view a copy of each row and of each change whose group stays, and n log n comparisons of the rows that pass.
-pub(crate) fn rows_passing<T: Test<Row>>(
+/// The rows of the groups that are there at commit n, with changes, that pass, in ascending order. Cost: where the test
+/// names a first value two binary searches, and a pass over the versions that begin with it, or else over all; for each
+/// change a search from the one before it and at most 16 comparisons, in all no more than one for each version, one for
+/// each 16 of them and one for each change; of a join view a copy of each row that passes; of a grouped view a copy of each
+/// row and of each change whose group stays, and n log n comparisons of the rows that pass.
+pub(crate) fn rows_passing<T: Seek>(
     alloc: Global,
     view: &ViewDef,
     test: &T,
     n: u64,
     versions: &Shelf<GroupVersion>,
-    first: Option<&Value>,
     changes: &Signed,
 ) -> Result<Rows, NoMemory>
     requires order { Apart Precedes versions.now.list }
-    requires only { MatchOption first (Unit {0}) (λ v. AllBegin view.now (T.passed test.now) v.now) }
+    requires only { MatchOption (T.first test.now) (Unit {0}) (AllBegin view.now (T.passed test.now)) }
     requires fit { AllByRecursion (AllFitAt n changes.now) versions.now.list }
     ensures { IfOk result (λ rows. rows ≡ filter (T.passed test.now) (rows_listed view.now (merged changes.now (groups_at n versions.now.list)))) }
 {
-    let (from, end) = match first {
+    let (from, end) = match test.first() {
         Some(first) => places_of(first, versions),
         None => (0, versions.len()),
     };

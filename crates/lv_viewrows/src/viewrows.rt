@@ -15,11 +15,12 @@ ghost use Rattle.lv_viewrows.specs.Kept.{groups_at, one_row, rows_listed, shown,
 use crate::beginning::first_column;
 use crate::changing::apply_all;
 use crate::reading::rows_passing;
+use crate::seek::Seek;
 use crate::version::{EndsAfter, GroupVersion};
 use lv_group::Groups;
 use lv_schema::{Signed, SignedRow, Sums, ViewDef};
 use lv_shelf::Shelf;
-use lv_values::{Any, Copying, NoMemory, Row, Rows, Test, Value};
+use lv_values::{Any, Copying, NoMemory, Row, Rows};
 use std::alloc::Global;
 use std::marker::Model;
 
@@ -180,7 +181,7 @@ impl ViewRows {
     pub fn read_at(&self, alloc: Global, n: u64) -> Result<Rows, NoMemory>
         ensures { IfOk result (λ rows. rows ≡ shown n self.now) }
     {
-        self.read_passing(alloc, n, None, &Any)
+        self.read_passing(alloc, n, &Any)
     }
 
     /// The column of its rows by which they are searched, the first one of a join view or that of the first column of
@@ -192,21 +193,15 @@ impl ViewRows {
         first_column(&self.def)
     }
 
-    /// Those rows of `read_at` that pass. `first` is the value with which the groups of all that pass begin, where it is
-    /// known. Cost: that of `read_at`, but a row of a join view that does not pass is not copied, and one of a grouped view
-    /// is let go before the sort; and with `first` two binary searches, and a pass over the versions that begin with it alone.
-    pub fn read_passing<T: Test<Row>>(
-        &self,
-        alloc: Global,
-        n: u64,
-        first: Option<&Value>,
-        test: &T,
-    ) -> Result<Rows, NoMemory>
-        requires { MatchOption first (Unit {0}) (λ v. AllBegin self.now.def (T.passed test.now) v.now) }
+    /// Those rows of `read_at` that pass. Cost: that of `read_at`, but a row of a join view that does not pass is not copied,
+    /// and one of a grouped view is let go before the sort; and where the test names a first value two binary searches, and
+    /// a pass over the versions that begin with it alone.
+    pub fn read_passing<T: Seek>(&self, alloc: Global, n: u64, test: &T) -> Result<Rows, NoMemory>
+        requires { MatchOption (T.first test.now) (Unit {0}) (AllBegin self.now.def (T.passed test.now)) }
         ensures { IfOk result (λ rows. rows ≡ filter (T.passed test.now) (shown n self.now)) }
     {
         let changes = Signed::new(alloc);
-        rows_passing(alloc, &self.def, test, n, &self.versions, first, &changes)
+        rows_passing(alloc, &self.def, test, n, &self.versions, &changes)
     }
 
     /// Makes room for the versions of `rows` rows. What is kept stays as it was, and the room never shrinks.
@@ -227,32 +222,23 @@ impl ViewRows {
         requires { CanInstall self.now hi changes.now }
         ensures { IfOk result (λ rows. rows ≡ rows_listed self.now.def (groups_with changes.now (groups_at self.now.at self.now.versions))) }
     {
-        self.preview_passing(alloc, hi, changes, None, &Any)
+        self.preview_passing(alloc, hi, changes, &Any)
     }
 
     /// Those rows of `preview` that pass. Cost: that of `preview`, with what `read_passing` spares; the changes are all
     /// looked at.
-    pub fn preview_passing<T: Test<Row>>(
+    pub fn preview_passing<T: Seek>(
         &self,
         alloc: Global,
         hi: u64,
         changes: &Signed,
-        first: Option<&Value>,
         test: &T,
     ) -> Result<Rows, NoMemory>
         requires change { CanInstall self.now hi changes.now }
-        requires only { MatchOption first (Unit {0}) (λ v. AllBegin self.now.def (T.passed test.now) v.now) }
+        requires only { MatchOption (T.first test.now) (Unit {0}) (AllBegin self.now.def (T.passed test.now)) }
         ensures { IfOk result (λ rows. rows ≡ filter (T.passed test.now) (rows_listed self.now.def (groups_with changes.now (groups_at self.now.at self.now.versions)))) }
     {
-        rows_passing(
-            alloc,
-            &self.def,
-            test,
-            self.at,
-            &self.versions,
-            first,
-            changes,
-        )
+        rows_passing(alloc, &self.def, test, self.at, &self.versions, changes)
     }
 
     /// Installs a change, whose commits end at `hi`: from there on the rows are those before with it, and below they stay.
