@@ -1,5 +1,6 @@
 -- What a table's versions give after a commit.
 use Rattle.std.specs.Prelude.{◌≡◌, ℕ, min, ◌+◌, ◌<◌, ◌≤◌, ◌-◌, ◌^◌, Bool, true, false, cond, not, ◌&&◌, nat_eq, nat_le, nat_lt, List, [], ◌∷◌, ◌++◌, length, map, filter, take, slice_get, slice_index_or, Option, Some, None, is_none}
+use Rattle.std.specs.Borrow.{Bor}
 use Rattle.std.specs.Cmp.Lexicographic.{pointwise}
 use Rattle.std.specs.List.{AllByRecursion, list_any}
 use Rattle.std.specs.Ordering.{nat_cmp, on, then_cmp, is_gt, is_lt}
@@ -215,6 +216,24 @@ pub record IsLow (key : List ℕ) (values : List Value) (p : List Value → Bool
 pub record IsHigh (key : List ℕ) (values : List Value) (p : List Value → Bool) : Type 0 where
   pub fits : length values ≤ length key
   pub most : (row : List Value) → p row ≡ true → is_gt (row_cmp (values_at (take (length values) key) row) values) ≡ false
+
+-- the values of a bound, where one is given
+abbrev pub given : Option (Bor (List Value)) → Option (List Value)
+given None = None
+given (Some values) = Some values.now
+
+-- whether a row's first key values are not below these, and whether they are not above these, as all are where none are given
+abbrev pub is_from : List ℕ → Option (List Value) → List Value → Bool
+is_from key None row = true
+is_from key (Some low) row = not (is_lt (row_cmp (values_at (take (length low) key) row) low))
+
+abbrev pub is_to : List ℕ → Option (List Value) → List Value → Bool
+is_to key None row = true
+is_to key (Some high) row = not (is_gt (row_cmp (values_at (take (length high) key) row) high))
+
+-- the rows between two bounds, with those on them
+abbrev pub rows_within : List ℕ → Option (List Value) → Option (List Value) → List (List Value) → List (List Value)
+rows_within key low high rows = filter (λ row. is_from key low row && is_to key high row) rows
 
 -- the row of a version that has a key and is there after commit n
 abbrev pub hits : List ℕ → List Value → ℕ → RowVersion → Bool
