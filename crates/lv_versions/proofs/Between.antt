@@ -2,6 +2,7 @@
 use Rattle.std.proofs.Common.{◌≡◌, ℕ, zero, suc, ◌+◌, ◌<◌, ◌≤◌, Bool, true, false, not, cond, List, [], ◌∷◌, drop, take, length, map, filter, Option, Some, None, Result, Ok, Err, Bor, refl, sym, ap, ap₂, ◌∙◌, subst, arith}
 use Rattle.std.specs.Prelude.{◌&&◌, MatchOption, OnErr, OnOk, slice_get}
 use Rattle.std.specs.List.{AllByRecursion}
+use Rattle.std.specs.Option.{option_copied}
 use Rattle.std.specs.Ordering.{is_gt, is_lt, ordering_then}
 use Rattle.std.specs.declared.cmp.Ordering.{Ordering}
 use Rattle.std.specs.declared.cmp.Ordering.TheVariants.{Less, Equal, Greater}
@@ -11,7 +12,7 @@ use Rattle.lv_values.specs.OrderLaws.{row_exact}
 use Rattle.lv_values.specs.Rows.{key_cmp, value_in, values_at}
 use Rattle.lv_schema.specs.declared.version.RowVersion.{RowVersion}
 use Rattle.lv_shelf.specs.Cuts.{Apart, Falls, IsCut}
-use Rattle.lv_versions.specs.Versions.{IsHigh, IsLow, Precedes, given, is_at, is_from, is_to, is_upto, precedes_by, reaches_by, rows_within, state_at}
+use Rattle.lv_versions.specs.Versions.{IsHigh, IsLow, Precedes, is_at, is_from, is_to, is_upto, precedes_by, reaches_by, rows_within, state_at}
 use Rattle.lv_versions.proofs.Standing.{falls_from, less_reaches}
 
 -- ---- versions stand in the order of their first key values
@@ -99,7 +100,7 @@ high_cut : (key : List ℕ) (high : Option (Bor (List Value))) (end : ℕ) (vs :
 high_cut key None end vs is = subst (λ i. IsCut (λ (_ : RowVersion). true) i vs) (sym is) (each_passes vs)
 high_cut key (Some high) end vs cut = cut
 
-not_below : (key : List ℕ) (low : Option (Bor (List Value))) (v : RowVersion) → not (is_below key low v) ≡ is_from key (given low) v.row
+not_below : (key : List ℕ) (low : Option (Bor (List Value))) (v : RowVersion) → not (is_below key low v) ≡ is_from key (option_copied low) v.row
 not_below key None v = refl
 not_below key (Some low) v = by (row_cmp (values_at (take (length low.now) key) v.row) low.now)
   where
@@ -108,7 +109,7 @@ not_below key (Some low) v = by (row_cmp (values_at (take (length low.now) key) 
     by Equal = refl
     by Greater = refl
 
-not_above : (key : List ℕ) (high : Option (Bor (List Value))) (v : RowVersion) → is_not_above key high v ≡ is_to key (given high) v.row
+not_above : (key : List ℕ) (high : Option (Bor (List Value))) (v : RowVersion) → is_not_above key high v ≡ is_to key (option_copied high) v.row
 not_above key None v = refl
 not_above key (Some high) v = by (row_cmp (values_at (take (length high.now) key) v.row) high.now)
   where
@@ -124,11 +125,11 @@ turned false true = refl
 turned false false = refl
 
 pub rows_between_cuts : (key : List ℕ) (low high : Option (Bor (List Value))) (n first end : ℕ) (vs : List RowVersion) → MatchOption low (first ≡ 0) (λ values. IsCut (is_upto (take (length values.now) key) values.now false) first vs)
-    → MatchOption high (end ≡ length vs) (λ values. IsCut (is_upto (take (length values.now) key) values.now true) end vs) → state_at n (drop first (take end vs)) ≡ rows_within key (given low) (given high) (state_at n vs)
+    → MatchOption high (end ≡ length vs) (λ values. IsCut (is_upto (take (length values.now) key) values.now true) end vs) → state_at n (drop first (take end vs)) ≡ rows_within key (option_copied low) (option_copied high) (state_at n vs)
 rows_between_cuts key low high n first end vs a b =
     ap (state_at n) (between_cuts (is_below key low) (is_not_above key high) first end vs (low_cut key low first vs a) (high_cut key high end vs b))
-    ∙ rows_that_pass n (λ v. is_not_above key high v && not (is_below key low v)) (λ row. is_from key (given low) row && is_to key (given high) row) vs
-    (λ v. ap₂ (λ s t. s && t) (not_above key high v) (not_below key low v) ∙ turned (is_to key (given high) v.row) (is_from key (given low) v.row))
+    ∙ rows_that_pass n (λ v. is_not_above key high v && not (is_below key low v)) (λ row. is_from key (option_copied low) row && is_to key (option_copied high) row) vs
+    (λ v. ap₂ (λ s t. s && t) (not_above key high v) (not_below key low v) ∙ turned (is_to key (option_copied high) v.row) (is_from key (option_copied low) v.row))
 
 -- ---- what does not pass is not between
 filter_within : {X : Type 0} (p q : X → Bool) (xs : List X) → ((x : X) → p x ≡ true → q x ≡ true) → filter p (filter q xs) ≡ filter p xs
@@ -141,18 +142,18 @@ filter_within p q (x ∷ xs) h = by (p x) refl (q x) refl (filter_within p q xs 
     by false e true f ih = rw e ih
     by false e false f ih = ih
 
-passing_from : (key : List ℕ) (low : Option (Bor (List Value))) (p : List Value → Bool) → MatchOption low (Unit {0}) (λ values. IsLow key values.now p) → (row : List Value) → p row ≡ true → is_from key (given low) row ≡ true
+passing_from : (key : List ℕ) (low : Option (Bor (List Value))) (p : List Value → Bool) → MatchOption low (Unit {0}) (λ values. IsLow key values.now p) → (row : List Value) → p row ≡ true → is_from key (option_copied low) row ≡ true
 passing_from key None p h row t = refl
 passing_from key (Some low) p h row t = ap not (h.least row t)
 
-passing_to : (key : List ℕ) (high : Option (Bor (List Value))) (p : List Value → Bool) → MatchOption high (Unit {0}) (λ values. IsHigh key values.now p) → (row : List Value) → p row ≡ true → is_to key (given high) row ≡ true
+passing_to : (key : List ℕ) (high : Option (Bor (List Value))) (p : List Value → Bool) → MatchOption high (Unit {0}) (λ values. IsHigh key values.now p) → (row : List Value) → p row ≡ true → is_to key (option_copied high) row ≡ true
 passing_to key None p h row t = refl
 passing_to key (Some high) p h row t = ap not (h.most row t)
 
 pub passing_within : (key : List ℕ) (low high : Option (Bor (List Value))) (p : List Value → Bool) (rows : List (List Value)) → MatchOption low (Unit {0}) (λ values. IsLow key values.now p) → MatchOption high (Unit {0}) (λ values. IsHigh key values.now p)
-    → filter p (rows_within key (given low) (given high) rows) ≡ filter p rows
+    → filter p (rows_within key (option_copied low) (option_copied high) rows) ≡ filter p rows
 passing_within key low high p rows a b =
-    filter_within p (λ row. is_from key (given low) row && is_to key (given high) row) rows (λ row t. ap₂ (λ s u. s && u) (passing_from key low p a row t) (passing_to key high p b row t))
+    filter_within p (λ row. is_from key (option_copied low) row && is_to key (option_copied high) row) rows (λ row t. ap₂ (λ s u. s && u) (passing_from key low p a row t) (passing_to key high p b row t))
 
 -- ---- what is counted
 pub fewer_within : (key : List ℕ) (low high : Option (List Value)) (rows : List (List Value)) → length (rows_within key low high rows) ≤ length rows

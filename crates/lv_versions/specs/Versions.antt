@@ -1,6 +1,5 @@
 -- What a table's versions give after a commit.
 use Rattle.std.specs.Prelude.{◌≡◌, ℕ, min, ◌+◌, ◌<◌, ◌≤◌, ◌-◌, ◌^◌, Bool, true, false, cond, not, ◌&&◌, nat_eq, nat_le, nat_lt, List, [], ◌∷◌, ◌++◌, length, map, filter, take, slice_get, slice_index_or, Option, Some, None, is_none}
-use Rattle.std.specs.Borrow.{Bor}
 use Rattle.std.specs.Cmp.Lexicographic.{pointwise}
 use Rattle.std.specs.List.{AllByRecursion, list_any}
 use Rattle.std.specs.Ordering.{nat_cmp, on, then_cmp, is_gt, is_lt}
@@ -216,11 +215,6 @@ pub record IsLow (key : List ℕ) (values : List Value) (p : List Value → Bool
 pub record IsHigh (key : List ℕ) (values : List Value) (p : List Value → Bool) : Type 0 where
   pub fits : length values ≤ length key
   pub most : (row : List Value) → p row ≡ true → is_gt (row_cmp (values_at (take (length values) key) row) values) ≡ false
-
--- the values of a bound, where one is given
-abbrev pub given : Option (Bor (List Value)) → Option (List Value)
-given None = None
-given (Some values) = Some values.now
 
 -- whether a row's first key values are not below these, and whether they are not above these, as all are where none are given
 abbrev pub is_from : List ℕ → Option (List Value) → List Value → Bool

@@ -1,6 +1,6 @@
 //! A table's row versions.
 ghost use Rattle.std.specs.Prelude.{◌≡◌, ◌+◌, ◌-◌, ◌^◌, ◌<◌, ◌≤◌, ◌++◌, ◌∷◌, [], ℕ, Bool, length, map, filter, Some, None, MatchOption, IfOk, OnOk, OnErr, option_to_list, drop, take, false, true};
-ghost use Rattle.std.specs.Option.{option_to_list};
+ghost use Rattle.std.specs.Option.{option_copied, option_to_list};
 ghost use Rattle.std.specs.List.{AllByRecursion};
 ghost use Rattle.std.specs.List.Sorted.{IsPermutation};
 ghost use Rattle.lv_values.specs.Rows.{key_cmp};
@@ -8,7 +8,7 @@ ghost use Rattle.lv_schema.specs.Nets.{with_net};
 ghost use Rattle.lv_schema.specs.Once.{Ascends};
 ghost use Rattle.lv_shelf.specs.Cuts.{Apart, Falls, IsCut};
 ghost use Rattle.lv_shelf.specs.Shelves.{other_at};
-ghost use Rattle.lv_versions.specs.Versions.{Applies, EndsFrom, HaveOrders, IsBy, IsHigh, IsLow, Precedes, ends_after, given, is_upto, lost, new_version, row_with, rows_hit, rows_with, rows_within, soonest_after, soonest_pruned, state_at, with_index};
+ghost use Rattle.lv_versions.specs.Versions.{Applies, EndsFrom, HaveOrders, IsBy, IsHigh, IsLow, Precedes, ends_after, is_upto, lost, new_version, row_with, rows_hit, rows_with, rows_within, soonest_after, soonest_pruned, state_at, with_index};
 
 use crate::changing::change;
 use crate::dropping::drop_over;
@@ -132,8 +132,8 @@ impl Versions {
         requires high { MatchOption high (Unit {0}) (λ values. IsHigh self.now.def.key values.now (T.passed test.now)) }
         ensures rows { IfOk result (λ rows. rows ≡ filter (T.passed test.now) (state_at n self.now.versions)) }
         ensures keyed { Ascends (key_cmp self.now.def.key) (state_at n self.now.versions) }
-        ensures cost { OnOk result (steps.new ≡ steps.old + length (rows_within self.now.def.key (given low.entry) (given high.entry) (state_at n self.now.versions))) }
-        ensures refused { OnErr result (steps.new ≤ steps.old + length (rows_within self.now.def.key (given low.entry) (given high.entry) (state_at n self.now.versions))) }
+        ensures cost { OnOk result (steps.new ≡ steps.old + length (rows_within self.now.def.key (option_copied low.entry) (option_copied high.entry) (state_at n self.now.versions))) }
+        ensures refused { OnErr result (steps.new ≤ steps.old + length (rows_within self.now.def.key (option_copied low.entry) (option_copied high.entry) (state_at n self.now.versions))) }
         ensures most { steps.new ≤ steps.old + length (state_at n self.now.versions) }
     {
         let positions = self.def.key.as_slice();

@@ -1,10 +1,11 @@
 use Rattle.std.proofs.Common.{◌≡◌, ◌+◌, ◌≤◌, List, drop, take, length, filter, ap, ◌∙◌, subst}
 use Rattle.std.specs.Prelude.{OnErr, OnOk}
+use Rattle.std.specs.Option.{option_copied}
 use Rattle.std.proofs.lemmas.Result.{IfOk-weaker}
 use Rattle.lv_values.specs.declared.value.Value.{Value}
 use Rattle.lv_values.specs.Rows.{key_cmp}
 use Rattle.lv_schema.specs.Once.{Ascends}
-use Rattle.lv_versions.specs.Versions.{Kept, given, rows_within, state_at}
+use Rattle.lv_versions.specs.Versions.{Kept, rows_within, state_at}
 use Rattle.lv_versions.proofs.Between.{at_most, fewer_within, passing_within, rows_between_cuts}
 use Rattle.lv_versions.proofs.Standing.{state_ascends}
 use Rattle.lv_versions.proofs.versions.Versions.scan_between.Goals as goal
@@ -20,11 +21,11 @@ returns g c =
     let low = c.args.low in
     let high = c.args.high in
     let found = state_at n (drop c.place_of_low-first.result (take c.place_of_high-end.result vs)) in
-    let within = rows_within key (given low) (given high) (state_at n now.versions) in
+    let within = rows_within key (option_copied low) (option_copied high) (state_at n now.versions) in
     let is : found ≡ within =
     rows_between_cuts c.as_slice-positions.result.now low high n c.place_of_low-first.result c.place_of_high-end.result vs c.place_of_low-first.ensures.cut c.place_of_high-end.ensures.cut
-    ∙ ap (λ ks. rows_within ks (given low) (given high) (state_at n vs)) (c.as_slice-positions.ensures ∙ ap (λ (k : Kept). k.def.key) c.self.view_is)
-    ∙ ap (λ (k : Kept). rows_within key (given low) (given high) (state_at n k.versions)) c.self.view_is in
+    ∙ ap (λ ks. rows_within ks (option_copied low) (option_copied high) (state_at n vs)) (c.as_slice-positions.ensures ∙ ap (λ (k : Kept). k.def.key) c.self.view_is)
+    ∙ ap (λ (k : Kept). rows_within key (option_copied low) (option_copied high) (state_at n k.versions)) c.self.view_is in
     let cost = subst (λ l. OnOk c.rows_in.result (c.rows_in.new.steps ≡ c.args.steps.now + length l)) is c.rows_in.ensures.cost in
     let refused = subst (λ l. OnErr c.rows_in.result (c.rows_in.new.steps ≤ c.args.steps.now + length l)) is c.rows_in.ensures.most in
     record {
@@ -33,5 +34,5 @@ returns g c =
       keyed = subst (λ v. Ascends (key_cmp v.def.key) (state_at n v.versions)) c.self.view_is (state_ascends s.def.key n vs c.self.invariant.are.order);
       cost = cost;
       refused = refused;
-      most = at_most c.rows_in.result c.rows_in.new.steps c.args.steps.now (length within) (length (state_at n now.versions)) (fewer_within key (given low) (given high) (state_at n now.versions)) cost refused;
+      most = at_most c.rows_in.result c.rows_in.new.steps c.args.steps.now (length within) (length (state_at n now.versions)) (fewer_within key (option_copied low) (option_copied high) (state_at n now.versions)) cost refused;
     }
