@@ -1,3 +1,4 @@
+pub mod Ranking
 pub mod Between
 pub mod Standing
 pub mod Ending

@@ -216,6 +216,19 @@ pub record IsHigh (key : List ℕ) (values : List Value) (p : List Value → Boo
   pub fits : length values ≤ length key
   pub most : (row : List Value) → p row ≡ true → is_gt (row_cmp (values_at (take (length values) key) row) values) ≡ false
 
+-- whether a row's first key values are not below these, and whether they are not above these, as all are where none are given
+abbrev pub is_from : List ℕ → Option (List Value) → List Value → Bool
+is_from key None row = true
+is_from key (Some low) row = not (is_lt (row_cmp (values_at (take (length low) key) row) low))
+
+abbrev pub is_to : List ℕ → Option (List Value) → List Value → Bool
+is_to key None row = true
+is_to key (Some high) row = not (is_gt (row_cmp (values_at (take (length high) key) row) high))
+
+-- the rows between two bounds, with those on them
+abbrev pub rows_within : List ℕ → Option (List Value) → Option (List Value) → List (List Value) → List (List Value)
+rows_within key low high rows = filter (λ row. is_from key low row && is_to key high row) rows
+
 -- the row of a version that has a key and is there after commit n
 abbrev pub hits : List ℕ → List Value → ℕ → RowVersion → Bool
 hits positions key n v = is_at n v && row_eq (values_at positions v.row) key

@@ -1,6 +1,6 @@
 //! A table's row versions.
 ghost use Rattle.std.specs.Prelude.{◌≡◌, ◌+◌, ◌-◌, ◌^◌, ◌<◌, ◌≤◌, ◌++◌, ◌∷◌, [], ℕ, Bool, length, map, filter, Some, None, MatchOption, IfOk, OnOk, OnErr, option_to_list, drop, take, false, true};
-ghost use Rattle.std.specs.Option.{option_to_list};
+ghost use Rattle.std.specs.Option.{option_copied, option_to_list};
 ghost use Rattle.std.specs.List.{AllByRecursion};
 ghost use Rattle.std.specs.List.Sorted.{IsPermutation};
 ghost use Rattle.lv_values.specs.Rows.{key_cmp};
@@ -8,7 +8,7 @@ ghost use Rattle.lv_schema.specs.Nets.{with_net};
 ghost use Rattle.lv_schema.specs.Once.{Ascends};
 ghost use Rattle.lv_shelf.specs.Cuts.{Apart, Falls, IsCut};
 ghost use Rattle.lv_shelf.specs.Shelves.{other_at};
-ghost use Rattle.lv_versions.specs.Versions.{Applies, EndsFrom, HaveOrders, IsBy, IsHigh, IsLow, Precedes, ends_after, is_upto, lost, new_version, row_with, rows_hit, rows_with, soonest_after, soonest_pruned, state_at, with_index};
+ghost use Rattle.lv_versions.specs.Versions.{Applies, EndsFrom, HaveOrders, IsBy, IsHigh, IsLow, Precedes, ends_after, is_upto, lost, new_version, row_with, rows_hit, rows_with, rows_within, soonest_after, soonest_pruned, state_at, with_index};
 
 use crate::changing::change;
 use crate::dropping::drop_over;
@@ -111,12 +111,13 @@ impl Versions {
         ensures cost { OnOk result (steps.new ≡ steps.old + length (state_at n self.now.versions)) }
         ensures most { OnErr result (steps.new ≤ steps.old + length (state_at n self.now.versions)) }
     {
-        rows_at(alloc, n, &self.versions, &Any, steps)
+        let versions = &self.versions;
+        rows_in(alloc, n, versions, 0, versions.len(), &Any, steps)
     }
 
     /// Those rows of `scan` that pass. Where all that pass have first key values no less than some, or no greater than some,
     /// those may be given. Cost: two binary searches, and one pass over the versions between these values, with a copy of
-    /// each row that passes; a step is taken for each row that is tested.
+    /// each row that passes; a step is taken for each row between them, which is tested, and for no other.
     pub fn scan_between<L: Ledger, T: Test<Row>>(
         &self,
         alloc: Global,
@@ -131,6 +132,8 @@ impl Versions {
         requires high { MatchOption high (Unit {0}) (λ values. IsHigh self.now.def.key values.now (T.passed test.now)) }
         ensures rows { IfOk result (λ rows. rows ≡ filter (T.passed test.now) (state_at n self.now.versions)) }
         ensures keyed { Ascends (key_cmp self.now.def.key) (state_at n self.now.versions) }
+        ensures cost { OnOk result (steps.new ≡ steps.old + length (rows_within self.now.def.key (option_copied low.entry) (option_copied high.entry) (state_at n self.now.versions))) }
+        ensures refused { OnErr result (steps.new ≤ steps.old + length (rows_within self.now.def.key (option_copied low.entry) (option_copied high.entry) (state_at n self.now.versions))) }
         ensures most { steps.new ≤ steps.old + length (state_at n self.now.versions) }
     {
         let positions = self.def.key.as_slice();
@@ -335,25 +338,6 @@ fn push_alive<L: Ledger, T: Test<Row>>(
     Ok(())
 }
 
-/// Copies of the rows after commit n that pass, and one step for each row after it.
-fn rows_at<L: Ledger, T: Test<Row>>(
-    alloc: Global,
-    n: u64,
-    versions: &Shelf<RowVersion>,
-    test: &T,
-    steps: &mut Steps<L>,
-) -> Result<Rows, NoMemory>
-    ensures rows { IfOk result (λ rows. rows ≡ filter (T.passed test.now) (state_at n versions.now.list)) }
-    ensures cost { OnOk result (steps.new ≡ steps.old + length (state_at n versions.now.list)) }
-    ensures most { OnErr result (steps.new ≤ steps.old + length (state_at n versions.now.list)) }
-{
-    let mut rows = Rows::new(alloc);
-    for at in 0..versions.len() {
-        push_alive(alloc, n, versions.get(at), test, &mut rows, steps)?;
-    }
-    Ok(rows)
-}
-
 /// How many versions have first key values that are below these, or, if they count too, are these. Cost: a binary search.
 fn place_of(positions: &[u8], values: &Row, themselves: bool, versions: &Shelf<RowVersion>) -> usize
     requires stand { Apart (Precedes positions.now) versions.now.list }
@@ -396,8 +380,8 @@ fn place_of_high(positions: &[u8], high: Option<&Row>, versions: &Shelf<RowVersi
     }
 }
 
-/// Copies of the rows after commit n that pass, none of which has its version before a place or from another one on, and one
-/// step for each row between.
+/// Copies of the rows after commit n that pass, of the versions from a place up to another one, and one step for each row
+/// after that commit that these versions have.
 fn rows_in<L: Ledger, T: Test<Row>>(
     alloc: Global,
     n: u64,
@@ -408,10 +392,9 @@ fn rows_in<L: Ledger, T: Test<Row>>(
     steps: &mut Steps<L>,
 ) -> Result<Rows, NoMemory>
     requires end { end ≤ length versions.now.list }
-    requires before { filter (T.passed test.now) (state_at n (drop first versions.now.list)) ≡ filter (T.passed test.now) (state_at n versions.now.list) }
-    requires behind { (at : ℕ) → end ≤ at → filter (T.passed test.now) (state_at n (drop at versions.now.list)) ≡ [] }
-    ensures rows { IfOk result (λ rows. rows ≡ filter (T.passed test.now) (state_at n versions.now.list)) }
-    ensures most { steps.new ≤ steps.old + length (state_at n versions.now.list) }
+    ensures rows { IfOk result (λ rows. rows ≡ filter (T.passed test.now) (state_at n (drop first (take end versions.now.list)))) }
+    ensures cost { OnOk result (steps.new ≡ steps.old + length (state_at n (drop first (take end versions.now.list)))) }
+    ensures most { OnErr result (steps.new ≤ steps.old + length (state_at n (drop first (take end versions.now.list)))) }
 {
     let mut rows = Rows::new(alloc);
     for at in first..end {

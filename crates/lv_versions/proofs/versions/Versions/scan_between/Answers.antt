@@ -1,29 +1,38 @@
-use Rattle.std.proofs.Common.{List, ℕ, sym, ap, ◌∙◌, subst}
-use Rattle.std.specs.Prelude.{MatchOption}
+use Rattle.std.proofs.Common.{◌≡◌, ◌+◌, ◌≤◌, List, drop, take, length, filter, ap, ◌∙◌, subst}
+use Rattle.std.specs.Prelude.{OnErr, OnOk}
+use Rattle.std.specs.Option.{option_copied}
+use Rattle.std.proofs.lemmas.Result.{IfOk-weaker}
+use Rattle.lv_values.specs.declared.value.Value.{Value}
 use Rattle.lv_values.specs.Rows.{key_cmp}
 use Rattle.lv_schema.specs.Once.{Ascends}
-use Rattle.lv_versions.specs.Versions.{IsHigh, IsLow, Kept, state_at}
-use Rattle.lv_versions.proofs.Between.{from_first, to_end}
+use Rattle.lv_versions.specs.Versions.{Kept, rows_within, state_at}
+use Rattle.lv_versions.proofs.Between.{at_most, fewer_within, passing_within, rows_between_cuts}
 use Rattle.lv_versions.proofs.Standing.{state_ascends}
 use Rattle.lv_versions.proofs.versions.Versions.scan_between.Goals as goal
 
-pub rows_in-requires-clause-before : goal.rows_in-requires-clause-before
-rows_in-requires-clause-before g c =
-    let key = c.as_slice-positions.result.now in
-    let same = c.as_slice-positions.ensures ∙ ap (λ (k : Kept). k.def.key) c.self.view_is in
-    let p = g.T.Test.passed c.args.test.now in
-    from_first key c.args.low p c.args.n c.place_of_low-first.result c.self.inside.versions.list
-    (subst (λ (ks : List ℕ). MatchOption c.args.low (Unit {0}) (λ values. IsLow ks values.now p)) (sym same) c.requires.low) c.place_of_low-first.ensures.cut
-
-pub rows_in-requires-clause-behind : goal.rows_in-requires-clause-behind
-rows_in-requires-clause-behind g c =
-    let key = c.as_slice-positions.result.now in
-    let same = c.as_slice-positions.ensures ∙ ap (λ (k : Kept). k.def.key) c.self.view_is in
-    let p = g.T.Test.passed c.args.test.now in
-    to_end key c.args.high p c.args.n c.place_of_high-end.result c.self.inside.versions.list
-    (subst (λ (ks : List ℕ). MatchOption c.args.high (Unit {0}) (λ values. IsHigh ks values.now p)) (sym same) c.requires.high) c.place_of_high-end.ensures.cut
-
-pub returns-clause-keyed : goal.returns-clause-keyed
-returns-clause-keyed g c =
+pub returns : goal.returns
+returns g c =
+    let n = c.args.n in
     let s = c.self.inside in
-    subst (λ v. Ascends (key_cmp v.def.key) (state_at c.args.n v.versions)) c.self.view_is (state_ascends s.def.key c.args.n s.versions.list c.self.invariant.are.order)
+    let vs = s.versions.list in
+    let p = g.T.Test.passed c.args.test.now in
+    let now = c.args.self.now in
+    let key = now.def.key in
+    let low = c.args.low in
+    let high = c.args.high in
+    let found = state_at n (drop c.place_of_low-first.result (take c.place_of_high-end.result vs)) in
+    let within = rows_within key (option_copied low) (option_copied high) (state_at n now.versions) in
+    let is : found ≡ within =
+    rows_between_cuts c.as_slice-positions.result.now low high n c.place_of_low-first.result c.place_of_high-end.result vs c.place_of_low-first.ensures.cut c.place_of_high-end.ensures.cut
+    ∙ ap (λ ks. rows_within ks (option_copied low) (option_copied high) (state_at n vs)) (c.as_slice-positions.ensures ∙ ap (λ (k : Kept). k.def.key) c.self.view_is)
+    ∙ ap (λ (k : Kept). rows_within key (option_copied low) (option_copied high) (state_at n k.versions)) c.self.view_is in
+    let cost = subst (λ l. OnOk c.rows_in.result (c.rows_in.new.steps ≡ c.args.steps.now + length l)) is c.rows_in.ensures.cost in
+    let refused = subst (λ l. OnErr c.rows_in.result (c.rows_in.new.steps ≤ c.args.steps.now + length l)) is c.rows_in.ensures.most in
+    record {
+      rows = IfOk-weaker c.rows_in.result (λ (rows : List (List Value)). rows ≡ filter p found) (λ (rows : List (List Value)). rows ≡ filter p (state_at n now.versions))
+          (λ (rows : List (List Value)) e. e ∙ ap (filter p) is ∙ passing_within key low high p (state_at n now.versions) c.requires.low c.requires.high) c.rows_in.ensures.rows;
+      keyed = subst (λ v. Ascends (key_cmp v.def.key) (state_at n v.versions)) c.self.view_is (state_ascends s.def.key n vs c.self.invariant.are.order);
+      cost = cost;
+      refused = refused;
+      most = at_most c.rows_in.result c.rows_in.new.steps c.args.steps.now (length within) (length (state_at n now.versions)) (fewer_within key (option_copied low) (option_copied high) (state_at n now.versions)) cost refused;
+    }
