@@ -1,7 +1,6 @@
 -- The value with which what is kept of a view begins wherever a condition keeps the row.
-use Rattle.std.proofs.Common.{◌≡◌, ℕ, Bool, true, false, not, [], ◌∷◌, Option, Some, None, refl, sym, ap, subst, ◌∙◌}
-use Rattle.std.specs.Prelude.{unwrap_or, IfOk, MatchOption, Result, Ok, Err}
-use Rattle.std.specs.Option.{option_map}
+use Rattle.std.proofs.Common.{◌≡◌, ℕ, Bool, true, false, not, [], ◌∷◌, Option, Some, None, refl, sym, ◌∙◌}
+use Rattle.std.specs.Prelude.{IfOk, MatchOption, Result, Ok, Err}
 use Rattle.lv_values.specs.declared.value.Value.{Value}
 use Rattle.lv_schema.specs.declared.cond.Cond.{Cond}
 use Rattle.lv_schema.specs.declared.view.ViewDef.{ViewDef}
@@ -18,12 +17,6 @@ pub found_begins : {E : Type 0} (view : ViewDef) (column : ℕ) (c : Cond) (resu
     → IfOk result (λ found. MatchOption found (Unit {0}) (AllBegin view (λ row. holds c (row ∷ []))))
 found_begins view column c (Ok found) first fixes = all_begin view column c found first fixes
 found_begins view column c (Err e) first fixes = fixes
-
--- what holds of a value holds of a look at it
-pub seen_so : {A B : Type 0} (now : A → B) (P : B → Type 0) (seen : Option A) (value : Option B) → option_map now seen ≡ value → MatchOption value (Unit {0}) P → MatchOption seen (Unit {0}) (λ a. P (now a))
-seen_so now P None value e m = tt
-seen_so now P (Some a) None e m = cc
-seen_so now P (Some a) (Some b) e m = subst P (sym (ap (λ o. unwrap_or o b) e)) m
 
 pub not_so : (b : Bool) → not b ≡ true → b ≡ false
 not_so true e = cc

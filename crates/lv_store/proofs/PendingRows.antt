@@ -99,6 +99,11 @@ taken_start pending old can = record {
   done = λ v lt le. absurd (omega (arith, lt, le, can.all));
 }
 
+-- ---- the view stays
+pub takes_def : (ds : List Difference) (old new : ViewKept) → TakesEach ds old new → new.def ≡ old.def
+takes_def [] old new h = ap (λ (k : ViewKept). k.def) h
+takes_def (d ∷ ds) old new h = takes_def ds h.0 new h.2 ∙ h.1.def_stays
+
 -- ---- what a view shows
 installed_at : (hi : ℕ) (changes : List SignedRow) (old next : ViewKept) → RowsInstall hi changes old next → groups_at next.at next.versions ≡ groups_with changes (groups_at old.at old.versions)
 installed_at hi changes old next h = h.from next.at (omega (arith, h.at_is))

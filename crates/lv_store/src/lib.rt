@@ -20,6 +20,7 @@ mod planning;
 mod querying;
 mod reading;
 mod settings;
+mod sought;
 mod stepping;
 mod store;
 mod transactions;

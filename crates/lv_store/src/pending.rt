@@ -8,8 +8,8 @@ ghost use Rattle.lv_store.specs.Querying.{OnlyRoom, RowsInstall};
 ghost use Rattle.lv_store.specs.Pending.{AllTake, AreUpTo, CanAllTake, CanTakeEach, HaveRoom, TakesEach, changed_rows, with_difference};
 
 use lv_schema::Signed;
-use lv_values::{Copying, Items, NoMemory, Room, Row, Rows, Test, Value};
-use lv_viewrows::ViewRows;
+use lv_values::{Copying, Items, NoMemory, Room, Rows};
+use lv_viewrows::{Seek, ViewRows};
 use std::alloc::Global;
 
 /// A difference of a view, and the commit that it leads to.
@@ -77,26 +77,25 @@ fn copy_with(
 }
 
 /// Of the rows that a view shows at a commit once these differences are installed, which end at or below it, those that
-/// pass. `first` is the value with which the view's groups of all that pass begin, where it is known. Cost: where there is
-/// no difference, a pass over what is kept of the view, or over what begins with `first`; with one, that of its preview;
-/// with several, of a copy and a pass over all. A row of a join view that does not pass is not copied for the answer.
-pub(crate) fn rows_with<T: Test<Row>>(
+/// pass. Cost: where there is no difference, a pass over what is kept of the view, or over what begins with the first value
+/// that the test names; with one, that of its preview; with several, of a copy and such a pass over it. A row of a join view
+/// that does not pass is not copied for the answer.
+pub(crate) fn rows_with<T: Seek>(
     alloc: Global,
     n: u64,
     rows: &ViewRows,
     differences: &[Difference],
-    first: Option<&Value>,
     test: &T,
 ) -> Result<Rows, NoMemory>
-    requires only { MatchOption first (Unit {0}) (λ v. AllBegin rows.now.def (T.passed test.now) v.now) }
+    requires only { MatchOption (T.first test.now) (Unit {0}) (AllBegin rows.now.def (T.passed test.now)) }
     requires can { CanTakeEach differences.now rows.now }
     requires upto { AreUpTo n differences.now }
     ensures { (new : ViewKept) → TakesEach differences.now rows.now new → IfOk result (λ list. list ≡ filter (T.passed test.now) (shown n new)) }
 {
     match differences {
-        [] => rows.read_passing(alloc, n, first, test),
-        [only] => rows.preview_passing(alloc, only.hi, &only.changes, first, test),
-        _ => copy_with(alloc, rows, differences)?.read_passing(alloc, n, None, test),
+        [] => rows.read_passing(alloc, n, test),
+        [only] => rows.preview_passing(alloc, only.hi, &only.changes, test),
+        _ => copy_with(alloc, rows, differences)?.read_passing(alloc, n, test),
     }
 }
 

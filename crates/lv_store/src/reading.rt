@@ -15,11 +15,13 @@ ghost use Rattle.lv_store.specs.Pending.{AllTake, CanRead};
 ghost use Rattle.lv_store.specs.Kept.{IsStore};
 
 use crate::pending::{Pending, rows_with};
+use crate::sought::SoughtBy;
 use crate::store::Store;
 use lv_effect::{KeptBy, fixed_value};
 use lv_query::answer;
 use lv_schema::{Cond, Query, Rel};
-use lv_values::{Any, Items, NoMemory, Row, Rows, Steps, Test, Value};
+use lv_values::{Any, Items, NoMemory, Rows, Steps, Value};
+use lv_viewrows::Seek;
 use std::alloc::Global;
 use std::sync::ledger::Ledger;
 
@@ -47,19 +49,18 @@ impl Store {
         }
     }
 
-    /// Rows of which the same pass as of a view's rows, as the transaction of a session reads them. `first` is as for
-    /// `rows_with`. Cost: that of `rows_with`, where the transaction wrote none of its tables; else that of its definition.
-    fn view_rows<L: Ledger, T: Test<Row>>(
+    /// Rows of which the same pass as of a view's rows, as the transaction of a session reads them. Cost: that of
+    /// `rows_with`, where the transaction wrote none of its tables; else that of its definition.
+    fn view_rows<L: Ledger, T: Seek>(
         &self,
         alloc: Global,
         session: u32,
         pending: &Pending,
         view: u32,
-        first: Option<&Value>,
         test: &T,
         steps: &mut Steps<L>,
     ) -> Result<Rows, NoMemory>
-        requires only { (kept : ViewKept) → slice_get self.now.rows.list view ≡ Some kept → MatchOption first (Unit {0}) (λ v. AllBegin kept.def (T.passed test.now) v.now) }
+        requires only { (kept : ViewKept) → slice_get self.now.rows.list view ≡ Some kept → MatchOption (T.first test.now) (Unit {0}) (AllBegin kept.def (T.passed test.now)) }
         requires whole { IsStore self.now }
         requires live { IsLive self.now.txns session }
         requires pending { CanRead self.now session pending.now }
@@ -73,7 +74,7 @@ impl Store {
         let snapshot = self.snapshot(session);
         let rows = self.rows.get(view as usize);
         let differences = pending.get(view as usize).as_slice();
-        rows_with(alloc, snapshot, rows, differences, first, test)
+        rows_with(alloc, snapshot, rows, differences, test)
     }
 
     /// The rows that a table or a view stands for.
@@ -94,7 +95,7 @@ impl Store {
     {
         match rel {
             Rel::Table(table) => self.own_rows(alloc, session, *table, steps),
-            Rel::View(view) => self.view_rows(alloc, session, pending, *view, None, &Any, steps),
+            Rel::View(view) => self.view_rows(alloc, session, pending, *view, &Any, steps),
         }
     }
 
@@ -144,8 +145,9 @@ impl Store {
             Rel::Table(table) => self.own_rows_to_try(alloc, session, table, cond, steps),
             Rel::View(view) => {
                 let first = self.first_value(alloc, view, cond)?;
-                let test = KeptBy { cond };
-                self.view_rows(alloc, session, pending, view, first.as_ref(), &test, steps)
+                let kept = KeptBy { cond };
+                let test = SoughtBy { kept, first };
+                self.view_rows(alloc, session, pending, view, &test, steps)
             }
         }
     }

@@ -1,13 +1,10 @@
-use Rattle.std.proofs.Common.{◌≡◌, ◌∷◌, [], true, subst}
-use Rattle.lv_schema.specs.Truth.{holds}
-use Rattle.lv_viewrows.specs.Beginning.{AllBegin}
+use Rattle.std.proofs.Common.{◌≡◌, true, subst}
 use Rattle.lv_store.specs.Querying.{reads_kept}
-use Rattle.lv_store.proofs.FirstValues.{not_so, seen_so}
+use Rattle.lv_store.proofs.FirstValues.{not_so}
 use Rattle.lv_store.proofs.store.Store.rel_rows_to_try.Goals as goal
 
 pub view_rows-requires-clause-only : goal.view_rows-requires-clause-only
-view_rows-requires-clause-only g c kept e =
-    seen_so (λ v. v.now) (AllBegin kept.def (λ row. holds c.args.cond.now (row ∷ []))) c.as_ref.result c.in_ok-first-in-View.first c.as_ref.ensures.value (c.in_ok-first-in-View.ensures.begins kept e)
+view_rows-requires-clause-only g c kept e = c.in_ok-first-in-View.ensures.begins kept e
 
 pub returns-in_ok-first-in-View-clause-cost : goal.returns-in_ok-first-in-View-clause-cost
 returns-in_ok-first-in-View-clause-cost g c e = c.view_rows.ensures.cost (not_so _ (subst (λ rel. reads_kept c.args.self.now c.args.session rel ≡ true) c.in-View.is e))
