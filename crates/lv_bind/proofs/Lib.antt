@@ -16,6 +16,8 @@ pub mod SpokenConds
 pub mod SpokenParts
 pub mod SpokenStmts
 pub mod LineFaults
+pub mod MisfitLemmas
 pub mod FoundFaults
 pub mod ReadLines
 pub mod AllowedLines
+pub mod AssignedLemmas

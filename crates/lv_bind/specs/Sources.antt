@@ -7,7 +7,7 @@ use Rattle.lv_parser.specs.declared.tree.ColName.{ColName}
 use Rattle.lv_parser.specs.declared.tree.Named.{Named}
 use Rattle.lv_parser.specs.declared.tree.RefTree.{RefTree}
 use Rattle.lv_parser.specs.declared.tree.Stmt.{Stmt}
-use Rattle.lv_parser.specs.declared.tree.Stmt.TheVariants.{CreateView, Update, Delete, Select}
+use Rattle.lv_parser.specs.declared.tree.Stmt.TheVariants.{CreateView, Insert, Update, Delete, Select}
 use Rattle.lv_schema.specs.declared.query.Rel.{Rel}
 use Rattle.lv_schema.specs.declared.table.Column.{Column}
 use Rattle.lv_schema.specs.declared.table.Kind.{Kind}
@@ -44,6 +44,13 @@ alias_of ref = unwrap_or ref.alias ref.name
 
 abbrev pub source_of : List TableDef → List ViewDef → RefTree → Alias
 source_of tables views ref = record { name = (alias_of ref).name; columns = columns_of tables views (rel_named tables views ref.name.name) }
+
+-- what the table that a statement changes stands for
+abbrev pub target_of : List TableDef → List ViewDef → Stmt → Option Rel
+target_of tables views (Insert table tuples) = rel_named tables views table.name
+target_of tables views (Update table sets c) = rel_named tables views table.name
+target_of tables views (Delete table c) = rel_named tables views table.name
+target_of tables views other = None
 
 -- UPDATE and DELETE have one alias, which is the table's name
 abbrev pub table_source : List TableDef → List ViewDef → Named → Alias

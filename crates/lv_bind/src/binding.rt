@@ -2,14 +2,12 @@
 ghost use Rattle.std.specs.Prelude.{◌≡◌, ◌++◌, map, IfOk, OnOk};
 ghost use Rattle.lv_bind.specs.Binding.{IsNarrow, bound_col, bound_literal, bound_side, bound_op, bound_cond, bound_rows, bound_value, bound_set, bound_order, columns_from, bound_list, bound_rels, table_number};
 ghost use Rattle.std.specs.List.{range_with_len};
-ghost use Rattle.lv_schema.specs.Catalog.{rel_named};
 ghost use Rattle.lv_bind.specs.Seen.{aliases, column_seen};
 
 use crate::pieces::Mention;
 use crate::sources::{Scope, place_of};
 use lv_parser::{
-    Assign, AssignValue, ColName, ColNames, CondTree, Literal, Named, OperandTree, RefTree, Sign,
-    Tuple,
+    Assign, AssignValue, ColName, ColNames, CondTree, Literal, OperandTree, RefTree, Sign, Tuple,
 };
 use lv_schema::{
     Col, Cols, Cond, Conds, Op, Operand, OrderCol, OrderCols, Rel, Rels, Schema, Set, SetValue,
@@ -242,11 +240,11 @@ pub(crate) fn bound_rels(alloc: Global, schema: &Schema, refs: &[RefTree]) -> Re
     Ok(out)
 }
 
-/// The number of a table, 0 where the name is of none.
-pub(crate) fn table_number(schema: &Schema, table: &Named) -> u32
-    ensures { result ≡ table_number (rel_named schema.now.tables schema.now.views table.now.name) }
+/// The number of a table, 0 where there is none.
+pub(crate) fn table_number(rel: Option<Rel>) -> u32
+    ensures { result ≡ table_number rel }
 {
-    match schema.find(&table.name) {
+    match rel {
         Some(Rel::Table(number)) => number,
         Some(Rel::View(_)) | None => 0,
     }

@@ -120,7 +120,7 @@ fn table_numbers(alloc: Global, schema: &Schema, refs: &[RefTree]) -> Result<Tab
 {
     let mut out = TableNumbers::new(alloc);
     for table in refs {
-        out.push(table_number(schema, &table.name))?;
+        out.push(table_number(schema.find(&table.name.name)))?;
     }
     Ok(out)
 }

@@ -2,14 +2,13 @@
 ghost use Rattle.std.specs.Prelude.{◌≡◌, ◌++◌, map, length};
 ghost use Rattle.std.specs.List.{flat_map};
 ghost use Rattle.lv_schema.specs.Bound.{is_text};
-ghost use Rattle.lv_schema.specs.Catalog.{rel_named};
 ghost use Rattle.lv_bind.specs.Kinds.{value_is_text, kind_of, column_byte, side_is_text, side_byte, compared_kinds, item_kinds, literal_fits, value_kinds, tuple_kinds, assign_fits, assign_byte, assign_kinds, insert_columns, kinds_among};
 ghost use Rattle.lv_bind.specs.Seen.{aliases, column_seen, sides_seen, tables_of, views_of};
-ghost use Rattle.lv_bind.specs.Sources.{first};
+ghost use Rattle.lv_bind.specs.Sources.{first, target_of};
 
 use crate::pieces::{Mention, Sides};
 use crate::sources::{Scope, kind_at, place_of};
-use lv_parser::{Assign, AssignValue, ColName, ItemTree, Literal, Named, OperandTree, Stmt, Tuple};
+use lv_parser::{Assign, AssignValue, ColName, ItemTree, Literal, OperandTree, Stmt, Tuple};
 use lv_schema::{Column, Kind, Rel, Schema};
 use lv_values::Value;
 
@@ -179,10 +178,10 @@ fn assigned_kinds(scope: &Scope<'_>, sets: &[Assign]) -> Option<u32>
 }
 
 /// The columns of the table of an INSERT.
-pub(crate) fn insert_columns<'a>(schema: &'a Schema, table: &Named) -> &'a [Column]
-    ensures { result.now ≡ insert_columns schema.now.tables (rel_named schema.now.tables schema.now.views table.now.name) }
+pub(crate) fn insert_columns(schema: &Schema, target: Option<Rel>) -> &[Column]
+    ensures { result.now ≡ insert_columns schema.now.tables target }
 {
-    match schema.find(&table.name) {
+    match target {
         Some(Rel::Table(number)) => schema.columns(number),
         Some(Rel::View(_)) | None => &[],
     }
@@ -191,11 +190,12 @@ pub(crate) fn insert_columns<'a>(schema: &'a Schema, table: &Named) -> &'a [Colu
 /// The byte of the first value of a statement with these aliases and comparisons that is of another kind than it has
 /// to be.
 pub(crate) fn kinds(scope: &Scope<'_>, stmt: &Stmt, comparisons: &[Sides<'_>]) -> Option<u32>
+    requires { scope.now.target ≡ target_of (tables_of scope.now) (views_of scope.now) stmt.now }
     ensures { result ≡ first (kinds_among (tables_of scope.now) (views_of scope.now) (aliases scope.now) (map sides_seen comparisons.now) stmt.now) }
 {
     match stmt {
-        Stmt::Insert { table, tuples } => inserted_kinds(
-            insert_columns(scope.schema, table),
+        Stmt::Insert { tuples, .. } => inserted_kinds(
+            insert_columns(scope.schema, scope.target),
             tuples.as_slice(),
         ),
         Stmt::CreateView { items, .. } => {

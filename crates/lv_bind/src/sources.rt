@@ -2,7 +2,7 @@
 ghost use Rattle.std.specs.Prelude.{◌≡◌, ◌++◌, ◌∷◌, [], map, position, slice_index_or, OnOk, IfOk};
 ghost use Rattle.std.specs.Str.{bytes_eq};
 ghost use Rattle.std.specs.Option.{option_copied};
-ghost use Rattle.lv_bind.specs.Sources.{AreNarrow, no_column, sources_of, source_of, alias_of, columns_of, places, place_of, fit_of, place_in, goes_by, kind_at, column_named};
+ghost use Rattle.lv_bind.specs.Sources.{AreNarrow, no_column, sources_of, source_of, alias_of, columns_of, target_of, places, place_of, fit_of, place_in, goes_by, kind_at, column_named};
 ghost use Rattle.lv_bind.specs.Seen.{alias_seen, aliases, column_seen};
 ghost use Rattle.lv_schema.specs.declared.table.Column.{Column};
 ghost use Rattle.lv_schema.specs.declared.table.Kind.TheVariants.{Big};
@@ -23,10 +23,11 @@ pub(crate) struct Source<'a> {
     pub rel: Option<Rel>,
 }
 
-/// The schema, and the aliases of a statement.
+/// The schema, what the table that a statement changes stands for, and the aliases of the statement.
 #[derive(Clone, Copy)]
 pub(crate) struct Scope<'a> {
     pub schema: &'a Schema,
+    pub target: Option<Rel>,
     pub sources: &'a [Source<'a>],
 }
 
@@ -40,21 +41,31 @@ pub(crate) fn alias_of(table: &RefTree) -> &Named
     }
 }
 
-/// Puts an alias of the table or view with this name at the end.
+/// What the table that a statement changes stands for. Cost: a look-up of its name.
+pub(crate) fn target(schema: &Schema, stmt: &Stmt) -> Option<Rel>
+    ensures { result ≡ target_of schema.now.tables schema.now.views stmt.now }
+{
+    match stmt {
+        Stmt::Insert { table, .. } | Stmt::Update { table, .. } | Stmt::Delete { table, .. } => {
+            schema.find(&table.name)
+        }
+        _ => None,
+    }
+}
+
+/// Puts an alias of this table or view at the end.
 #[tactic(auto, using(crate::proofs::NarrowLemmas::narrow_pushed))]
 fn push_source<'a>(
     schema: &Schema,
     alias: &'a Text,
-    name: &Text,
+    rel: Option<Rel>,
     out: &mut Items<Source<'a>>,
 ) -> Result<(), NoMemory>
-    ensures added { OnOk result (let seen = map (alias_seen schema.now.tables schema.now.views) in seen out.new ≡ seen out.old ++ record { name = alias.now; columns = columns_of schema.now.tables schema.now.views (rel_named schema.now.tables schema.now.views name.now) } ∷ []) }
+    ensures added { OnOk result (let seen = map (alias_seen schema.now.tables schema.now.views) in seen out.new ≡ seen out.old ++ record { name = alias.now; columns = columns_of schema.now.tables schema.now.views rel } ∷ []) }
     ensures narrow { OnOk result (let seen = map (alias_seen schema.now.tables schema.now.views) in AreNarrow (seen out.old) → AreNarrow (seen out.new)) }
 {
-    out.push(Source {
-        alias,
-        rel: schema.find(name),
-    })
+    let _tables = schema.tables();
+    out.push(Source { alias, rel })
 }
 
 /// Puts the aliases of a FROM at the end.
@@ -67,17 +78,25 @@ fn push_refs<'a>(
     ensures narrow { OnOk result (let seen = map (alias_seen schema.now.tables schema.now.views) in AreNarrow (seen out.old) → AreNarrow (seen out.new)) }
 {
     for table in refs {
-        push_source(schema, &alias_of(table).name, &table.name.name, out)?;
+        push_source(
+            schema,
+            &alias_of(table).name,
+            schema.find(&table.name.name),
+            out,
+        )?;
     }
     Ok(())
 }
 
-/// The aliases of a statement, in the order of FROM. Cost: a look-up of each name.
+/// The aliases of a statement that changes this table or none, in the order of FROM. Cost: a look-up of each name in
+/// FROM.
 pub(crate) fn sources<'a>(
     alloc: Global,
     schema: &Schema,
+    target: Option<Rel>,
     stmt: &'a Stmt,
 ) -> Result<Items<Source<'a>>, NoMemory>
+    requires { target ≡ target_of schema.now.tables schema.now.views stmt.now }
     ensures are { IfOk result (λ found. map (alias_seen schema.now.tables schema.now.views) found ≡ sources_of schema.now.tables schema.now.views stmt.now) }
     ensures narrow { IfOk result (λ found. AreNarrow (map (alias_seen schema.now.tables schema.now.views) found)) }
 {
@@ -87,7 +106,7 @@ pub(crate) fn sources<'a>(
             push_refs(schema, refs.as_slice(), &mut out)?;
         }
         Stmt::Update { table, .. } | Stmt::Delete { table, .. } => {
-            push_source(schema, &table.name, &table.name, &mut out)?;
+            push_source(schema, &table.name, target, &mut out)?;
         }
         _ => (),
     }
@@ -109,18 +128,36 @@ pub(crate) enum Fit {
     Several(Place),
 }
 
+/// Whether two names are the same. Names are short: they are compared byte by byte, if they are as long.
+fn is_same(name: &Text, other: &Text) -> bool
+    ensures { result ≡ bytes_eq name.now other.now }
+{
+    let (name, other) = (name.as_bytes(), other.as_bytes());
+    if name.len() != other.len() {
+        return false;
+    }
+    for (at, byte) in name.iter().enumerate() {
+        if *byte != other[at] {
+            return false;
+        }
+    }
+    true
+}
+
 /// The place of a name among columns.
 fn named_column(columns: &[Column], name: &Text) -> Option<usize>
     ensures { result ≡ column_named name.now columns.now }
 {
-    columns.iter().position(|column| *name == column.name)
+    columns
+        .iter()
+        .position(|column| is_same(name, &column.name))
 }
 
 /// The place of a name among the items of a view.
 fn named_item(items: &[Item], name: &Text) -> Option<usize>
     ensures { result ≡ position (λ item. bytes_eq name.now (item_name item)) items.now }
 {
-    items.iter().position(|item| *name == *item.name())
+    items.iter().position(|item| is_same(name, item.name()))
 }
 
 /// The items of a view, none where the number is not in use.
@@ -289,15 +326,18 @@ pub(crate) fn resolve(scope: &Scope<'_>, column: Mention<'_>) -> Fit
     }
 }
 
-/// Where a column is, once it fits one place; else where it fits first, or at the first place of all.
+/// Where a column is, once it fits one place; else where it fits first, or at the first place of all. Cost: a look-up
+/// among the columns of each alias, up to the one that it fits.
 pub(crate) fn place_of(scope: &Scope<'_>, column: Mention<'_>) -> Place
     ensures { result ≡ place_of (aliases scope.now) (column_seen column.entry) }
 {
-    match resolve(scope, column) {
-        Fit::Nothing => Place {
-            alias: 0,
-            column: 0,
-        },
-        Fit::One(place) | Fit::Several(place) => place,
+    for (number, source) in scope.sources.iter().enumerate() {
+        if let Some(place) = place_in(scope.schema, number, source, column) {
+            return place;
+        }
+    }
+    Place {
+        alias: 0,
+        column: 0,
     }
 }

@@ -5,7 +5,7 @@ ghost use Rattle.lv_bind.specs.Faults.{lowest, reading_faults, profile_fault, la
 ghost use Rattle.lv_bind.specs.Seen.{aliases, tables_of, views_of};
 ghost use Rattle.lv_bind.specs.Spoken.{IsSpoken};
 ghost use Rattle.lv_schema.specs.Bound.{IsBound};
-ghost use Rattle.lv_bind.specs.Sources.{AreNarrow, sources_of};
+ghost use Rattle.lv_bind.specs.Sources.{AreNarrow, sources_of, target_of};
 ghost use Rattle.lv_schema.specs.declared.fault.Fault.{Fault};
 
 use crate::binding::{
@@ -15,7 +15,7 @@ use crate::creating::{bound_table, bound_view};
 use crate::pieces::{columns_in, comparisons_in};
 use crate::profile::profile;
 use crate::refusals::{later_fault, reading_fault};
-use crate::sources::{Scope, sources};
+use crate::sources::{Scope, sources, target};
 use lv_parser::Stmt;
 use lv_schema::{Bound, Change, Fault, Query, Schema};
 use lv_values::NoMemory;
@@ -48,6 +48,7 @@ impl From<NoMemory> for BindFault {
 fn bound_among(alloc: Global, scope: &Scope<'_>, stmt: &Stmt) -> Result<Bound, NoMemory>
     requires narrow { IsNarrow (aliases scope.now) }
     requires small { IsSmallTable stmt.now }
+    requires target { scope.now.target ≡ target_of (tables_of scope.now) (views_of scope.now) stmt.now }
     ensures { IfOk result (λ b. b ≡ bound_among (tables_of scope.now) (views_of scope.now) (aliases scope.now) stmt.now) }
 {
     match stmt {
@@ -73,17 +74,17 @@ fn bound_among(alloc: Global, scope: &Scope<'_>, stmt: &Stmt) -> Result<Bound, N
             cond,
             groups.as_slice(),
         )?)),
-        Stmt::Insert { table, tuples } => Ok(Bound::Change(Change::Insert {
-            table: table_number(scope.schema, table),
+        Stmt::Insert { tuples, .. } => Ok(Bound::Change(Change::Insert {
+            table: table_number(scope.target),
             rows: bound_rows(alloc, tuples.as_slice())?,
         })),
-        Stmt::Update { table, sets, cond } => Ok(Bound::Change(Change::Update {
-            table: table_number(scope.schema, table),
+        Stmt::Update { sets, cond, .. } => Ok(Bound::Change(Change::Update {
+            table: table_number(scope.target),
             sets: bound_sets(alloc, scope, sets.as_slice())?,
             cond: bound_cond(alloc, scope, cond)?,
         })),
-        Stmt::Delete { table, cond } => Ok(Bound::Change(Change::Delete {
-            table: table_number(scope.schema, table),
+        Stmt::Delete { cond, .. } => Ok(Bound::Change(Change::Delete {
+            table: table_number(scope.target),
             cond: bound_cond(alloc, scope, cond)?,
         })),
         Stmt::Select {
@@ -106,7 +107,8 @@ fn bound_among(alloc: Global, scope: &Scope<'_>, stmt: &Stmt) -> Result<Bound, N
 
 /// The lowest of the faults 2 to 6 of a statement with these aliases.
 fn early_fault(alloc: Global, scope: &Scope<'_>, stmt: &Stmt) -> Result<Option<Fault>, NoMemory>
-    requires { aliases scope.now ≡ sources_of (tables_of scope.now) (views_of scope.now) stmt.now }
+    requires sources { aliases scope.now ≡ sources_of (tables_of scope.now) (views_of scope.now) stmt.now }
+    requires target { scope.now.target ≡ target_of (tables_of scope.now) (views_of scope.now) stmt.now }
     ensures { IfOk result (λ found. found ≡ lowest (reading_faults (tables_of scope.now) (views_of scope.now) stmt.now)) }
 {
     let comparisons = comparisons_in(alloc, stmt)?;
@@ -137,7 +139,7 @@ fn late_fault(
     if let Some(rule) = profile(scope.schema, stmt, bound) {
         return Ok(Some(Fault::Profile { rule }));
     }
-    later_fault(alloc, scope, setup, live, stmt)
+    later_fault(alloc, scope, setup, live, stmt, bound)
 }
 
 /// Binds a statement with these aliases, which none of the faults 2 to 6 refuses.
@@ -151,6 +153,7 @@ fn bind_readable(
 ) -> Result<Bound, BindFault>
     requires sources { aliases scope.now ≡ sources_of (tables_of scope.now) (views_of scope.now) stmt.now }
     requires narrow { AreNarrow (aliases scope.now) }
+    requires target { scope.now.target ≡ target_of (tables_of scope.now) (views_of scope.now) stmt.now }
     requires readable { lowest (reading_faults (tables_of scope.now) (views_of scope.now) stmt.now) ≡ None }
     ensures found { IfOk result (λ b. bound_of (tables_of scope.now) (views_of scope.now) setup live stmt.now ≡ Ok b) }
     ensures refused { (fault : Fault) → result ≡ Err (BindFault.Stmt fault) → bound_of (tables_of scope.now) (views_of scope.now) setup live stmt.now ≡ Err fault }
@@ -186,9 +189,11 @@ pub fn bind(
     ensures refused { (fault : Fault) → result ≡ Err (BindFault.Stmt fault) → bound_of schema.now.tables schema.now.views setup live stmt.now ≡ Err fault }
 {
     let _tables = schema.tables();
-    let found = sources(alloc, schema, stmt)?;
+    let target = target(schema, stmt);
+    let found = sources(alloc, schema, target, stmt)?;
     let scope = Scope {
         schema,
+        target,
         sources: found.as_slice(),
     };
     match early_fault(alloc, &scope, stmt)? {

@@ -1,13 +1,13 @@
 //! Fault 2: names that stand for nothing.
-ghost use Rattle.std.specs.Prelude.{◌≡◌, map};
+ghost use Rattle.std.specs.Prelude.{◌≡◌};
 ghost use Rattle.std.specs.Option.{option_copied};
 ghost use Rattle.lv_bind.specs.Pieces.{columns_in};
 ghost use Rattle.lv_bind.specs.Seen.{aliases, column_seen, tables_of, views_of};
-ghost use Rattle.lv_bind.specs.Sources.{first, sources_of};
-ghost use Rattle.lv_bind.specs.Unknown.{unknown_refs, unknown_table, unknown_rels, unknown_qualifier, unknown_in, unknown_columns, is_column, unknown_key, unknown_keys, unknown};
+ghost use Rattle.lv_bind.specs.Sources.{first, fit_of, places, shown_unless, sources_of, target_of};
+ghost use Rattle.lv_bind.specs.Unknown.{unknown_refs, is_table, unknown_rels, unknown_qualifier, unknown_in, unknown_columns, is_column, unknown_key, unknown_keys, unknown};
 
 use crate::pieces::Mention;
-use crate::sources::{Fit, Scope, resolve};
+use crate::sources::{Fit, Scope};
 use lv_parser::{ColumnTree, Named, RefTree, Stmt};
 use lv_schema::{Rel, Schema};
 use lv_values::Text;
@@ -23,25 +23,27 @@ fn unknown_ref<'a>(schema: &Schema, refs: &'a [RefTree]) -> Option<&'a Text>
     None
 }
 
-fn unknown_table<'a>(schema: &Schema, table: &'a Named) -> Option<&'a Text>
-    ensures { option_copied result ≡ first (unknown_table schema.now.tables schema.now.views table.now) }
+/// The name of a table that stands for this, unless it is a table.
+fn unknown_table(target: Option<Rel>, table: &Named) -> Option<&Text>
+    ensures { option_copied result ≡ first (shown_unless (is_table target) table.now.name) }
 {
-    match schema.find(&table.name) {
+    match target {
         Some(Rel::Table(_)) => None,
         Some(Rel::View(_)) | None => Some(&table.name),
     }
 }
 
 /// The first table or view that is not in the schema, or that is a view where a table is needed.
-fn unknown_rel<'a>(schema: &Schema, stmt: &'a Stmt) -> Option<&'a Text>
-    ensures { option_copied result ≡ first (unknown_rels schema.now.tables schema.now.views stmt.now) }
+fn unknown_rel<'a>(scope: &Scope<'_>, stmt: &'a Stmt) -> Option<&'a Text>
+    requires { scope.now.target ≡ target_of (tables_of scope.now) (views_of scope.now) stmt.now }
+    ensures { option_copied result ≡ first (unknown_rels (tables_of scope.now) (views_of scope.now) stmt.now) }
 {
     match stmt {
         Stmt::CreateView { refs, .. } | Stmt::Select { refs, .. } => {
-            unknown_ref(schema, refs.as_slice())
+            unknown_ref(scope.schema, refs.as_slice())
         }
         Stmt::Insert { table, .. } | Stmt::Update { table, .. } | Stmt::Delete { table, .. } => {
-            unknown_table(schema, table)
+            unknown_table(scope.target, table)
         }
         _ => None,
     }
@@ -59,28 +61,18 @@ fn unknown_qualifier<'a>(scope: &Scope<'_>, qualifier: Option<&'a Named>) -> Opt
     Some(&qualifier.name)
 }
 
-/// What is unknown of a column: its qualifier, or the column itself.
-fn unknown_in<'a>(scope: &Scope<'_>, column: Mention<'a>) -> Option<&'a Text>
+/// What is unknown of a column that fits so: its qualifier, or the column itself.
+pub(crate) fn unknown_in<'a>(scope: &Scope<'_>, column: Mention<'a>, fit: Fit) -> Option<&'a Text>
+    requires { fit ≡ fit_of (places (aliases scope.now) (column_seen column)) }
     ensures { option_copied result ≡ first (unknown_in (aliases scope.now) (column_seen column.entry)) }
 {
     if let Some(name) = unknown_qualifier(scope, column.qualifier) {
         return Some(name);
     }
-    match resolve(scope, column) {
+    match fit {
         Fit::Nothing => Some(&column.name.name),
         Fit::One(_) | Fit::Several(_) => None,
     }
-}
-
-fn unknown_column<'a>(scope: &Scope<'_>, columns: &[Mention<'a>]) -> Option<&'a Text>
-    ensures { option_copied result ≡ first (unknown_columns (aliases scope.now) (map column_seen columns.now)) }
-{
-    for column in columns {
-        if let Some(name) = unknown_in(scope, *column) {
-            return Some(name);
-        }
-    }
-    None
 }
 
 fn is_column(columns: &[ColumnTree], name: &Text) -> bool
@@ -100,20 +92,21 @@ fn unknown_key<'a>(columns: &[ColumnTree], key: &'a [Named]) -> Option<&'a Text>
     None
 }
 
-/// The first unknown name of a statement with these aliases and columns.
+/// The first unknown name of a statement with these aliases, of whose columns this is the first unknown name.
 pub(crate) fn unknown<'a>(
     scope: &Scope<'_>,
     stmt: &'a Stmt,
-    columns: &[Mention<'a>],
+    in_columns: Option<&'a Text>,
 ) -> Option<&'a Text>
     requires sources { aliases scope.now ≡ sources_of (tables_of scope.now) (views_of scope.now) stmt.now }
-    requires columns { map column_seen columns.now ≡ columns_in stmt.now }
+    requires target { scope.now.target ≡ target_of (tables_of scope.now) (views_of scope.now) stmt.now }
+    requires columns { option_copied in_columns ≡ first (unknown_columns (aliases scope.now) (columns_in stmt.now)) }
     ensures { option_copied result ≡ first (unknown (tables_of scope.now) (views_of scope.now) stmt.now) }
 {
-    if let Some(name) = unknown_rel(scope.schema, stmt) {
+    if let Some(name) = unknown_rel(scope, stmt) {
         return Some(name);
     }
-    if let Some(name) = unknown_column(scope, columns) {
+    if let Some(name) = in_columns {
         return Some(name);
     }
     match stmt {
