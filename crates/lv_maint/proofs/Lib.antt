@@ -3,4 +3,3 @@ pub mod Balance
 pub mod Terms
 pub mod NetOfTerms
 pub mod Turns
-pub mod SameLists

@@ -21,13 +21,6 @@ pub record Outcome : Type 0 where
   pub input : Input
   pub signed : List SignedRow
 
--- two views ask the same: of the same tables, by the same condition, with the same list and groups
-pub record AskTheSame (a b : ViewDef) : Type 0 where
-  pub tables : a.tables ≡ b.tables
-  pub cond : a.cond ≡ b.cond
-  pub items : a.items ≡ b.items
-  pub groups : a.groups ≡ b.groups
-
 -- the view is bound over these tables, and each part is of its alias's table
 pub record FitOver (tables : List TableDef) (views : List ViewDef) (def : ViewDef) (parts : List Part) : Type 0 where
   pub bound : IsBoundView tables views def

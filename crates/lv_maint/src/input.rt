@@ -2,8 +2,7 @@
 ghost use Rattle.std.specs.Prelude.{◌≡◌, ◌↔◌, IsTrue};
 ghost use Rattle.lv_maint.specs.Inputs.{AreOfTables, Fit};
 
-use crate::same::{SameValue, are_same};
-use lv_schema::{Part, Parts, ViewDef};
+use lv_schema::{Part, Parts, SameValue, ViewDef, are_same};
 use std::marker::Model;
 
 /// A view, the commits that a step of it goes from and to, and for each alias the rows of its table before the step and

@@ -4,7 +4,6 @@
 mod entries;
 mod input;
 mod outcome;
-mod same;
 mod sides;
 mod summing;
 

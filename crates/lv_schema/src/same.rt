@@ -1,20 +1,22 @@
-//! Whether two inputs of steps are the same, compared where they lie.
+//! Whether two definitions of views, or two parts of steps, are the same, compared where they lie.
 ghost use Rattle.std.specs.Prelude.{◌≡◌, ◌≢◌};
 ghost use Rattle.std.specs.Bool.{MatchBool};
-ghost use Rattle.lv_maint.specs.Inputs.{AskTheSame};
+ghost use Rattle.lv_schema.specs.Jobs.{AskTheSame};
 
-use lv_schema::{Col, Cond, Item, Operand, Part, ViewDef};
+use crate::cond::{Col, Cond, Operand};
+use crate::part::Part;
+use crate::view::{Item, ViewDef};
 use lv_values::Rows;
 
 /// What can be told apart.
-pub(crate) trait SameValue {
+pub trait SameValue {
     /// Whether it is the same value. Cost: linear in what is the same.
     fn is_same(&self, other: &Self) -> bool
         ensures { MatchBool result (self.now ≡ other.now) (self.now ≢ other.now) };
 }
 
-/// Whether two lists are the same. It stops at the first difference.
-pub(crate) fn are_same<T: SameValue>(a: &[T], b: &[T]) -> bool
+/// Whether two lists are the same. Cost: linear in what is the same, up to the first difference.
+pub fn are_same<T: SameValue>(a: &[T], b: &[T]) -> bool
     ensures { MatchBool result (a.now ≡ b.now) (a.now ≢ b.now) }
 {
     if a.len() != b.len() {
