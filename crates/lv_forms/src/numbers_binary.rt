@@ -23,10 +23,13 @@ impl Form for Binary32 {
 
     fn print(&self, value: &u32, out: &mut Bytes) -> Result<(), NoMemory> {
         let value = *value;
-        out.push((value % 256) as u8)?;
-        out.push((value / 256 % 256) as u8)?;
-        out.push((value / 256 / 256 % 256) as u8)?;
-        out.push((value / 256 / 256 / 256 % 256) as u8)?;
+        let bytes = [
+            (value % 256) as u8,
+            (value / 256 % 256) as u8,
+            (value / 256 / 256 % 256) as u8,
+            (value / 256 / 256 / 256 % 256) as u8,
+        ];
+        out.extend_from_slice(&bytes)?;
         Ok(())
     }
 
@@ -76,21 +79,24 @@ impl Form for Binary64 {
 
     fn print(&self, value: &u64, out: &mut Bytes) -> Result<(), NoMemory> {
         let n0 = *value;
-        out.push((n0 % 256) as u8)?;
         let n1 = n0 / 256;
-        out.push((n1 % 256) as u8)?;
         let n2 = n1 / 256;
-        out.push((n2 % 256) as u8)?;
         let n3 = n2 / 256;
-        out.push((n3 % 256) as u8)?;
         let n4 = n3 / 256;
-        out.push((n4 % 256) as u8)?;
         let n5 = n4 / 256;
-        out.push((n5 % 256) as u8)?;
         let n6 = n5 / 256;
-        out.push((n6 % 256) as u8)?;
         let n7 = n6 / 256;
-        out.push((n7 % 256) as u8)?;
+        let bytes = [
+            (n0 % 256) as u8,
+            (n1 % 256) as u8,
+            (n2 % 256) as u8,
+            (n3 % 256) as u8,
+            (n4 % 256) as u8,
+            (n5 % 256) as u8,
+            (n6 % 256) as u8,
+            (n7 % 256) as u8,
+        ];
+        out.extend_from_slice(&bytes)?;
         Ok(())
     }
 
