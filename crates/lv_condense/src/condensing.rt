@@ -27,7 +27,7 @@ fn touches_of<'a>(
 ) -> Result<Vec<Touch<'a>>, NoMemory>
     ensures { IfOk result (λ touches. touches.items ≡ touched table.now.key table.now.no (map (λ (e : DeltaEntry). e.action) entries.now)) }
 {
-    let mut touches = Vec::new(alloc);
+    let mut touches = Vec::with_capacity(alloc, entries.len())?;
     for entry in entries {
         if table.no == entry.action.table {
             touches.push(Touch {
@@ -100,6 +100,13 @@ fn push_run(alloc: Global, run: &[Touch<'_>], net: &mut Net) -> Result<(), NoMem
     push_gained(alloc, first.action, last.action, &mut net.plus)
 }
 
+/// No rows, with room for so many.
+fn no_rows(alloc: Global, room: usize) -> Result<Rows, NoMemory>
+    ensures { IfOk result (λ rows. rows ≡ []) }
+{
+    Ok(Rows::from_vec(Vec::with_capacity(alloc, room)?))
+}
+
 /// What touches that ascend by their keys come to, key by key.
 fn gather(alloc: Global, touches: &[Touch<'_>]) -> Result<Net, NoMemory>
     requires { IsSorted touch_cmp touches.now }
@@ -107,8 +114,8 @@ fn gather(alloc: Global, touches: &[Touch<'_>]) -> Result<Net, NoMemory>
     ensures gained { IfOk result (λ net. net.plus ≡ by_key gained_in touches.now) }
 {
     let mut net = Net {
-        minus: Rows::new(alloc),
-        plus: Rows::new(alloc),
+        minus: no_rows(alloc, touches.len())?,
+        plus: no_rows(alloc, touches.len())?,
     };
     let mut at = 0;
     while at < touches.len() {
@@ -128,7 +135,7 @@ fn touches_in<'a>(
 ) -> Result<Vec<Touch<'a>>, NoMemory>
     ensures { IfOk result (λ touches. touches.items ≡ touched table.now.key table.now.no actions.now) }
 {
-    let mut touches = Vec::new(alloc);
+    let mut touches = Vec::with_capacity(alloc, actions.len())?;
     for action in actions {
         if table.no == action.table {
             touches.push(Touch {

@@ -45,13 +45,16 @@ impl From<Failed> for Stop {
     }
 }
 
+/// How many bytes the text of most entries has at most.
+const SHORT: usize = 64;
+
 /// The text of the last entry, none where there is no entry.
 fn last_text<D: Disk>(alloc: Global, core: &Core<D>, names: &Names) -> Result<Bytes, NoMemory>
     requires { names.now ≡ names_now core.now.run }
     ensures { (es : List AnEntry) (e : AnEntry) → core.now.run.entries ≡ es ++ e ∷ [] → IfOk result (λ text. text ≡ entry_text (names_now core.now.run) e) }
 {
     core.known();
-    let mut text = Bytes::new(alloc);
+    let mut text = Bytes::from_vec(Vec::with_capacity(alloc, SHORT)?);
     if let Some(entry) = core.entries().last() {
         print_entry(names, entry, &mut text)?;
     }

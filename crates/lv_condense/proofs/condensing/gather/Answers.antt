@@ -10,8 +10,8 @@ use Rattle.lv_condense.proofs.condensing.gather.Goals as goal
 pub loop-at-init : goal.loop-at-init
 loop-at-init c = record {
   within = omega arith;
-  lost = ap (λ (l : List (List Value)). l ++ by_key lost_in c.args.touches.now) c.new.ensures;
-  gained = ap (λ (l : List (List Value)). l ++ by_key gained_in c.args.touches.now) c.new-2.ensures;
+  lost = ap (λ (l : List (List Value)). l ++ by_key lost_in c.args.touches.now) c.in_ok-no_rows.ensures;
+  gained = ap (λ (l : List (List Value)). l ++ by_key gained_in c.args.touches.now) c.in_ok-no_rows-2.ensures;
   rises = rises_from_sorted c.args.touches.now c.requires;
 }
 
