@@ -38,6 +38,7 @@ use lv_store::{Answer, Cleaned, Installed, Settings, Store};
 use lv_values::{Items, NoMemory, Steps};
 use std::alloc::Global;
 use std::marker::Model;
+use std::mem::forget;
 use std::sync::ledger::Ledger;
 
 /// Tables with their committed states, live transactions, and views whose rows are kept, over a journal on a disk. Sessions
@@ -140,11 +141,13 @@ impl<D: Disk> Engine<D> {
         self.journal.faults()
     }
 
-    /// The disk.
+    /// The disk, at the end of a run. The tables and views stay in memory, for the end of the process to take: giving back
+    /// millions of rows one by one is time in which nothing is answered. Cost: constant.
     pub fn into_disk(self) -> D
         ensures { result ≡ self.journal.disk }
     {
-        let Engine { journal, .. } = self;
+        let Engine { journal, store, .. } = self;
+        forget(store);
         journal.into_disk()
     }
 
