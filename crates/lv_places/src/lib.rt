@@ -3,6 +3,7 @@
 
 mod block;
 mod blocks;
+mod held;
 mod places;
 
 pub use places::Places;

@@ -2,37 +2,35 @@
 ghost use Rattle.std.specs.Prelude.{◌≡◌, ◌≤◌, ◌<◌, [], length, slice_index_or, slice_set, take, OnOk};
 ghost use Rattle.std.specs.List.{insert, remove};
 
-use crate::block::{Block, SIZE};
-use crate::blocks::{add_blocks, insert_number, number_at, remove_number, set_number};
+use crate::block::Block;
+use crate::held::{held_at, insert_held, remove_held, reserve_held, set_held};
 use lv_values::NoMemory;
 use std::alloc::Global;
 use std::marker::Model;
 
-/// There is no memory for more numbers than these.
-const MOST: usize = (1 << 63) - 1;
-
-/// Numbers in an order. They lie in blocks of 1,024, each a ring, and each full before the next one has a number. Where
-/// one comes or goes each block behind passes one number on, and the rest stay where they are. Contracts see the
-/// numbers, and for how many in all there is room.
+/// Numbers in an order. A few lie in a plain list, which takes little memory. More than a few lie in blocks of 1,024,
+/// each a ring, and each full before the next one has a number. Where one comes or goes each block behind passes one
+/// number on, and the rest stay where they are. Once there are blocks, the plain list is empty and stays so.
+/// Contracts see the numbers, and for how many in all there is room.
 #[derive(Drop)]
 pub struct Places {
+    few: Vec<u32>,
     blocks: Vec<Block>,
     len: usize,
     alloc: Global,
 }
 
 impl Model for Places {
-    ghost use Rattle.std.specs.Prelude.{◌≡◌, ◌≤◌, ◌*◌, ◌^◌, length};
-    ghost use Rattle.std.specs.List.{concat};
-    ghost use Rattle.lv_places.specs.Blocks.{ArePacked, Roomed, block_size, roomed_code};
+    ghost use Rattle.std.specs.Vec.{vec_capacity};
+    ghost use Rattle.lv_places.specs.Blocks.{AreHeld, Roomed, held, held_room, roomed_code};
 
     ghost Value = { Roomed };
 
     ghost coded = { roomed_code };
 
-    ghost view = { λ p. record { list = concat p.blocks.items; room = block_size * length p.blocks.items } };
+    ghost view = { λ p. record { list = held p.few.items p.blocks.items; room = held_room (vec_capacity p.few) p.blocks.items } };
 
-    ghost invariant = { λ p. (p.len ≡ length (concat p.blocks.items)) × ArePacked p.len p.blocks.items × (length p.blocks.items ≤ 2 ^ 53) };
+    ghost invariant = { λ p. AreHeld p.len p.few.items p.blocks.items };
 }
 
 impl Places {
@@ -41,6 +39,7 @@ impl Places {
         ensures { result.list ≡ [] }
     {
         Places {
+            few: Vec::new(alloc),
             blocks: Vec::new(alloc),
             len: 0,
             alloc,
@@ -59,20 +58,17 @@ impl Places {
         requires { at < length self.now.list }
         ensures { result ≡ slice_index_or self.now.list at result }
     {
-        number_at(self.len, self.blocks.as_slice(), at)
+        held_at(self.len, self.few.as_slice(), self.blocks.as_slice(), at)
     }
 
     /// Makes room for so many numbers in all. The numbers stay as they were, and the room never shrinks. Cost: constant
-    /// for each 1,024.
+    /// for each 1,024; for a few numbers as of `Vec::reserve`, and once a move of the few into the first block.
     pub fn reserve(&mut self, room: usize) -> Result<(), NoMemory>
         ensures same { self.new.list ≡ self.old.list }
         ensures room { OnOk result (room ≤ self.new.room) }
         ensures kept { self.old.room ≤ self.new.room }
     {
-        if room > MOST {
-            return Err(NoMemory);
-        }
-        add_blocks(self.alloc, room / SIZE + 1, &mut self.blocks)
+        reserve_held(self.alloc, room, &mut self.few, &mut self.blocks)
     }
 
     /// Puts a number at a place. It takes no memory. Cost: a move of at most 512 numbers within their block, and of one
@@ -83,7 +79,7 @@ impl Places {
         ensures added { self.new.list ≡ insert self.old.list at number }
         ensures room { self.new.room ≡ self.old.room }
     {
-        insert_number(self.len, &mut self.blocks, at, number);
+        insert_held(self.len, &mut self.few, &mut self.blocks, at, number);
         self.len += 1;
     }
 
@@ -93,7 +89,7 @@ impl Places {
         ensures rest { self.new.list ≡ remove self.old.list at }
         ensures room { self.new.room ≡ self.old.room }
     {
-        remove_number(self.len, &mut self.blocks, at);
+        remove_held(self.len, &mut self.few, &mut self.blocks, at);
         self.len -= 1;
     }
 
@@ -103,7 +99,7 @@ impl Places {
         ensures replaced { self.new.list ≡ slice_set self.old.list at number }
         ensures room { self.new.room ≡ self.old.room }
     {
-        set_number(self.len, &mut self.blocks, at, number);
+        set_held(self.len, &mut self.few, &mut self.blocks, at, number);
     }
 
     /// Keeps the first so many numbers. Cost: constant for each that goes.
