@@ -1,8 +1,7 @@
 -- A condition bounds what one of its parts bounds, where all of them have to hold.
-use Rattle.std.proofs.Common.{◌≡◌, ℕ, Bool, true, false, cond, List, [], ◌∷◌, map, refl, sym, ap, ap₂, ◌∙◌, subst}
-use Rattle.std.specs.Prelude.{◌||◌, MatchOption, Option, Some, None}
+use Rattle.std.proofs.Common.{◌≡◌, ℕ, Bool, true, false, cond, List, [], ◌∷◌, refl, sym, ap, ap₂, ◌∙◌, subst}
+use Rattle.std.specs.Prelude.{MatchOption, Option, Some, None}
 use denote.Ref.{Bor}
-use Rattle.std.specs.List.{list_any}
 use Rattle.std.specs.Ordering.{is_gt, is_lt, ordering_reverse}
 use Rattle.std.specs.declared.cmp.Ordering.{Ordering}
 use Rattle.std.specs.declared.cmp.Ordering.TheVariants.{Less, Equal, Greater}
@@ -23,7 +22,7 @@ use Rattle.lv_schema.specs.Tuples.{Tuple}
 use Rattle.lv_schema.proofs.TruthLaws.{truth-And, truth-Cmp}
 use Rattle.lv_effect.specs.declared.bounding.Side.{Side}
 use Rattle.lv_effect.specs.declared.bounding.Side.TheVariants.{Low, High}
-use Rattle.lv_effect.specs.Bounds.{Bounds, IsWithin, PartsBound, SidesBound, bound_step, bounds, other_side, says_bound}
+use Rattle.lv_effect.specs.Bounds.{Bounds, IsWithin, PartsBound, SidesBound, bound_in, bound_of, bound_step, bounds, other_side}
 use Rattle.lv_effect.specs.FixedKeys.{literal_value}
 use Rattle.lv_effect.proofs.FixedKeys.{all_yes}
 
@@ -95,9 +94,5 @@ all_parts_bound side column seen parts c (Some literal) same is h =
     (parts_bound side column parts (literal_value literal.now) (subst (λ ps. PartsBound side column ps (literal_value literal.now)) same h))
 
 -- ---- what a condition says
-any_said : (side : Side) (column : ℕ) (parts : List Cond) → list_any (λ b. b) (map (λ c. says_bound side c column) parts) ≡ list_any (λ part. says_bound side part column) parts
-any_said side column [] = refl
-any_said side column (part ∷ parts) = ap (λ b. says_bound side part column || b) (any_said side column parts)
-
-pub says-And : (side : Side) (column : ℕ) (parts : List Cond) → says_bound side (And parts) column ≡ list_any (λ part. says_bound side part column) parts
-says-And side column parts = ap (λ c. says_bound side c column) (sym (rolls-And parts)) ∙ fold-roll-Cond Bool (bound_step side column) (Cond-F.And parts) ∙ any_said side column parts
+pub bound-And : (side : Side) (column : ℕ) (parts : List Cond) → bound_of side (And parts) column ≡ bound_in side parts column
+bound-And side column parts = ap (λ c. bound_of side c column) (sym (rolls-And parts)) ∙ fold-roll-Cond (Option Value) (bound_step side column) (Cond-F.And parts)

@@ -1,6 +1,7 @@
 -- What a condition bounds: a column that has no value below, or none above, another in any row that it keeps.
-use Rattle.std.specs.Prelude.{◌≡◌, ℕ, Bool, true, false, ◌&&◌, ◌||◌, List, [], ◌∷◌}
-use Rattle.std.specs.List.{list_all, list_any}
+use Rattle.std.specs.Prelude.{◌≡◌, ℕ, Bool, true, false, cond, ◌&&◌, List, [], ◌∷◌, map, Option, Some, None, option_map}
+use Rattle.std.specs.Option.{option_or}
+use Rattle.std.specs.List.{list_all}
 use Rattle.std.specs.Ordering.{is_gt, is_lt}
 use Rattle.lv_values.specs.declared.value.Value.{Value}
 use Rattle.lv_values.specs.Order.{value_cmp}
@@ -12,10 +13,10 @@ use Rattle.lv_schema.specs.declared.cond.Op.{Op}
 use Rattle.lv_schema.specs.declared.cond.Op.TheVariants.{Eq, Ne, Lt, Le, Gt, Ge}
 use Rattle.lv_schema.specs.declared.cond.Operand.{Operand}
 use Rattle.lv_schema.specs.Truth.{holds, op_holds, operand_value}
-use Rattle.lv_versions.specs.Versions.{IsHigh, IsLow}
+use Rattle.lv_versions.specs.Versions.{IsHigh, IsLow, rows_within}
 use Rattle.lv_effect.specs.declared.bounding.Side.{Side}
 use Rattle.lv_effect.specs.declared.bounding.Side.TheVariants.{Low, High}
-use Rattle.lv_effect.specs.FixedKeys.{is_column, is_literal}
+use Rattle.lv_effect.specs.FixedKeys.{is_column, is_literal, literal_value}
 
 -- a value is no less than a bound, or no greater
 abbrev pub IsWithin : Side → Value → Value → Type 0
@@ -54,26 +55,43 @@ bounds High Le = true
 bounds High Gt = false
 bounds High Ge = false
 
--- whether a comparison bounds the column by a literal
-abbrev pub bounds_sides : Side → ℕ → Op → Operand → Operand → Bool
-bounds_sides side column op left right = (is_column column left && is_literal right && bounds side op) || (is_column column right && is_literal left && bounds (other_side side) op)
+-- the value by which a comparison bounds the column: of the column on the left the literal on the right, or else of the
+-- column on the right the literal on the left
+abbrev pub bound_of_sides : Side → ℕ → Op → Operand → Operand → Option Value
+bound_of_sides side column op left right =
+    cond (is_column column left && is_literal right && bounds side op) (Some (literal_value right))
+    (cond (is_column column right && is_literal left && bounds (other_side side) op) (Some (literal_value left)) None)
 
--- one node, with what each part says in its place
-abbrev pub bound_step : Side → ℕ → Cond-F Bool → Bool
-bound_step side column True = false
-bound_step side column (Cmp op left right) = bounds_sides side column op left right
-bound_step side column (And parts) = list_any (λ b. b) parts
-bound_step side column (Or parts) = false
-bound_step side column (Not part) = false
+-- the first value that there is
+abbrev pub first_there : List (Option Value) → Option Value
+first_there [] = None
+first_there (found ∷ more) = option_or found (first_there more)
 
--- whether the condition bounds the column by a literal, by itself or by one of the parts that all have to hold
-abbrev pub says_bound : Side → Cond → ℕ → Bool
-says_bound side c column = fold-Cond Bool (bound_step side column) c
+-- one node, with the value that each part gives in its place
+abbrev pub bound_step : Side → ℕ → Cond-F (Option Value) → Option Value
+bound_step side column True = None
+bound_step side column (Cmp op left right) = bound_of_sides side column op left right
+bound_step side column (And parts) = first_there parts
+bound_step side column (Or parts) = None
+bound_step side column (Not part) = None
 
--- whether it bounds the first column of a key
-abbrev pub says_first : Side → Cond → List ℕ → Bool
-says_first side c [] = false
-says_first side c (first ∷ key) = says_bound side c first
+-- the value by which a condition bounds the column: its own, or that of the first of the parts that all have to hold which
+-- gives one
+abbrev pub bound_of : Side → Cond → ℕ → Option Value
+bound_of side c column = fold-Cond (Option Value) (bound_step side column) c
+
+-- and that of the first part that gives one
+abbrev pub bound_in : Side → List Cond → ℕ → Option Value
+bound_in side parts column = first_there (map (λ part. bound_of side part column) parts)
+
+-- the value by which it bounds the first column of a key, alone in a row
+abbrev pub first_bound_of : Side → Cond → List ℕ → Option (List Value)
+first_bound_of side c [] = None
+first_bound_of side c (first ∷ key) = option_map (λ value. value ∷ []) (bound_of side c first)
+
+-- the rows whose first key column is between the values by which the condition bounds it
+abbrev pub rows_bounded : Cond → List ℕ → List (List Value) → List (List Value)
+rows_bounded c key rows = rows_within key (first_bound_of Low c key) (first_bound_of High c key) rows
 
 -- first key values that bound those of each row that the condition keeps
 abbrev pub FirstBound : Side → Cond → List ℕ → List Value → Type 0

@@ -1,7 +1,6 @@
 //! Conditions that bound a column.
-ghost use Rattle.std.specs.Prelude.{◌≡◌, IfOk, MatchOption, is_some};
-ghost use Rattle.std.specs.List.{list_any};
-ghost use Rattle.lv_effect.specs.Bounds.{Bounds, PartsBound, SidesBound, bounds, bounds_sides, other_side, says_bound};
+ghost use Rattle.std.specs.Prelude.{◌≡◌, IfOk, MatchOption, option_map};
+ghost use Rattle.lv_effect.specs.Bounds.{Bounds, PartsBound, SidesBound, bound_in, bound_of, bound_of_sides, bounds, other_side};
 ghost use Rattle.lv_effect.specs.FixedKeys.{literal_value};
 
 use crate::fixing::{is_column, is_literal, value_of};
@@ -46,7 +45,7 @@ fn bounded_with<'a>(
     left: &'a Operand,
     right: &'a Operand,
 ) -> Option<&'a Operand>
-    ensures found { is_some result ≡ bounds_sides side column op left.now right.now }
+    ensures found { option_map (λ it. literal_value it.now) result ≡ bound_of_sides side column op left.now right.now }
     ensures bounds { MatchOption result (Unit {0}) (λ it. SidesBound side column op left.now right.now (literal_value it.now)) }
 {
     if is_column(left, column) && is_literal(right) && bounds(side, op) {
@@ -58,10 +57,10 @@ fn bounded_with<'a>(
     }
 }
 
-/// The literal that bounds a column in every row that all parts keep, where one of them says so.
+/// The literal that bounds a column in every row that all parts keep, of the first that says so.
 #[cycle(bounded)]
 fn bounded_by_parts(column: u8, side: Side, parts: &[Cond]) -> Option<&Operand>
-    ensures found { is_some result ≡ list_any (λ part. says_bound side part column) parts.now }
+    ensures found { option_map (λ it. literal_value it.now) result ≡ bound_in side parts.now column }
     ensures bounds { MatchOption result (Unit {0}) (λ it. PartsBound side column parts.now (literal_value it.now)) }
 {
     for part in parts {
@@ -72,10 +71,11 @@ fn bounded_by_parts(column: u8, side: Side, parts: &[Cond]) -> Option<&Operand>
     None
 }
 
-/// The literal that bounds a column in every row that the condition keeps, where one of the parts that all hold says so.
+/// The literal that bounds a column in every row that the condition keeps, of the first of the parts that all hold which
+/// says so.
 #[cycle(bounded)]
 fn bounded_by(column: u8, side: Side, cond: &Cond) -> Option<&Operand>
-    ensures found { is_some result ≡ says_bound side cond.now column }
+    ensures found { option_map (λ it. literal_value it.now) result ≡ bound_of side cond.now column }
     ensures bounds { MatchOption result (Unit {0}) (λ it. Bounds side column cond.now (literal_value it.now)) }
 {
     match cond {
@@ -85,7 +85,8 @@ fn bounded_by(column: u8, side: Side, cond: &Cond) -> Option<&Operand>
     }
 }
 
-/// A value that bounds a column in every row that the condition keeps, where one of the parts that all have to hold says so.
+/// The value that bounds a column in every row that the condition keeps, of the first of the parts that all have to hold
+/// which says so.
 /// Cost: a pass over the condition.
 pub fn bound_value(
     alloc: Global,
@@ -93,7 +94,7 @@ pub fn bound_value(
     side: Side,
     cond: &Cond,
 ) -> Result<Option<Value>, NoMemory>
-    ensures found { IfOk result (λ found. is_some found ≡ says_bound side cond.now column) }
+    ensures found { IfOk result (λ found. found ≡ bound_of side cond.now column) }
     ensures bounds { IfOk result (λ found. MatchOption found (Unit {0}) (Bounds side column cond.now)) }
 {
     let Some(literal) = bounded_by(column, side, cond) else {

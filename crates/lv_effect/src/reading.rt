@@ -1,5 +1,5 @@
 //! The rows that a change reads: those of a snapshot with a transaction's own writes over them.
-ghost use Rattle.std.specs.Prelude.{◌≡◌, ◌≤◌, ◌+◌, true, false, length, List, Some, None, IfOk, MatchOption, is_some};
+ghost use Rattle.std.specs.Prelude.{◌≡◌, ◌≤◌, ◌+◌, true, false, length, List, Some, None, IfOk, OnOk, MatchOption};
 ghost use Rattle.std.specs.Option.{option_to_list};
 ghost use Rattle.lv_values.specs.Rows.{key_cmp};
 ghost use Rattle.lv_schema.specs.Effects.{matching};
@@ -8,7 +8,7 @@ ghost use Rattle.lv_schema.specs.Once.{Ascends};
 ghost use Rattle.lv_schema.specs.declared.change.Set.{Set as ASet};
 ghost use Rattle.lv_overlay.specs.Puts.{StandUnder};
 ghost use Rattle.lv_versions.specs.Versions.{state_at};
-ghost use Rattle.lv_effect.specs.Bounds.{FirstBound, says_first};
+ghost use Rattle.lv_effect.specs.Bounds.{FirstBound, first_bound_of, rows_bounded};
 ghost use Rattle.lv_effect.specs.FixedKeys.{says_key};
 ghost use Rattle.lv_effect.specs.Seen.{rows_seen};
 ghost use Rattle.lv_effect.specs.Sums.{SumsFit};
@@ -95,7 +95,7 @@ fn first_bound(
     side: Side,
     cond: &Cond,
 ) -> Result<Option<Row>, NoMemory>
-    ensures found { IfOk result (λ found. is_some found ≡ says_first side cond.now table.now.key) }
+    ensures found { IfOk result (λ found. found ≡ first_bound_of side cond.now table.now.key) }
     ensures bounds { IfOk result (λ found. MatchOption found (Unit {0}) (FirstBound side cond.now table.now.key)) }
 {
     let [first, ..] = table.key.as_slice() else {
@@ -111,8 +111,9 @@ fn first_bound(
 
 /// Rows of a table after commit n with a transaction's own writes over them, of which a condition keeps the same as of
 /// all: those below that it keeps, with the writes over them.
-/// Cost: a pass over the versions, or those between the values by which the condition bounds the first key column, which two
-/// binary searches find, a copy of each row that the condition keeps, and a pass over these and the writes of the table.
+/// Cost: two binary searches and the rows whose first key column is between the values by which the condition bounds it, on
+/// each side the first that it says, or all where it says none; a copy of each row that the condition keeps, and a pass over
+/// these and the writes of the table.
 fn rows_kept<L: Ledger>(
     alloc: Global,
     table: &TableDef,
@@ -127,7 +128,9 @@ fn rows_kept<L: Ledger>(
     requires own { StandUnder table.now.key table.now.no own.now.list }
     ensures all { IfOk result (λ tried. matching cond.now tried ≡ matching cond.now (rows_seen table.now base.now.versions n own.now.list)) }
     ensures sums { (sets : List ASet) → SumsFit sets (rows_seen table.now base.now.versions n own.now.list) → IfOk result (λ tried. SumsFit sets tried) }
-    ensures cost { steps.new ≤ steps.old + length (state_at n base.now.versions) }
+    ensures cost { steps.new ≤ steps.old + length (rows_bounded cond.now table.now.key (state_at n base.now.versions)) }
+    ensures exact { OnOk result (steps.new ≡ steps.old + length (rows_bounded cond.now table.now.key (state_at n base.now.versions))) }
+    ensures most { steps.new ≤ steps.old + length (state_at n base.now.versions) }
 {
     writes_give_own_rows();
     let low = first_bound(alloc, table, Side::Low, cond)?;
@@ -146,9 +149,9 @@ fn rows_kept<L: Ledger>(
 /// Rows of a table after commit n with a transaction's own writes over them, of which a condition keeps the same as of
 /// all: the one with a key, where the condition fixes every key column, or else those below that the condition keeps, with
 /// the writes over them. Want of memory is the only error.
-/// Cost: that of finding the key in the condition and two binary searches; or else a pass over the versions, or those
-/// between the values by which the condition bounds the first key column, a copy of each row that the condition keeps, and a
-/// pass over these and the writes of the table.
+/// Cost: that of finding the key in the condition and two binary searches; or else two binary searches and the rows whose
+/// first key column is between the values by which the condition bounds it, on each side the first that it says, or all
+/// where it says none; a copy of each row that the condition keeps, and a pass over these and the writes of the table.
 pub fn rows_to_try<L: Ledger>(
     alloc: Global,
     table: &TableDef,
@@ -164,6 +167,8 @@ pub fn rows_to_try<L: Ledger>(
     ensures all { IfOk result (λ tried. matching cond.now tried ≡ matching cond.now (rows_seen table.now base.now.versions n own.now.list)) }
     ensures sums { (sets : List ASet) → SumsFit sets (rows_seen table.now base.now.versions n own.now.list) → IfOk result (λ tried. SumsFit sets tried) }
     ensures cost { says_key cond.now table.now.key ≡ false → steps.new ≤ steps.old + length (state_at n base.now.versions) }
+    ensures within { says_key cond.now table.now.key ≡ false → steps.new ≤ steps.old + length (rows_bounded cond.now table.now.key (state_at n base.now.versions)) }
+    ensures exact { says_key cond.now table.now.key ≡ false → OnOk result (steps.new ≡ steps.old + length (rows_bounded cond.now table.now.key (state_at n base.now.versions))) }
     ensures few { says_key cond.now table.now.key ≡ true → steps.new ≤ steps.old + 1 }
 {
     writes_give_own_rows();

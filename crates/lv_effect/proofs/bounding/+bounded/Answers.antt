@@ -1,7 +1,6 @@
 use Rattle.std.proofs.Common.{sym, ap, ◌∙◌}
-use Rattle.std.specs.List.{list_any}
-use Rattle.lv_effect.specs.Bounds.{says_bound}
-use Rattle.lv_effect.proofs.Bounded.{all_cmp_bounds, all_parts_bound, says-And}
+use Rattle.lv_effect.specs.Bounds.{bound_in, bound_of}
+use Rattle.lv_effect.proofs.Bounded.{all_cmp_bounds, all_parts_bound, bound-And}
 use Rattle.lv_effect.proofs.bounding.+bounded.Goals as goal
 
 pub bounded_by-returns-in-Cmp-clause-bounds : goal.bounded_by-returns-in-Cmp-clause-bounds
@@ -17,6 +16,6 @@ bounded_by-returns-in-And-clause-found t c =
     let column = c.args.column in
     let side = c.args.side in
     c.bounded_by_parts.ensures.found
-    ∙ ap (list_any (λ part. says_bound side part column)) c.as_slice.ensures
-    ∙ sym (says-And side column c.in-And.parts)
-    ∙ ap (λ cond. says_bound side cond column) (sym c.in-And.is)
+    ∙ ap (λ parts. bound_in side parts column) c.as_slice.ensures
+    ∙ sym (bound-And side column c.in-And.parts)
+    ∙ ap (λ cond. bound_of side cond column) (sym c.in-And.is)
