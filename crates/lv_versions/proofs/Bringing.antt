@@ -1,6 +1,6 @@
 -- What a commit does with the rows that it brings.
 use Rattle.std.proofs.Common.{◌≡◌, ℕ, ◌<◌, ◌≤◌, Bool, true, false, cond, List, [], ◌∷◌, ◌++◌, map, filter, Option, Some, None, refl, sym, ap, ap₂, ◌∙◌, subst, arith}
-use Rattle.std.specs.Prelude.{◌&&◌, ◌||◌, nat_le}
+use Rattle.std.specs.Prelude.{◌&&◌, ◌||◌, nat_le, nat_lt, not}
 use Rattle.std.specs.List.{AllByRecursion}
 use Rattle.std.specs.List.Sorted.{IsPermutation}
 use Rattle.std.proofs.lemmas.List.{append-nil}
@@ -14,13 +14,15 @@ use Rattle.lv_values.specs.declared.value.Value.{Value}
 use Rattle.lv_values.specs.Ascending.{placed}
 use Rattle.lv_values.specs.Order.{row_eq}
 use Rattle.lv_values.specs.Rows.{key_cmp, values_at}
-use Rattle.lv_schema.specs.Effects.{has_key}
+use Rattle.lv_schema.specs.Effects.{has_key, same_key}
 use Rattle.lv_schema.specs.Nets.{has_row}
-use Rattle.lv_schema.proofs.Apart.{all_both}
+use Rattle.lv_schema.proofs.Apart.{all_both, all_weaker}
 use Rattle.lv_schema.proofs.NetsLead.{key_total}
 use Rattle.lv_schema.specs.declared.version.RowVersion.{RowVersion}
 use Rattle.lv_shelf.specs.Cuts.{Apart}
-use Rattle.lv_versions.specs.Versions.{AreNew, EndsAtMost, EndsBy, HaveOtherKeys, IsBy, IsNewTo, Precedes, ends_after, is_at, new_by, new_version, precedes_by, state_at, version_cmp, with_versions}
+use Rattle.lv_versions.specs.Versions.{AreNew, EndsAtMost, EndsBy, HaveOtherKeys, IsBy, IsNewTo, IsOlder, Precedes, closed, ends_after, is_at, new_by, new_version, precedes_by, state_at, version_cmp, with_versions}
+use Rattle.lv_schema.specs.Versions.{end_by}
+use Rattle.lv_versions.proofs.Ending.{Closed, all_mapped, all_unmapped}
 use Rattle.lv_versions.proofs.Standing.{all_placed, precedes_less, version_total}
 
 abbrev Placed : List ℕ → ℕ → List Value → List RowVersion → List RowVersion
@@ -112,6 +114,66 @@ rest_new ps number rows row vs n =
           (all_last (λ r. AllByRecursion (IsNewTo ps number r) vs) rows row n.new).0;
     }
 
+-- ---- the versions of a commit's keys end
+-- a version that the commit brings does not
+pub closed_placed : (ps : List ℕ) (number : ℕ) (rows : List (List Value)) (row : List Value) (vs : List RowVersion) → map (closed ps number rows) (Placed ps number row vs) ≡ Placed ps number row (map (closed ps number rows) vs)
+closed_placed ps number rows row vs = go vs
+  where
+    x : RowVersion
+    x = new_version number row
+
+    own : closed ps number rows (new_version number row) ≡ new_version number row
+    own =
+        let now : nat_lt number number ≡ false = grind (arith, nat_tests) in
+        ap (λ b. record (new_version number row) { until = end_by None (not (b && has_key ps row rows)) number }) now
+
+    go : (ws : List RowVersion) → map (closed ps number rows) (Placed ps number row ws) ≡ Placed ps number row (map (closed ps number rows) ws)
+    go [] = ap (λ y. y ∷ []) own
+    go (w ∷ ws) = by (is_gt (version_cmp ps (new_version number row) w)) (go ws)
+      where
+        by : (t : Bool) → map (closed ps number rows) (Placed ps number row ws) ≡ Placed ps number row (map (closed ps number rows) ws)
+            → map (closed ps number rows) (cond t (w ∷ Placed ps number row ws) (new_version number row ∷ w ∷ ws))
+            ≡ cond t (closed ps number rows w ∷ Placed ps number row (map (closed ps number rows) ws)) (new_version number row ∷ closed ps number rows w ∷ map (closed ps number rows) ws)
+        by true ih = ap (λ l. closed ps number rows w ∷ l) ih
+        by false ih = ap (λ y. y ∷ closed ps number rows w ∷ map (closed ps number rows) ws) own
+
+-- where a row is new after the ends of all, each version of its key came before
+pub new_older : (ps : List ℕ) (number : ℕ) (row : List Value) (plus minus : List (List Value)) (vs : List RowVersion)
+    → AllByRecursion (IsNewTo ps number row) (map (closed ps number plus) (map (closed ps number minus) (map (Closed ps number row) vs))) → AllByRecursion (IsOlder ps number row) vs
+new_older ps number row plus minus vs a =
+    all_unmapped (Closed ps number row) (IsOlder ps number row) vs
+    (all_unmapped (closed ps number minus) (IsOlder ps number row) (map (Closed ps number row) vs)
+    (all_unmapped (closed ps number plus) (IsOlder ps number row) (map (closed ps number minus) (map (Closed ps number row) vs))
+    (all_weaker (IsNewTo ps number row) (IsOlder ps number row) (λ v n e. came v (subst (λ o. new_by o number v) e n)) (map (closed ps number plus) (map (closed ps number minus) (map (Closed ps number row) vs))) a)))
+  where
+    came : (v : RowVersion) → new_by Equal number v → v.from < number
+    came v n = n.0
+
+-- and then it is new after the end of its own
+pub older_new : (ps : List ℕ) (number : ℕ) (row : List Value) (vs : List RowVersion) → AllByRecursion (IsOlder ps number row) vs → AllByRecursion (λ v. EndsAtMost number v.until) vs → AllByRecursion (IsNewTo ps number row) (map (Closed ps number row) vs)
+older_new ps number row vs a b = all_mapped (Closed ps number row) (IsNewTo ps number row) vs (all_both (IsOlder ps number row) (λ v. EndsAtMost number v.until) (λ v. IsNewTo ps number row (Closed ps number row v)) (λ v o e. one v o e) vs a b)
+  where
+    ended : (u : Option ℕ) (b : Bool) → b ≡ true → EndsAtMost number u → EndsBy number (end_by u (not b) number)
+    ended None true t h = omega arith
+    ended None false t h = cc
+    ended (Some k) b t h = h
+
+    hit : (v : RowVersion) → key_cmp ps row v.row ≡ Equal → v.from < number → (nat_lt v.from number && has_key ps v.row (row ∷ [])) ≡ true
+    hit v e lt =
+        let came : nat_lt v.from number ≡ true = grind (arith, nat_tests) in
+        let back : key_cmp ps v.row row ≡ Equal = (key_total ps).antisymm v.row row ∙ ap ordering_reverse e in
+        let tied : same_key ps v.row row ≡ true = ap is_eq back in
+        ap₂ (λ s t. s && (t || false)) came tied
+
+    one : (v : RowVersion) → IsOlder ps number row v → EndsAtMost number v.until → IsNewTo ps number row (Closed ps number row v)
+    one v o h = at (key_cmp ps row v.row) refl
+      where
+        at : (c : Ordering) → key_cmp ps row v.row ≡ c → new_by c number (Closed ps number row v)
+        at Less e = tt
+        at Equal e = let lt = o e in (lt, ended v.until (nat_lt v.from number && has_key ps v.row (row ∷ [])) (hit v e lt) h)
+        at Greater e = tt
+
+-- ---- a row put in
 pub put_last : (ps : List ℕ) (number : ℕ) (rows : List (List Value)) (row : List Value) (vs : List RowVersion) → with_versions ps number (rows ++ row ∷ []) vs ≡ with_versions ps number rows (Placed ps number row vs)
 put_last ps number [] row vs = refl
 put_last ps number (r ∷ rows) row vs = ap (Placed ps number r) (put_last ps number rows row vs)

@@ -14,20 +14,17 @@ use Rattle.lv_values.specs.Ascending.{placed}
 use Rattle.lv_values.specs.Order.{row_eq}
 use Rattle.lv_values.specs.OrderLaws.{row_total}
 use Rattle.lv_schema.proofs.Apart.{all_append, all_both, all_filter, all_weaker, apart_append, apart_filter}
-use Rattle.lv_schema.specs.Nets.{has_row}
+use Rattle.lv_schema.specs.Effects.{has_key, same_key}
 use Rattle.lv_schema.proofs.NetsLead.{same_row}
 use Rattle.lv_schema.specs.declared.version.RowVersion.{RowVersion}
 use Rattle.lv_shelf.specs.Cuts.{Apart, Falls, IsCut}
 use Rattle.lv_shelf.specs.Shelves.{ChangesOnly, LacksItem}
 use Rattle.lv_shelf.proofs.Among.{all_remove}
 use Rattle.lv_shelf.proofs.Cutting.{all_at, all_kept, got, got_within}
-use Rattle.lv_versions.specs.Versions.{AreEnded, EndsAtMost, EndsNoLater, EndsSooner, HasEnded, IsBy, IsIn, Precedes, comes_before, ended_at, ends_after, is_current, is_over, lost, new_version, version_cmp}
-use Rattle.lv_versions.proofs.Ending.{all_lost, earlier_other, ends_at_most, later_other, lost_current, lost_other}
+use Rattle.lv_versions.specs.Versions.{AreEnded, EndsAtMost, EndsNoLater, EndsSooner, HasEnded, IsBy, IsIn, Precedes, closed, comes_before, ended_at, ends_after, is_current, is_over, new_version, version_cmp}
+use Rattle.lv_versions.proofs.Ending.{Closed, all_mapped, closed_current, closed_other, earlier_other, ends_at_most, later_other}
 use Rattle.lv_versions.proofs.Bringing.{all_last}
 use Rattle.lv_versions.proofs.Standing.{all_placed, falls_from, precedes_less, true_not_false, version_total}
-
-abbrev Lost : ℕ → List Value → RowVersion → RowVersion
-Lost number row = lost number (row ∷ [])
 
 -- ---- versions that are kept
 lacks_filter : (p : RowVersion → Bool) (y : RowVersion) (zs : List RowVersion) → p y ≡ true → LacksItem y (filter p zs) → LacksItem y zs
@@ -99,12 +96,12 @@ back_lacks (z ∷ zs) zero item x e ne l = ((λ same. ne (sym (got (z ∷ zs) ze
 back_lacks (z ∷ zs) (suc at) item x e ne l = (l.0, back_lacks zs at item x e ne l.1)
 
 -- ---- a version that ends
-stays : (number : ℕ) (row : List Value) (v : RowVersion) → HasEnded v → Lost number row v ≡ v
-stays number row v e = lost_other number row v (ap (λ b. b && row_eq v.row row) e)
+stays : (ps : List ℕ) (number : ℕ) (row : List Value) (v : RowVersion) → HasEnded v → Closed ps number row v ≡ v
+stays ps number row v e = closed_other ps number row v (ap (λ b. b && (nat_lt v.from number && same_key ps v.row row)) e)
 
-pub stay : (number : ℕ) (row : List Value) (order : List RowVersion) → AllByRecursion HasEnded order → map (Lost number row) order ≡ order
-stay number row [] a = refl
-stay number row (v ∷ order) a = ap₂ (λ x l. x ∷ l) (stays number row v a.0) (stay number row order a.1)
+pub stay : (ps : List ℕ) (number : ℕ) (row : List Value) (order : List RowVersion) → AllByRecursion HasEnded order → map (Closed ps number row) order ≡ order
+stay ps number row [] a = refl
+stay ps number row (v ∷ order) a = ap₂ (λ x l. x ∷ l) (stays ps number row v a.0) (stay ps number row order a.1)
 
 in_map : (f : RowVersion → RowVersion) (vs : List RowVersion) (at : ℕ) (item : RowVersion) → slice_get vs at ≡ Some item → IsIn (f item) (map f vs)
 in_map f [] zero item e l = cc
@@ -122,10 +119,10 @@ only_all R P f [] at item e only step last a = tt
 only_all R P f (z ∷ zs) zero item e only step last a = (subst P (sym (got (z ∷ zs) zero item item e)) last, all_both (λ y. f y ≡ y) R P step zs only a.1)
 only_all R P f (z ∷ zs) (suc at) item e only step last a = (step z only.0 a.0, only_all R P f zs at item e only.1 step last a.1)
 
-lacks_at : (ps : List ℕ) (number : ℕ) (row : List Value) (vs : List RowVersion) (at : ℕ) (item : RowVersion) → Apart (Precedes ps) vs → slice_get vs at ≡ Some item → is_current row item ≡ true → LacksItem (Lost number row item) vs
+lacks_at : (ps : List ℕ) (number : ℕ) (row : List Value) (vs : List RowVersion) (at : ℕ) (item : RowVersion) → Apart (Precedes ps) vs → slice_get vs at ≡ Some item → is_current ps row number item ≡ true → LacksItem (Closed ps number row item) vs
 lacks_at ps number row vs at item a e h =
-    let none : is_none item.until ≡ true = first (is_none item.until) (row_eq item.row row) h in
-    subst (λ x. LacksItem x vs) (sym (lost_current number row item h))
+    let none : is_none item.until ≡ true = first (is_none item.until) (nat_lt item.from number && same_key ps item.row row) h in
+    subst (λ x. LacksItem x vs) (sym (closed_current ps number row item h))
     (back_lacks vs at item (ended_at number item) e (λ same. let f : is_none item.until ≡ false = ap (λ (v : RowVersion). is_none v.until) same in true_not_false (is_none item.until) none f)
     (rest_lacks ps vs at item (ended_at number item) (λ z. refl) (λ z. refl) a e))
   where
@@ -133,10 +130,10 @@ lacks_at ps number row vs at item a e h =
     first true b t = refl
     first false b t = cc
 
-pub absent : (ps : List ℕ) (number : ℕ) (row : List Value) (order vs : List RowVersion) (at : ℕ) (item : RowVersion) → Apart (Precedes ps) vs → slice_get vs at ≡ Some item → is_current row item ≡ true → AreEnded order vs
-    → LacksItem (Lost number row item) order
+pub absent : (ps : List ℕ) (number : ℕ) (row : List Value) (order vs : List RowVersion) (at : ℕ) (item : RowVersion) → Apart (Precedes ps) vs → slice_get vs at ≡ Some item → is_current ps row number item ≡ true → AreEnded order vs
+    → LacksItem (Closed ps number row item) order
 absent ps number row order vs at item a e h r =
-    all_weaker (λ y. IsIn y vs) (λ y. y ≡ Lost number row item → ⊥) (λ y i same. i (subst (λ w. LacksItem w vs) (sym same) (lacks_at ps number row vs at item a e h))) order r.here
+    all_weaker (λ y. IsIn y vs) (λ y. y ≡ Closed ps number row item → ⊥) (λ y i same. i (subst (λ w. LacksItem w vs) (sym same) (lacks_at ps number row vs at item a e h))) order r.here
 
 at_most : (number : ℕ) (y : RowVersion) (vs : List RowVersion) → IsIn y vs → AllByRecursion (λ v. EndsAtMost number v.until) vs → HasEnded y → EndsNoLater y.until (Some number)
 at_most number y vs i b h = by y.until refl
@@ -153,11 +150,11 @@ at_most number y vs i b h = by y.until refl
     by (Some k) e = test k e (nat_le k number) refl
 
 pub ended_more : (ps : List ℕ) (number : ℕ) (row : List Value) (order vs : List RowVersion) (at : ℕ) (item : RowVersion) → Apart (Precedes ps) vs → AllByRecursion (λ v. EndsAtMost number v.until) vs → slice_get vs at ≡ Some item
-    → is_current row item ≡ true → ChangesOnly (Lost number row) at vs → AreEnded order vs → AreEnded (order ++ Lost number row item ∷ []) (map (Lost number row) vs)
+    → is_current ps row number item ≡ true → ChangesOnly (Closed ps number row) at vs → AreEnded order vs → AreEnded (order ++ Closed ps number row item ∷ []) (map (Closed ps number row) vs)
 ended_more ps number row order vs at item a b e h only r =
-    let f : RowVersion → RowVersion = Lost number row in
-    let x : RowVersion = Lost number row item in
-    let is : x ≡ ended_at number item = lost_current number row item h in
+    let f : RowVersion → RowVersion = Closed ps number row in
+    let x : RowVersion = Closed ps number row item in
+    let is : x ≡ ended_at number item = closed_current ps number row item h in
     let lacks = absent ps number row order vs at item a e h r in
     record {
       ends = apart_append EndsSooner order (x ∷ []) r.ends (tt, tt)
@@ -166,7 +163,7 @@ ended_more ps number row order vs at item a b e h only r =
           (all_both (λ y. IsIn y vs) HasEnded (λ y. EndsNoLater y.until (Some number)) (λ y i g. at_most number y vs i b g) order r.here r.ended) lacks);
       ended = all_append HasEnded order (x ∷ []) r.ended (ap (λ (v : RowVersion). is_none v.until) is, tt);
       here = all_append (λ v. IsIn v (map f vs)) order (x ∷ [])
-          (all_both (λ v. IsIn v vs) HasEnded (λ v. IsIn v (map f vs)) (λ v i g l. i (lacks_map f v vs (stays number row v g) l)) order r.here r.ended)
+          (all_both (λ v. IsIn v vs) HasEnded (λ v. IsIn v (map f vs)) (λ v i g l. i (lacks_map f v vs (stays ps number row v g) l)) order r.here r.ended)
           (in_map f vs at item e, tt);
       all = map_all f (λ v. HasEnded v → IsIn v (order ++ x ∷ [])) vs
           (only_all (λ v. HasEnded v → IsIn v order) (λ v. HasEnded (f v) → IsIn (f v) (order ++ x ∷ [])) f vs at item e only
@@ -179,21 +176,21 @@ ended_more ps number row order vs at item a b e h only r =
     map_all g P (y ∷ ys) q = (q.0, map_all g P ys q.1)
 
 -- the end of the version that has the row changes that one alone
-others_stay : (ps : List ℕ) (row : List Value) (number : ℕ) (vs : List RowVersion) → AllByRecursion (λ v. v.from < number) vs → AllByRecursion (λ v. comes_before ps row number v ≡ false) vs → AllByRecursion (λ v. Lost number row v ≡ v) vs
-others_stay ps row number vs a b = all_both (λ v. v.from < number) (λ v. comes_before ps row number v ≡ false) (λ v. Lost number row v ≡ v) (λ v lt f. lost_other number row v (later_other ps row number v lt f)) vs a b
+others_stay : (ps : List ℕ) (row : List Value) (number : ℕ) (vs : List RowVersion) → AllByRecursion (λ v. comes_before ps row number v ≡ false) vs → AllByRecursion (λ v. Closed ps number row v ≡ v) vs
+others_stay ps row number vs b = all_weaker (λ v. comes_before ps row number v ≡ false) (λ v. Closed ps number row v ≡ v) (λ v f. closed_other ps number row v (later_other ps row number v f)) vs b
 
-changes_only : (ps : List ℕ) (row : List Value) (number i : ℕ) (vs : List RowVersion) (item : RowVersion) → Apart (Precedes ps) vs → AllByRecursion (λ v. v.from < number) vs → IsCut (comes_before ps row number) (suc i) vs → slice_get vs i ≡ Some item
-    → (comes_before ps row number item ≡ true) × ChangesOnly (Lost number row) i vs
-changes_only ps row number i [] item a b cut e = absurd cut
-changes_only ps row number zero (v ∷ vs) item a b cut e = (subst (λ w. comes_before ps row number w ≡ true) (got (v ∷ vs) zero item item e) cut.0, others_stay ps row number vs b.1 cut.1)
-changes_only ps row number (suc i) (v ∷ vs) item a b cut e =
-    let more = changes_only ps row number i vs item a.1 b.1 cut.1 e in
+changes_only : (ps : List ℕ) (row : List Value) (number i : ℕ) (vs : List RowVersion) (item : RowVersion) → Apart (Precedes ps) vs → IsCut (comes_before ps row number) (suc i) vs → slice_get vs i ≡ Some item
+    → (comes_before ps row number item ≡ true) × ChangesOnly (Closed ps number row) i vs
+changes_only ps row number i [] item a cut e = absurd cut
+changes_only ps row number zero (v ∷ vs) item a cut e = (subst (λ w. comes_before ps row number w ≡ true) (got (v ∷ vs) zero item item e) cut.0, others_stay ps row number vs cut.1)
+changes_only ps row number (suc i) (v ∷ vs) item a cut e =
+    let more = changes_only ps row number i vs item a.1 cut.1 e in
     let before : Precedes ps v item = subst (Precedes ps v) (got vs i item item e) (all_at (Precedes ps v) vs i item (got_within vs i item e) a.0) in
-    (more.0, (lost_other number row v (earlier_other ps row number v item before more.0), more.1))
+    (more.0, (closed_other ps number row v (earlier_other ps row number v item before more.0), more.1))
 
-pub changes_one : (ps : List ℕ) (row : List Value) (number i at : ℕ) (vs : List RowVersion) (item : RowVersion) → suc i ≡ at → Apart (Precedes ps) vs → AllByRecursion (λ v. v.from < number) vs → IsCut (comes_before ps row number) at vs
-    → slice_get vs i ≡ Some item → ChangesOnly (Lost number row) i vs
-changes_one ps row number i at vs item is a b cut e = (changes_only ps row number i vs item a b (subst (λ n. IsCut (comes_before ps row number) n vs) (sym is) cut) e).1
+pub changes_one : (ps : List ℕ) (row : List Value) (number i at : ℕ) (vs : List RowVersion) (item : RowVersion) → suc i ≡ at → Apart (Precedes ps) vs → IsCut (comes_before ps row number) at vs
+    → slice_get vs i ≡ Some item → ChangesOnly (Closed ps number row) i vs
+changes_one ps row number i at vs item is a cut e = (changes_only ps row number i vs item a (subst (λ n. IsCut (comes_before ps row number) n vs) (sym is) cut) e).1
 
 -- ---- the first ones in the order
 sooner_over : (floor : ℕ) (u w : Option ℕ) → EndsNoLater u w → not (ends_after floor w) ≡ true → not (ends_after floor u) ≡ true
@@ -302,10 +299,10 @@ at_most_later (Some k) last number lt h = omega (arith, h)
 pub all_at_most : (last number : ℕ) (vs : List RowVersion) → last < number → AllByRecursion (IsBy last) vs → AllByRecursion (λ v. EndsAtMost number v.until) vs
 all_at_most last number vs lt a = all_weaker (IsBy last) (λ v. EndsAtMost number v.until) (λ v h. at_most_later v.until last number lt h.1) vs a
 
-pub lost_at_most : (number : ℕ) (rows : List (List Value)) (vs : List RowVersion) → AllByRecursion (λ v. EndsAtMost number v.until) vs → AllByRecursion (λ v. EndsAtMost number v.until) (map (lost number rows) vs)
-lost_at_most number rows vs a =
-    all_lost (λ v. EndsAtMost number v.until) number rows vs
-    (all_weaker (λ v. EndsAtMost number v.until) (λ v. EndsAtMost number (lost number rows v).until) (λ v h. ends_at_most v.until (not (has_row v.row rows)) number number (omega arith) h) vs a)
+pub closed_at_most : (ps : List ℕ) (number : ℕ) (rows : List (List Value)) (vs : List RowVersion) → AllByRecursion (λ v. EndsAtMost number v.until) vs → AllByRecursion (λ v. EndsAtMost number v.until) (map (closed ps number rows) vs)
+closed_at_most ps number rows vs a =
+    all_mapped (closed ps number rows) (λ v. EndsAtMost number v.until) vs
+    (all_weaker (λ v. EndsAtMost number v.until) (λ v. EndsAtMost number (closed ps number rows v).until) (λ v h. ends_at_most v.until (not (nat_lt v.from number && has_key ps v.row rows)) number number (omega arith) h) vs a)
 
 -- ---- the first of some that pass
 pub first_passes : (p : RowVersion → Bool) (n m : ℕ) (order : List RowVersion) (v : RowVersion) → n ≡ suc m → slice_get order 0 ≡ Some v → IsCut p n order → p v ≡ true

@@ -22,10 +22,10 @@ use Rattle.lv_shelf.specs.Cuts.{Apart, Falls, IsCut}
 use Rattle.lv_shelf.specs.Shelves.{LacksItem}
 use Rattle.lv_shelf.proofs.Among.{all_remove, apart_remove}
 use Rattle.lv_shelf.proofs.Cutting.{all_at, all_kept, got, got_within}
-use Rattle.lv_versions.specs.Versions.{AreIndexed, AreIndexedBut, IsIn, Precedes, hits, index_cmp, is_at, is_upto, lost, reaches_by, rows_hit, version_cmp}
+use Rattle.lv_versions.specs.Versions.{AreIndexed, AreIndexedBut, IsIn, Precedes, closed, hits, index_cmp, is_at, is_upto, reaches_by, rows_hit, version_cmp}
 use Rattle.lv_versions.proofs.Bringing.{all_last}
 use Rattle.lv_versions.proofs.Cleaning.{all_unplaced, back_lacks, kept_here, placed_here, rest_lacks, same_version_or}
-use Rattle.lv_versions.proofs.Ending.{all_lost}
+use Rattle.lv_versions.proofs.Ending.{all_mapped}
 use Rattle.lv_versions.proofs.Standing.{all_placed, falls_from, is_less, less_reaches, precedes_less, true_not_false, version_total}
 
 pub index_total : (cs ps : List ℕ) → IsTotalOrder (index_cmp cs ps)
@@ -166,24 +166,24 @@ indexed_kept cs ps p order us a = record {
 }
 
 -- ---- a version that ends
-lacks_lost : (number : ℕ) (rows : List (List Value)) (v : RowVersion) (us : List RowVersion) → LacksItem (lost number rows v) (map (lost number rows) us) → LacksItem v us
-lacks_lost number rows v [] l = tt
-lacks_lost number rows v (u ∷ us) l = ((λ same. l.0 (ap (lost number rows) same)), lacks_lost number rows v us l.1)
+lacks_closed : (ps : List ℕ) (number : ℕ) (rows : List (List Value)) (v : RowVersion) (us : List RowVersion) → LacksItem (closed ps number rows v) (map (closed ps number rows) us) → LacksItem v us
+lacks_closed ps number rows v [] l = tt
+lacks_closed ps number rows v (u ∷ us) l = ((λ same. l.0 (ap (closed ps number rows) same)), lacks_closed ps number rows v us l.1)
 
-in_lost : (number : ℕ) (rows : List (List Value)) (order us : List RowVersion) → AllByRecursion (λ v. IsIn v us) order → AllByRecursion (λ v. IsIn v (map (lost number rows) us)) (map (lost number rows) order)
-in_lost number rows order us a =
-    all_lost (λ v. IsIn v (map (lost number rows) us)) number rows order
-    (all_weaker (λ v. IsIn v us) (λ v. IsIn (lost number rows v) (map (lost number rows) us)) (λ v i l. i (lacks_lost number rows v us l)) order a)
+in_closed : (ps : List ℕ) (number : ℕ) (rows : List (List Value)) (order us : List RowVersion) → AllByRecursion (λ v. IsIn v us) order → AllByRecursion (λ v. IsIn v (map (closed ps number rows) us)) (map (closed ps number rows) order)
+in_closed ps number rows order us a =
+    all_mapped (closed ps number rows) (λ v. IsIn v (map (closed ps number rows) us)) order
+    (all_weaker (λ v. IsIn v us) (λ v. IsIn (closed ps number rows v) (map (closed ps number rows) us)) (λ v i l. i (lacks_closed ps number rows v us l)) order a)
 
-ascends_lost : (cs ps : List ℕ) (number : ℕ) (rows : List (List Value)) (order : List RowVersion) → Ascends (index_cmp cs ps) order → Ascends (index_cmp cs ps) (map (lost number rows) order)
-ascends_lost cs ps number rows [] a = tt
-ascends_lost cs ps number rows (v ∷ order) a = (all_lost (λ w. index_cmp cs ps (lost number rows v) w ≡ Less) number rows order a.0, ascends_lost cs ps number rows order a.1)
+ascends_closed : (cs ps : List ℕ) (number : ℕ) (rows : List (List Value)) (order : List RowVersion) → Ascends (index_cmp cs ps) order → Ascends (index_cmp cs ps) (map (closed ps number rows) order)
+ascends_closed cs ps number rows [] a = tt
+ascends_closed cs ps number rows (v ∷ order) a = (all_mapped (closed ps number rows) (λ w. index_cmp cs ps (closed ps number rows v) w ≡ Less) order a.0, ascends_closed cs ps number rows order a.1)
 
-pub indexed_lost : (cs ps : List ℕ) (number : ℕ) (rows : List (List Value)) (order us : List RowVersion) → AreIndexed cs ps order us → AreIndexed cs ps (map (lost number rows) order) (map (lost number rows) us)
-indexed_lost cs ps number rows order us a = record {
-  ascends = ascends_lost cs ps number rows order a.ascends;
-  here = in_lost number rows order us a.here;
-  all = in_lost number rows us order a.all;
+pub indexed_closed : (cs ps : List ℕ) (number : ℕ) (rows : List (List Value)) (order us : List RowVersion) → AreIndexed cs ps order us → AreIndexed cs ps (map (closed ps number rows) order) (map (closed ps number rows) us)
+indexed_closed cs ps number rows order us a = record {
+  ascends = ascends_closed cs ps number rows order a.ascends;
+  here = in_closed ps number rows order us a.here;
+  all = in_closed ps number rows us order a.all;
 }
 
 -- ---- the rows with some values, found in an index

@@ -15,13 +15,11 @@ use Rattle.lv_shelf.specs.Cuts.{Apart, IsCut}
 use Rattle.lv_shelf.specs.Shelves.{ChangesOnly, LacksItem, other_at}
 use Rattle.lv_shelf.proofs.Cutting.{all_at, got, got_within}
 use Rattle.lv_shelf.proofs.Orders.{nth_map}
-use Rattle.lv_versions.specs.Versions.{AreEnded, AreIndexed, AreOrders, EndsAtMost, HaveOrders, IsIn, IsNewTo, Precedes, columns_at, comes_before, has_index, is_current, lost, new_by, new_version}
+use Rattle.lv_versions.specs.Versions.{AreEnded, AreIndexed, AreOrders, EndsAtMost, HaveOrders, IsIn, IsNewTo, Precedes, columns_at, comes_before, has_index, is_current, new_by, new_version}
 use Rattle.lv_versions.proofs.Cleaning.{absent, ended_more, kept_ended, stay}
-use Rattle.lv_versions.proofs.Indexing.{found_in, indexed_kept, indexed_lost, stand_ascend}
+use Rattle.lv_versions.proofs.Ending.{Closed}
+use Rattle.lv_versions.proofs.Indexing.{found_in, indexed_closed, indexed_kept, stand_ascend}
 use Rattle.lv_versions.proofs.Standing.{version_total}
-
-abbrev Lost : ℕ → List Value → RowVersion → RowVersion
-Lost number row = lost number (row ∷ [])
 
 abbrev Lists : Type 0
 Lists = List (List RowVersion)
@@ -137,28 +135,28 @@ new_lacks ps number row vs a = all_weaker (IsNewTo ps number row) (λ y. y ≡ n
     clash n = let h = subst (λ o. new_by o number (new_version number row)) (tied_itself row_total (values_at ps row)) n in let lt : number < number = h.0 in absurd (omega arith)
 
 -- ---- a version that ends
-ended_list : (number : ℕ) (row : List Value) (others : Lists) (vs : List RowVersion) → AreEnded (other_at others 0) vs → other_at (map (map (Lost number row)) others) 0 ≡ other_at others 0
-ended_list number row others vs a = nth_map (map (Lost number row)) others 0 [] [] refl ∙ stay number row (other_at others 0) a.ended
+ended_list : (ps : List ℕ) (number : ℕ) (row : List Value) (others : Lists) (vs : List RowVersion) → AreEnded (other_at others 0) vs → other_at (map (map (Closed ps number row)) others) 0 ≡ other_at others 0
+ended_list ps number row others vs a = nth_map (map (Closed ps number row)) others 0 [] [] refl ∙ stay ps number row (other_at others 0) a.ended
 
-pub absent_last : (ps : List ℕ) (cs : List (List ℕ)) (number : ℕ) (row : List Value) (others : Lists) (vs : List RowVersion) (at : ℕ) (item : RowVersion) → Apart (Precedes ps) vs → slice_get vs at ≡ Some item → is_current row item ≡ true
-    → AreOrders ps cs others vs → LacksItem (Lost number row item) (other_at (map (map (Lost number row)) others) 0)
-absent_last ps cs number row others vs at item stand e h a = subst (LacksItem (Lost number row item)) (sym (ended_list number row others vs a.ended)) (absent ps number row (other_at others 0) vs at item stand e h a.ended)
+pub absent_last : (ps : List ℕ) (cs : List (List ℕ)) (number : ℕ) (row : List Value) (others : Lists) (vs : List RowVersion) (at : ℕ) (item : RowVersion) → Apart (Precedes ps) vs → slice_get vs at ≡ Some item → is_current ps row number item ≡ true
+    → AreOrders ps cs others vs → LacksItem (Closed ps number row item) (other_at (map (map (Closed ps number row)) others) 0)
+absent_last ps cs number row others vs at item stand e h a = subst (LacksItem (Closed ps number row item)) (sym (ended_list ps number row others vs a.ended)) (absent ps number row (other_at others 0) vs at item stand e h a.ended)
 
 pub orders_ended : (ps : List ℕ) (cs : List (List ℕ)) (number : ℕ) (row : List Value) (others others' : Lists) (vs : List RowVersion) (at : ℕ) (item : RowVersion) → Apart (Precedes ps) vs → AllByRecursion (λ v. EndsAtMost number v.until) vs
-    → slice_get vs at ≡ Some item → is_current row item ≡ true → ChangesOnly (Lost number row) at vs → AreOrders ps cs others vs
-    → others' ≡ set (map (map (Lost number row)) others) 0 (other_at (map (map (Lost number row)) others) 0 ++ Lost number row item ∷ []) → AreOrders ps cs others' (map (Lost number row) vs)
+    → slice_get vs at ≡ Some item → is_current ps row number item ≡ true → ChangesOnly (Closed ps number row) at vs → AreOrders ps cs others vs
+    → others' ≡ set (map (map (Closed ps number row)) others) 0 (other_at (map (map (Closed ps number row)) others) 0 ++ Closed ps number row item ∷ []) → AreOrders ps cs others' (map (Closed ps number row) vs)
 orders_ended ps cs number row others others' vs at item stand ends e h only a is =
-    let f : RowVersion → RowVersion = Lost number row in
-    let mapped : Lists = map (map (Lost number row)) others in
-    let last : List RowVersion = other_at mapped 0 ++ Lost number row item ∷ [] in
+    let f : RowVersion → RowVersion = Closed ps number row in
+    let mapped : Lists = map (map (Closed ps number row)) others in
+    let last : List RowVersion = other_at mapped 0 ++ Closed ps number row item ∷ [] in
     let long : length mapped ≡ length others = length-map others (map f) in
     record {
       count = ap length is ∙ length-set mapped 0 last ∙ long ∙ a.count;
-      ended = subst (λ l. AreEnded l (map f vs)) (sym (ap (λ l. other_at l 0) is ∙ get_or-set_same mapped 0 last [] (omega (arith, long, a.count)) ∙ ap (λ l. l ++ Lost number row item ∷ []) (ended_list number row others vs a.ended)))
+      ended = subst (λ l. AreEnded l (map f vs)) (sym (ap (λ l. other_at l 0) is ∙ get_or-set_same mapped 0 last [] (omega (arith, long, a.count)) ∙ ap (λ l. l ++ Closed ps number row item ∷ []) (ended_list ps number row others vs a.ended)))
           (ended_more ps number row (other_at others 0) vs at item stand ends e h only a.ended);
       indexed = λ j lt.
           subst (λ l. AreIndexed (columns_at cs j) ps l (map f vs)) (sym (ap (λ l. other_at l (j + 1)) is ∙ later_set mapped last j ∙ nth_map (map f) others (j + 1) [] [] refl))
-          (indexed_lost (columns_at cs j) ps number (row ∷ []) (other_at others (j + 1)) vs (a.indexed j lt));
+          (indexed_closed (columns_at cs j) ps number (row ∷ []) (other_at others (j + 1)) vs (a.indexed j lt));
     }
 
 -- ---- versions that are kept

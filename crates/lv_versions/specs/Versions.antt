@@ -11,7 +11,7 @@ use Rattle.lv_values.specs.Order.{row_cmp, row_eq}
 use Rattle.lv_values.specs.Rows.{key_cmp, values_at}
 use Rattle.lv_schema.specs.declared.table.TableDef.{TableDef}
 use Rattle.lv_schema.specs.declared.net.Net.{Net}
-use Rattle.lv_schema.specs.Effects.{has_key}
+use Rattle.lv_schema.specs.Effects.{has_key, same_key}
 use Rattle.lv_schema.specs.Nets.{has_row, lacking}
 use Rattle.lv_schema.specs.Once.{Ascends}
 use Rattle.lv_schema.specs.declared.version.RowVersion.{RowVersion}
@@ -182,7 +182,8 @@ with_versions positions number (row ∷ rows) versions = placed (version_cmp pos
 abbrev pub ended_at : ℕ → RowVersion → RowVersion
 ended_at number v = record v { until = Some number }
 
--- whether a version comes before the one that a commit brings, and whether it has the row and has not ended
+-- whether a version comes before the one that a commit brings, and whether it has the row's key, came before the
+-- commit and has not ended
 abbrev pub comes_before : List ℕ → List Value → ℕ → RowVersion → Bool
 comes_before positions row number v = is_lt (version_cmp positions v (new_version number row))
 
@@ -190,8 +191,16 @@ comes_before positions row number v = is_lt (version_cmp positions v (new_versio
 abbrev pub comes_before_in : List ℕ → List ℕ → List Value → ℕ → RowVersion → Bool
 comes_before_in columns positions row number v = is_lt (index_cmp columns positions v (new_version number row))
 
-abbrev pub is_current : List Value → RowVersion → Bool
-is_current row v = is_none v.until && row_eq v.row row
+abbrev pub is_current : List ℕ → List Value → ℕ → RowVersion → Bool
+is_current positions row number v = is_none v.until && (nat_lt v.from number && same_key positions v.row row)
+
+-- a version after a commit that changes rows of the keys that these rows have
+abbrev pub closed : List ℕ → ℕ → List (List Value) → RowVersion → RowVersion
+closed positions number rows v = record v { until = end_by v.until (not (nat_lt v.from number && has_key positions v.row rows)) number }
+
+-- a version with the key of a row came before a commit
+abbrev pub IsOlder : List ℕ → ℕ → List Value → RowVersion → Type 0
+IsOlder positions number row v = key_cmp positions row v.row ≡ Equal → v.from < number
 
 -- whether a version's key is below a key, or is that key and came by commit n
 abbrev pub reaches_by : Ordering → Bool → Bool

@@ -1,18 +1,18 @@
 //! What a commit does to versions, in place.
-ghost use Rattle.std.specs.Prelude.{◌≡◌, ◌+◌, ◌++◌, ◌<◌, ◌≤◌, ◌∷◌, [], List, Some, length, map, slice_get, slice_set};
+ghost use Rattle.std.specs.Prelude.{◌≡◌, ◌+◌, ◌++◌, ◌<◌, ◌≤◌, ◌∷◌, [], List, MatchOption, Some, length, map, slice_get, slice_set};
 ghost use Rattle.std.specs.List.{AllByRecursion};
 ghost use Rattle.lv_values.specs.Ascending.{placed};
-ghost use Rattle.lv_shelf.specs.Cuts.{Apart};
+ghost use Rattle.lv_shelf.specs.Cuts.{Apart, IsCut};
 ghost use Rattle.lv_shelf.specs.Shelves.{LacksItem, other_at};
 ghost use Rattle.lv_schema.specs.declared.version.RowVersion.{RowVersion};
-ghost use Rattle.lv_versions.specs.Versions.{AreNew, EndsAtMost, HaveOrders, IsNewTo, Precedes, lost, new_version, version_cmp, with_versions};
+ghost use Rattle.lv_versions.specs.Versions.{AreNew, EndsAtMost, HaveOrders, IsOlder, Precedes, closed, comes_before, lost, new_version, version_cmp, with_versions};
 
 use crate::indexes::enter_each;
 use crate::rank::rank;
 use crate::version::{ComesBefore, EndAt, is_current};
 use lv_schema::{Net, Positions, RowVersion};
 use lv_shelf::Shelf;
-use lv_values::{Row, Rows};
+use lv_values::{Row, Rows, compare_keys};
 
 /// Puts the version at a place last into the order of the ended ones.
 fn enter_last(at: usize, versions: &mut Shelf<RowVersion>)
@@ -27,7 +27,51 @@ fn enter_last(at: usize, versions: &mut Shelf<RowVersion>)
     versions.enter(0, last, at, 0);
 }
 
-/// Ends the version that has the row and has not ended, if there is one. Cost: a binary search.
+/// The place of the version of a row that a commit brings: behind those of lesser keys, and those of its key that came
+/// before. Cost: a binary search.
+fn place_of(positions: &[u8], row: &Row, number: u64, versions: &Shelf<RowVersion>) -> usize
+    requires { Apart (Precedes positions.now) versions.now.list }
+    ensures within { result ≤ length versions.now.list }
+    ensures cut { IsCut (comes_before positions.now row.now number) result versions.now.list }
+{
+    let before = ComesBefore {
+        positions,
+        row,
+        number,
+    };
+    versions.cut_near(rank(positions, row), &before)
+}
+
+/// Ends the version before the place of a row, if it has the row's key and has not ended. Cost: constant.
+fn end_before(
+    positions: &[u8],
+    indexes: &[Positions],
+    row: &Row,
+    number: u64,
+    at: usize,
+    versions: &mut Shelf<RowVersion>,
+)
+    requires stand { Apart (Precedes positions.now) versions.old.list }
+    requires ends { AllByRecursion (λ v. EndsAtMost number v.until) versions.old.list }
+    requires orders { HaveOrders positions.now indexes.now versions.old.spare versions.old.others versions.old.list }
+    requires cut { IsCut (comes_before positions.now row.now number) at versions.old.list }
+    requires within { at ≤ length versions.old.list }
+    ensures ended { versions.new.list ≡ map (closed positions.now number (row.now ∷ [])) versions.old.list }
+    ensures orders { HaveOrders positions.now indexes.now versions.new.spare versions.new.others versions.new.list }
+    ensures room { versions.new.spare ≡ versions.old.spare }
+{
+    if at > 0 && is_current(positions, row, number, versions.get(at - 1)) {
+        let end = EndAt {
+            positions,
+            row,
+            number,
+        };
+        versions.edit(at - 1, &end);
+        enter_last(at - 1, versions);
+    }
+}
+
+/// Ends the version that has the row's key and has not ended, if there is one. Cost: a binary search.
 fn end_row(
     positions: &[u8],
     indexes: &[Positions],
@@ -36,26 +80,19 @@ fn end_row(
     versions: &mut Shelf<RowVersion>,
 )
     requires stand { Apart (Precedes positions.now) versions.old.list }
-    requires earlier { AllByRecursion (λ v. v.from < number) versions.old.list }
     requires ends { AllByRecursion (λ v. EndsAtMost number v.until) versions.old.list }
     requires orders { HaveOrders positions.now indexes.now versions.old.spare versions.old.others versions.old.list }
-    ensures ended { versions.new.list ≡ map (lost number (row.now ∷ [])) versions.old.list }
+    ensures ended { versions.new.list ≡ map (closed positions.now number (row.now ∷ [])) versions.old.list }
+    ensures stand { Apart (Precedes positions.now) versions.new.list }
+    ensures ends { AllByRecursion (λ v. EndsAtMost number v.until) versions.new.list }
     ensures orders { HaveOrders positions.now indexes.now versions.new.spare versions.new.others versions.new.list }
     ensures room { versions.new.spare ≡ versions.old.spare }
 {
-    let before = ComesBefore {
-        positions,
-        row,
-        number,
-    };
-    let at = versions.cut_near(rank(positions, row), &before);
-    if at > 0 && is_current(versions.get(at - 1), row) {
-        versions.edit(at - 1, &EndAt { row, number });
-        enter_last(at - 1, versions);
-    }
+    let at = place_of(positions, row, number, versions);
+    end_before(positions, indexes, row, number, at, versions);
 }
 
-/// Ends the versions of the rows that a commit takes away.
+/// Ends the versions that have the keys of some rows. Cost: a binary search for each.
 fn end_rows(
     positions: &[u8],
     indexes: &[Positions],
@@ -64,10 +101,10 @@ fn end_rows(
     versions: &mut Shelf<RowVersion>,
 )
     requires stand { Apart (Precedes positions.now) versions.old.list }
-    requires earlier { AllByRecursion (λ v. v.from < number) versions.old.list }
     requires ends { AllByRecursion (λ v. EndsAtMost number v.until) versions.old.list }
     requires orders { HaveOrders positions.now indexes.now versions.old.spare versions.old.others versions.old.list }
-    ensures ended { versions.new.list ≡ map (lost number rows.now) versions.old.list }
+    ensures ended { versions.new.list ≡ map (closed positions.now number rows.now) versions.old.list }
+    ensures stand { Apart (Precedes positions.now) versions.new.list }
     ensures orders { HaveOrders positions.now indexes.now versions.new.spare versions.new.others versions.new.list }
     ensures room { versions.new.spare ≡ versions.old.spare }
 {
@@ -76,8 +113,44 @@ fn end_rows(
     }
 }
 
-/// Puts a version of a row that a commit brings at its place, and into each index. Cost: a binary search, and a move
-/// of small numbers, for each of them.
+/// The last of some rows, taken off, if its key is not below that of a row.
+fn pop_from(positions: &[u8], row: &Row, rows: &mut Rows) -> Option<Row>
+    ensures { MatchOption result (rows.new ≡ rows.old) (λ last. rows.old ≡ rows.new ++ last ∷ []) }
+{
+    if rows.is_empty() || compare_keys(positions, rows.get(rows.len() - 1), row).is_lt() {
+        return None;
+    }
+    rows.pop()
+}
+
+/// Takes off the last of the rows that go, as long as their keys are not below that of a row that comes, and ends the
+/// versions of their keys, other than the row's own key. Cost: a binary search for each key.
+fn end_above(
+    positions: &[u8],
+    indexes: &[Positions],
+    row: &Row,
+    number: u64,
+    minus: &mut Rows,
+    versions: &mut Shelf<RowVersion>,
+)
+    requires stand { Apart (Precedes positions.now) versions.old.list }
+    requires ends { AllByRecursion (λ v. EndsAtMost number v.until) versions.old.list }
+    requires orders { HaveOrders positions.now indexes.now versions.old.spare versions.old.others versions.old.list }
+    ensures same { map (closed positions.now number minus.new) (map (closed positions.now number (row.now ∷ [])) versions.new.list) ≡ map (closed positions.now number minus.old) (map (closed positions.now number (row.now ∷ [])) versions.old.list) }
+    ensures stand { Apart (Precedes positions.now) versions.new.list }
+    ensures ends { AllByRecursion (λ v. EndsAtMost number v.until) versions.new.list }
+    ensures orders { HaveOrders positions.now indexes.now versions.new.spare versions.new.others versions.new.list }
+    ensures room { versions.new.spare ≡ versions.old.spare }
+{
+    while let Some(lost) = pop_from(positions, row, minus) {
+        if compare_keys(positions, &lost, row).is_ne() {
+            end_row(positions, indexes, &lost, number, versions);
+        }
+    }
+}
+
+/// Puts a version of a row that a commit brings at its place, and into each index, and ends the version that has its
+/// key and has not ended. Cost: a binary search, and a move of small numbers, for each of them.
 fn put_row(
     positions: &[u8],
     indexes: &[Positions],
@@ -86,20 +159,17 @@ fn put_row(
     versions: &mut Shelf<RowVersion>,
 )
     requires stand { Apart (Precedes positions.now) versions.old.list }
-    requires new { AllByRecursion (IsNewTo positions.now number row) versions.old.list }
+    requires ends { AllByRecursion (λ v. EndsAtMost number v.until) versions.old.list }
+    requires older { AllByRecursion (IsOlder positions.now number row) versions.old.list }
     requires orders { HaveOrders positions.now indexes.now versions.old.spare versions.old.others versions.old.list }
     requires room { 0 < versions.old.spare }
-    ensures put { versions.new.list ≡ placed (version_cmp positions.now) (new_version number row) versions.old.list }
+    ensures put { versions.new.list ≡ placed (version_cmp positions.now) (new_version number row) (map (closed positions.now number (row ∷ [])) versions.old.list) }
     ensures orders { HaveOrders positions.now indexes.now versions.new.spare versions.new.others versions.new.list }
     ensures room { versions.new.spare + 1 ≡ versions.old.spare }
 {
+    let at = place_of(positions, &row, number, versions);
+    end_before(positions, indexes, &row, number, at, versions);
     let rank = rank(positions, &row);
-    let before = ComesBefore {
-        positions,
-        row: &row,
-        number,
-    };
-    let at = versions.cut_near(rank, &before);
     let version = RowVersion {
         row,
         from: number,
@@ -109,30 +179,37 @@ fn put_row(
     enter_each(positions, indexes, at, versions);
 }
 
-/// Puts versions of the rows that a commit brings at their places. It takes no memory.
+/// Puts versions of the rows that come at their places, and ends those that they replace. Of the rows that go, those
+/// whose keys are below that of each row that comes are left. It takes no memory. Cost: as of `change`.
 fn put_rows(
     positions: &[u8],
     indexes: &[Positions],
-    mut rows: Rows,
+    minus: &mut Rows,
+    mut plus: Rows,
     number: u64,
     versions: &mut Shelf<RowVersion>,
 )
     requires stand { Apart (Precedes positions.now) versions.old.list }
-    requires new { AreNew positions.now number rows versions.old.list }
+    requires ends { AllByRecursion (λ v. EndsAtMost number v.until) versions.old.list }
     requires orders { HaveOrders positions.now indexes.now versions.old.spare versions.old.others versions.old.list }
-    requires room { length rows ≤ versions.old.spare }
-    ensures put { versions.new.list ≡ with_versions positions.now number rows versions.old.list }
+    requires new { AreNew positions.now number plus (map (closed positions.now number plus) (map (closed positions.now number minus.old) versions.old.list)) }
+    requires room { length plus ≤ versions.old.spare }
+    ensures put { map (closed positions.now number minus.new) versions.new.list ≡ with_versions positions.now number plus (map (closed positions.now number plus) (map (closed positions.now number minus.old) versions.old.list)) }
     ensures stand { Apart (Precedes positions.now) versions.new.list }
+    ensures ends { AllByRecursion (λ v. EndsAtMost number v.until) versions.new.list }
     ensures orders { HaveOrders positions.now indexes.now versions.new.spare versions.new.others versions.new.list }
-    ensures room { versions.new.spare + length rows ≡ versions.old.spare }
+    ensures room { versions.new.spare + length plus ≡ versions.old.spare }
 {
-    while let Some(row) = rows.pop() {
+    while let Some(row) = plus.pop() {
+        end_above(positions, indexes, &row, number, minus, versions);
         put_row(positions, indexes, row, number, versions);
     }
 }
 
 /// Ends the versions of the rows that a net change takes away, and puts versions of those that it brings at their
-/// places. It takes no memory.
+/// places. It goes from the greatest keys down, so that one search serves a row that goes and one of its key that comes.
+/// It takes no memory. Cost: a binary search for each key that the net change has, where its rows are in the order of
+/// their keys, and a move of small numbers for each row that comes.
 pub(crate) fn change(
     positions: &[u8],
     indexes: &[Positions],
@@ -141,9 +218,9 @@ pub(crate) fn change(
     versions: &mut Shelf<RowVersion>,
 )
     requires stand { Apart (Precedes positions.now) versions.old.list }
-    requires earlier { AllByRecursion (λ v. v.from < number) versions.old.list }
     requires ends { AllByRecursion (λ v. EndsAtMost number v.until) versions.old.list }
     requires orders { HaveOrders positions.now indexes.now versions.old.spare versions.old.others versions.old.list }
+    requires keys { map (closed positions.now number net.plus) (map (closed positions.now number net.minus) versions.old.list) ≡ map (lost number net.minus) versions.old.list }
     requires new { AreNew positions.now number net.plus (map (lost number net.minus) versions.old.list) }
     requires room { length net.plus ≤ versions.old.spare }
     ensures changed { versions.new.list ≡ with_versions positions.now number net.plus (map (lost number net.minus) versions.old.list) }
@@ -151,7 +228,7 @@ pub(crate) fn change(
     ensures orders { HaveOrders positions.now indexes.now versions.new.spare versions.new.others versions.new.list }
     ensures room { versions.new.spare + length net.plus ≡ versions.old.spare }
 {
-    let Net { minus, plus } = net;
+    let Net { mut minus, plus } = net;
+    put_rows(positions, indexes, &mut minus, plus, number, versions);
     end_rows(positions, indexes, minus.as_slice(), number, versions);
-    put_rows(positions, indexes, plus, number, versions);
 }

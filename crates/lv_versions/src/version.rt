@@ -20,11 +20,12 @@ pub(crate) fn is_at(version: &RowVersion, n: u64) -> bool
     }
 }
 
-/// Whether the version has the row and has not ended.
-pub(crate) fn is_current(version: &RowVersion, row: &Row) -> bool
-    ensures { result ≡ spec.is_current row.now version.now }
+/// Whether the version has the row's key, came before a commit and has not ended.
+pub(crate) fn is_current(positions: &[u8], row: &Row, number: u64, version: &RowVersion) -> bool
+    ensures { result ≡ spec.is_current positions.now row.now number version.now }
 {
-    version.until.is_none() && version.row.cmp(row).is_eq()
+    version.until.is_none()
+        && (version.from < number && compare_keys(positions, &version.row, row).is_eq())
 }
 
 /// Whether the version has these values at these positions and is there after commit n.
@@ -204,9 +205,10 @@ impl Test<RowVersion> for IsOver {
     }
 }
 
-/// Ends a version, if it has the row and has not ended.
+/// Ends a version, if it has the row's key, came before a commit and has not ended.
 #[derive(Drop)]
 pub(crate) struct EndAt<'a> {
+    pub(crate) positions: &'a [u8],
     pub(crate) row: &'a Row,
     pub(crate) number: u64,
 }
@@ -215,19 +217,19 @@ impl<'a> Model for EndAt<'a> {
     ghost use Rattle.std.specs.Prelude.{ℕ, List};
     ghost use Rattle.lv_values.specs.declared.value.Value.{Value as AValue};
 
-    ghost Value = { List AValue × ℕ };
+    ghost Value = { List ℕ × List AValue × ℕ };
 
-    ghost view = { λ t. (t.row.now, t.number) };
+    ghost view = { λ t. (t.positions.now, t.row.now, t.number) };
 }
 
 impl<'a> Edit<RowVersion> for EndAt<'a> {
     ghost use Rattle.std.specs.Prelude.{◌∷◌, []};
-    ghost use Rattle.lv_versions.specs.Versions.{lost};
+    ghost use Rattle.lv_versions.specs.Versions.{closed};
 
-    ghost edited = { λ e v. lost e.1 (e.0 ∷ []) v };
+    ghost edited = { λ e v. closed e.0 e.2 (e.1 ∷ []) v };
 
     fn edit(&self, version: &mut RowVersion) {
-        if is_current(version, self.row) {
+        if is_current(self.positions, self.row, self.number, version) {
             version.until = Some(self.number);
         }
     }

@@ -207,8 +207,9 @@ impl Versions {
         self.versions.reserve(rows)
     }
 
-    /// Commits a net change. It takes no memory. Cost: a binary search for each row that goes or comes, and a move of
-    /// small numbers for each that comes, with a search and a move more in each index.
+    /// Commits a net change. It takes no memory. Cost: a binary search for each key of a row that goes or comes, where
+    /// these are in the order of their keys, and a move of small numbers for each that comes, with a search and a move
+    /// more in each index.
     pub fn commit(&mut self, number: u64, net: Net)
         requires later { self.old.last < number }
         requires above { self.old.floor < number }

@@ -1,15 +1,14 @@
-use Rattle.std.proofs.Common.{◌≡◌, ◌<◌, map, take}
+use Rattle.std.proofs.Common.{◌≡◌, map, take}
 use Rattle.std.specs.List.{AllByRecursion}
 use Rattle.lv_shelf.specs.Cuts.{Apart}
-use Rattle.lv_versions.specs.Versions.{HaveOrders, EndsAtMost, Precedes, lost}
+use Rattle.lv_versions.specs.Versions.{HaveOrders, EndsAtMost, Precedes, closed}
 use Rattle.lv_versions.proofs.changing.end_rows.Given as goal
 
 abbrev pub invariant-loop-row : goal.invariant-loop-row
 invariant-loop-row l = record {
   stand : Apart (Precedes l.positions) l.versions.list;
-  earlier : AllByRecursion (λ v. v.from < l.number) l.versions.list;
   ends : AllByRecursion (λ v. EndsAtMost l.number v.until) l.versions.list;
   orders : HaveOrders l.positions l.indexes l.versions.spare l.versions.others l.versions.list;
-  ended : l.versions.list ≡ map (lost l.number (take l.row-index l.rows)) l.initial.versions.list;
+  ended : l.versions.list ≡ map (closed l.positions l.number (take l.row-index l.rows)) l.initial.versions.list;
   room : l.versions.spare ≡ l.initial.versions.spare;
 }

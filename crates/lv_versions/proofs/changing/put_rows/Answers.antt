@@ -1,8 +1,33 @@
-use Rattle.std.proofs.Common.{◌≡◌, ◌++◌, ◌∷◌, [], length, length-append, sym, ap, ◌∙◌, subst, arith}
+use Rattle.std.proofs.Common.{◌≡◌, ◌++◌, ◌∷◌, [], List, length, length-append, map, sym, ap, ◌∙◌, subst, arith}
+use Rattle.std.specs.List.{AllByRecursion}
+use Rattle.lv_schema.specs.declared.version.RowVersion.{RowVersion}
+use Rattle.lv_values.specs.Ascending.{placed}
 use Rattle.lv_shelf.specs.Cuts.{Apart}
-use Rattle.lv_versions.specs.Versions.{AreNew, Precedes, with_versions}
-use Rattle.lv_versions.proofs.Bringing.{last_new, placed_order, put_last, rest_new}
+use Rattle.lv_versions.specs.Versions.{AreNew, EndsAtMost, Precedes, closed, new_version, version_cmp, with_versions}
+use Rattle.lv_versions.proofs.Bringing.{closed_placed, last_new, new_older, older_new, placed_order, put_last, rest_new}
+use Rattle.lv_versions.proofs.Cleaning.{closed_at_most}
+use Rattle.lv_versions.proofs.Ending.{closed_last, closed_none, closed_order, closed_swap}
+use Rattle.lv_versions.proofs.Standing.{all_placed}
 use Rattle.lv_versions.proofs.changing.put_rows.Goals as goal
+
+pub put_row-requires-clause-older : goal.put_row-requires-clause-older
+put_row-requires-clause-older c =
+    let ps = c.args.positions.now in
+    let number = c.args.number in
+    let row = c.in-Some.row in
+    let rest = c.pop.new.self in
+    let minus = c.loop-row.minus in
+    let vs = c.loop-row.versions.list in
+    let left = c.end_above.new.minus in
+    let mid = c.end_above.new.versions.list in
+    let popped : c.loop-row.plus ≡ rest ++ row ∷ [] = c.in-Some.ensures in
+    let due : List RowVersion = map (closed ps number rest) (map (closed ps number left) (map (closed ps number (row ∷ [])) mid)) in
+    let is : map (closed ps number c.loop-row.plus) (map (closed ps number minus) vs) ≡ due =
+    ap (λ l. map (closed ps number l) (map (closed ps number minus) vs)) popped
+    ∙ closed_last ps number rest row (map (closed ps number minus) vs)
+    ∙ ap (map (closed ps number rest)) (closed_swap ps number (row ∷ []) minus vs ∙ sym c.end_above.ensures.same) in
+    let new : AreNew ps number (rest ++ row ∷ []) due = subst (λ l. AreNew ps number l due) popped (subst (AreNew ps number c.loop-row.plus) is c.loop-row.invariant.new) in
+    new_older ps number row rest left mid (last_new ps number rest row due new)
 
 pub loop-row-preserved : goal.loop-row-preserved
 loop-row-preserved c =
@@ -10,22 +35,38 @@ loop-row-preserved c =
     let number = c.args.number in
     let row = c.in-Some.row in
     let rest = c.pop.new.self in
+    let minus = c.loop-row.minus in
     let vs = c.loop-row.versions.list in
-    let popped : c.loop-row.rows ≡ rest ++ row ∷ [] = c.in-Some.ensures in
-    let new = subst (λ l. AreNew ps number l vs) popped c.loop-row.invariant.new in
+    let left = c.end_above.new.minus in
+    let mid = c.end_above.new.versions.list in
+    let own : List RowVersion = map (closed ps number (row ∷ [])) mid in
+    let popped : c.loop-row.plus ≡ rest ++ row ∷ [] = c.in-Some.ensures in
+    let due : List RowVersion = map (closed ps number rest) (map (closed ps number left) own) in
+    let is : map (closed ps number c.loop-row.plus) (map (closed ps number minus) vs) ≡ due =
+    ap (λ l. map (closed ps number l) (map (closed ps number minus) vs)) popped
+    ∙ closed_last ps number rest row (map (closed ps number minus) vs)
+    ∙ ap (map (closed ps number rest)) (closed_swap ps number (row ∷ []) minus vs ∙ sym c.end_above.ensures.same) in
+    let new : AreNew ps number (rest ++ row ∷ []) due = subst (λ l. AreNew ps number l due) popped (subst (AreNew ps number c.loop-row.plus) is c.loop-row.invariant.new) in
+    let older = new_older ps number row rest left mid (last_new ps number rest row due new) in
+    let moved : map (closed ps number rest) (map (closed ps number left) c.put_row.new.versions.list) ≡ placed (version_cmp ps) (new_version number row) due =
+    ap (λ l. map (closed ps number rest) (map (closed ps number left) l)) c.put_row.ensures.put
+    ∙ ap (map (closed ps number rest)) (closed_placed ps number left row own)
+    ∙ closed_placed ps number rest row (map (closed ps number left) own) in
     let shorter = ap length popped ∙ length-append rest (row ∷ []) in
     record {
-      stand = subst (Apart (Precedes ps)) (sym c.put_row.ensures.put) (placed_order ps number row vs c.loop-row.invariant.stand (last_new ps number rest row vs new));
+      stand = subst (Apart (Precedes ps)) (sym c.put_row.ensures.put) (placed_order ps number row own (closed_order ps number (row ∷ []) mid c.end_above.ensures.stand) (older_new ps number row mid older c.end_above.ensures.ends));
+      ends = subst (AllByRecursion (λ (v : RowVersion). EndsAtMost number v.until)) (sym c.put_row.ensures.put)
+          (all_placed (version_cmp ps) (λ (v : RowVersion). EndsAtMost number v.until) (new_version number row) own tt (closed_at_most ps number (row ∷ []) mid c.end_above.ensures.ends));
       orders = c.put_row.ensures.orders;
-      new = subst (AreNew ps number rest) (sym c.put_row.ensures.put) (rest_new ps number rest row vs new);
-      put = ap (with_versions ps number rest) c.put_row.ensures.put ∙ sym (put_last ps number rest row vs) ∙ ap (λ l. with_versions ps number l vs) (sym popped) ∙ c.loop-row.invariant.put;
-      room = omega (arith, c.loop-row.invariant.room, c.put_row.ensures.room, shorter);
-      taken = omega (arith, c.loop-row.invariant.taken, c.put_row.ensures.room, shorter);
+      new = subst (AreNew ps number rest) (sym moved) (rest_new ps number rest row due new);
+      put = ap (with_versions ps number rest) moved ∙ sym (put_last ps number rest row due) ∙ ap (λ l. with_versions ps number l due) (sym popped) ∙ ap (with_versions ps number c.loop-row.plus) (sym is) ∙ c.loop-row.invariant.put;
+      room = omega (arith, c.loop-row.invariant.room, c.put_row.ensures.room, c.end_above.ensures.room, shorter);
+      taken = omega (arith, c.loop-row.invariant.taken, c.put_row.ensures.room, c.end_above.ensures.room, shorter);
     }
 
-pub put_row-requires-clause-new : goal.put_row-requires-clause-new
-put_row-requires-clause-new c =
+pub returns-clause-put : goal.returns-clause-put
+returns-clause-put c =
     let ps = c.args.positions.now in
-    let vs = c.loop-row.versions.list in
-    let popped : c.loop-row.rows ≡ c.pop.new.self ++ c.in-Some.row ∷ [] = c.in-Some.ensures in
-    last_new ps c.args.number c.pop.new.self c.in-Some.row vs (subst (λ l. AreNew ps c.args.number l vs) popped c.loop-row.invariant.new)
+    let number = c.args.number in
+    let left : List RowVersion = map (closed ps number c.loop-row.minus) c.loop-row.versions.list in
+    sym (closed_none ps number left) ∙ ap (λ l. with_versions ps number l (map (closed ps number l) left)) (sym c.in_default.ensures.0) ∙ c.loop-row.invariant.put

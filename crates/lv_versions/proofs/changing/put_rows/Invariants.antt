@@ -1,17 +1,20 @@
-use Rattle.std.proofs.Common.{◌≡◌, ◌+◌, ◌≤◌, length}
+use Rattle.std.proofs.Common.{◌≡◌, ◌+◌, ◌≤◌, length, map}
+use Rattle.std.specs.List.{AllByRecursion}
 use Rattle.lv_shelf.specs.Cuts.{Apart}
-use Rattle.lv_versions.specs.Versions.{HaveOrders, AreNew, Precedes, with_versions}
+use Rattle.lv_versions.specs.Versions.{HaveOrders, AreNew, EndsAtMost, Precedes, closed, with_versions}
 use Rattle.lv_versions.proofs.changing.put_rows.Given as goal
 
 abbrev pub invariant-loop-row : goal.invariant-loop-row
 invariant-loop-row l = record {
   stand : Apart (Precedes l.positions) l.versions.list;
+  ends : AllByRecursion (λ v. EndsAtMost l.number v.until) l.versions.list;
   orders : HaveOrders l.positions l.indexes l.versions.spare l.versions.others l.versions.list;
-  new : AreNew l.positions l.number l.rows l.versions.list;
-  put : with_versions l.positions l.number l.rows l.versions.list ≡ with_versions l.initial.positions l.initial.number l.initial.rows l.initial.versions.list;
-  room : length l.rows ≤ l.versions.spare;
-  taken : l.versions.spare + length l.initial.rows ≡ l.initial.versions.spare + length l.rows;
+  new : AreNew l.positions l.number l.plus (map (closed l.positions l.number l.plus) (map (closed l.positions l.number l.minus) l.versions.list));
+  put : with_versions l.positions l.number l.plus (map (closed l.positions l.number l.plus) (map (closed l.positions l.number l.minus) l.versions.list))
+      ≡ with_versions l.initial.positions l.initial.number l.initial.plus (map (closed l.initial.positions l.initial.number l.initial.plus) (map (closed l.initial.positions l.initial.number l.initial.minus) l.initial.versions.list));
+  room : length l.plus ≤ l.versions.spare;
+  taken : l.versions.spare + length l.initial.plus ≡ l.initial.versions.spare + length l.plus;
 }
 
 abbrev pub decreases-loop-row : goal.decreases-loop-row
-decreases-loop-row l = length l.rows
+decreases-loop-row l = length l.plus

@@ -4,7 +4,7 @@ use Rattle.lv_schema.specs.Nets.{with_net}
 use Rattle.lv_shelf.specs.Cuts.{Apart}
 use Rattle.lv_versions.specs.Versions.{Applies, HaveOrders, Precedes, lost, new_version, soonest_after, state_at}
 use Rattle.lv_versions.proofs.Cleaning.{all_at_most}
-use Rattle.lv_versions.proofs.Committed.{after_before, after_ends, after_is, after_state, after_versions, all_earlier, are_new}
+use Rattle.lv_versions.proofs.Committed.{after_before, after_ends, after_is, after_state, after_versions, are_new, closed_left}
 use Rattle.lv_versions.proofs.versions.Versions.commit.Goals as goal
 
 pub change-requires : goal.change-requires
@@ -16,9 +16,9 @@ change-requires c =
     let applies : Applies s.def.key c.args.net (state_at s.last vs) = subst (λ v. Applies v.def.key c.args.net (state_at v.last v.versions)) (sym c.self.view_is) c.requires.applies in
     rw (c.as_slice.ensures, c.as_slice-2.ensures) (record {
       stand = c.self.invariant.are.order;
-      earlier = all_earlier s.last c.args.number vs later c.self.invariant.are.each;
       ends = all_at_most s.last c.args.number vs later c.self.invariant.are.each;
       orders = c.self.invariant.orders;
+      keys = closed_left s.def.key s.last s.floor c.args.number c.args.net vs later above c.self.invariant.are applies;
       new = are_new s.def.key s.last s.floor c.args.number c.args.net vs later above c.self.invariant.are applies;
       room = omega (arith, c.requires.room, ap (λ v. v.spare) c.self.view_is);
     })
