@@ -198,6 +198,14 @@ is_current positions row number v = is_none v.until && (nat_lt v.from number && 
 abbrev pub closed : List ℕ → ℕ → List (List Value) → RowVersion → RowVersion
 closed positions number rows v = record v { until = end_by v.until (not (nat_lt v.from number && has_key positions v.row rows)) number }
 
+-- whether there is a last one of some rows whose key is not below that of a row
+abbrev pub is_last_from : List ℕ → List Value → Option (List Value) → Bool
+is_last_from positions row None = false
+is_last_from positions row (Some last) = not (is_lt (key_cmp positions last row))
+
+abbrev pub ends_from : List ℕ → List Value → List (List Value) → Bool
+ends_from positions row rows = is_last_from positions row (slice_get rows (length rows - 1))
+
 -- a version with the key of a row came before a commit
 abbrev pub IsOlder : List ℕ → ℕ → List Value → RowVersion → Type 0
 IsOlder positions number row v = key_cmp positions row v.row ≡ Equal → v.from < number

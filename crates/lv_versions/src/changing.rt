@@ -1,11 +1,11 @@
 //! What a commit does to versions, in place.
-ghost use Rattle.std.specs.Prelude.{◌≡◌, ◌+◌, ◌++◌, ◌<◌, ◌≤◌, ◌∷◌, [], List, MatchOption, Some, length, map, slice_get, slice_set};
+ghost use Rattle.std.specs.Prelude.{◌≡◌, ◌+◌, ◌++◌, ◌<◌, ◌≤◌, ◌∷◌, [], List, MatchOption, Some, false, is_some, length, map, slice_get, slice_set};
 ghost use Rattle.std.specs.List.{AllByRecursion};
 ghost use Rattle.lv_values.specs.Ascending.{placed};
 ghost use Rattle.lv_shelf.specs.Cuts.{Apart, IsCut};
 ghost use Rattle.lv_shelf.specs.Shelves.{LacksItem, other_at};
 ghost use Rattle.lv_schema.specs.declared.version.RowVersion.{RowVersion};
-ghost use Rattle.lv_versions.specs.Versions.{AreNew, EndsAtMost, HaveOrders, IsOlder, Precedes, closed, comes_before, lost, new_version, version_cmp, with_versions};
+ghost use Rattle.lv_versions.specs.Versions.{AreNew, EndsAtMost, HaveOrders, IsOlder, Precedes, closed, comes_before, ends_from, lost, new_version, version_cmp, with_versions};
 
 use crate::indexes::enter_each;
 use crate::rank::rank;
@@ -113,14 +113,26 @@ fn end_rows(
     }
 }
 
+/// Whether there is a last one of some rows whose key is not below that of a row.
+fn ends_from(positions: &[u8], row: &Row, rows: &Rows) -> bool
+    ensures { result ≡ ends_from positions.now row.now rows.now }
+{
+    match rows.as_slice().last() {
+        Some(last) => !compare_keys(positions, last, row).is_lt(),
+        None => false,
+    }
+}
+
 /// The last of some rows, taken off, if its key is not below that of a row.
 fn pop_from(positions: &[u8], row: &Row, rows: &mut Rows) -> Option<Row>
-    ensures { MatchOption result (rows.new ≡ rows.old) (λ last. rows.old ≡ rows.new ++ last ∷ []) }
+    ensures popped { MatchOption result (rows.new ≡ rows.old) (λ last. rows.old ≡ rows.new ++ last ∷ []) }
+    ensures when { is_some result ≡ ends_from positions.now row.now rows.old }
 {
-    if rows.is_empty() || compare_keys(positions, rows.get(rows.len() - 1), row).is_lt() {
-        return None;
+    if ends_from(positions, row, rows) {
+        rows.pop()
+    } else {
+        None
     }
-    rows.pop()
 }
 
 /// Takes off the last of the rows that go, as long as their keys are not below that of a row that comes, and ends the
@@ -136,6 +148,7 @@ fn end_above(
     requires stand { Apart (Precedes positions.now) versions.old.list }
     requires ends { AllByRecursion (λ v. EndsAtMost number v.until) versions.old.list }
     requires orders { HaveOrders positions.now indexes.now versions.old.spare versions.old.others versions.old.list }
+    ensures left { ends_from positions.now row.now minus.new ≡ false }
     ensures same { map (closed positions.now number minus.new) (map (closed positions.now number (row.now ∷ [])) versions.new.list) ≡ map (closed positions.now number minus.old) (map (closed positions.now number (row.now ∷ [])) versions.old.list) }
     ensures stand { Apart (Precedes positions.now) versions.new.list }
     ensures ends { AllByRecursion (λ v. EndsAtMost number v.until) versions.new.list }

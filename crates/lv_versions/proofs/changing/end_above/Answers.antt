@@ -30,7 +30,7 @@ loop-lost-preserved c =
     let own : List RowVersion → List RowVersion = map (closed ps number (row ∷ [])) in
     let rest : List RowVersion → List RowVersion = map (closed ps number left) in
     let is : map (closed ps number c.loop-lost.minus) (own vs) ≡ rest (map (closed ps number (lost ∷ [])) (own vs)) =
-    ap (λ l. map (closed ps number l) (own vs)) c.in-Some.ensures ∙ closed_last ps number left lost (own vs) in
+    ap (λ l. map (closed ps number l) (own vs)) c.in-Some.ensures.popped ∙ closed_last ps number left lost (own vs) in
     elim c.if-is_ne.branch [
       | then-is_ne w ↦
           let list : c.if-is_ne.versions.list ≡ map (closed ps number (lost ∷ [])) vs = ap (λ (v : Shelved RowVersion). v.list) w.versions-is ∙ w.end_row.ensures.ended in
