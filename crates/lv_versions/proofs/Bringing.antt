@@ -22,7 +22,7 @@ use Rattle.lv_schema.specs.declared.version.RowVersion.{RowVersion}
 use Rattle.lv_shelf.specs.Cuts.{Apart}
 use Rattle.lv_versions.specs.Versions.{AreNew, EndsAtMost, EndsBy, HaveOtherKeys, IsBy, IsNewTo, IsOlder, Precedes, closed, ends_after, is_at, new_by, new_version, precedes_by, state_at, version_cmp, with_versions}
 use Rattle.lv_schema.specs.Versions.{end_by}
-use Rattle.lv_versions.proofs.Ending.{Closed, all_mapped, all_unmapped}
+use Rattle.lv_versions.proofs.Ending.{Closed, all_mapped, all_unmapped, closed_due}
 use Rattle.lv_versions.proofs.Standing.{all_placed, precedes_less, version_total}
 
 abbrev Placed : List ℕ → ℕ → List Value → List RowVersion → List RowVersion
@@ -172,6 +172,12 @@ older_new ps number row vs a b = all_mapped (Closed ps number row) (IsNewTo ps n
         at Less e = tt
         at Equal e = let lt = o e in (lt, ended v.until (nat_lt v.from number && has_key ps v.row (row ∷ [])) (hit v e lt) h)
         at Greater e = tt
+
+pub due_new : (ps : List ℕ) (number : ℕ) (plus rest : List (List Value)) (row : List Value) (minus left : List (List Value)) (vs us : List RowVersion) → plus ≡ rest ++ row ∷ []
+    → map (closed ps number left) (map (Closed ps number row) us) ≡ map (closed ps number minus) (map (Closed ps number row) vs) → AreNew ps number plus (map (closed ps number plus) (map (closed ps number minus) vs))
+    → AreNew ps number (rest ++ row ∷ []) (map (closed ps number rest) (map (closed ps number left) (map (Closed ps number row) us)))
+due_new ps number plus rest row minus left vs us popped same new =
+    subst (λ l. AreNew ps number l (map (closed ps number rest) (map (closed ps number left) (map (Closed ps number row) us)))) popped (subst (AreNew ps number plus) (closed_due ps number plus rest row minus left vs us popped same) new)
 
 -- ---- a row put in
 pub put_last : (ps : List ℕ) (number : ℕ) (rows : List (List Value)) (row : List Value) (vs : List RowVersion) → with_versions ps number (rows ++ row ∷ []) vs ≡ with_versions ps number rows (Placed ps number row vs)

@@ -168,6 +168,15 @@ closed_swap ps number rows others (v ∷ vs) =
 pub closed_last : (ps : List ℕ) (number : ℕ) (rows : List (List Value)) (row : List Value) (vs : List RowVersion) → map (closed ps number (rows ++ row ∷ [])) vs ≡ map (closed ps number rows) (map (Closed ps number row) vs)
 closed_last ps number rows row vs = sym (closed_more ps number rows row vs) ∙ closed_swap ps number (row ∷ []) rows vs
 
+-- the last of the rows that come, and others that go in place of those that did
+pub closed_due : (ps : List ℕ) (number : ℕ) (plus rest : List (List Value)) (row : List Value) (minus left : List (List Value)) (vs us : List RowVersion) → plus ≡ rest ++ row ∷ []
+    → map (closed ps number left) (map (Closed ps number row) us) ≡ map (closed ps number minus) (map (Closed ps number row) vs)
+    → map (closed ps number plus) (map (closed ps number minus) vs) ≡ map (closed ps number rest) (map (closed ps number left) (map (Closed ps number row) us))
+closed_due ps number plus rest row minus left vs us popped same =
+    ap (λ l. map (closed ps number l) (map (closed ps number minus) vs)) popped
+    ∙ closed_last ps number rest row (map (closed ps number minus) vs)
+    ∙ ap (map (closed ps number rest)) (closed_swap ps number (row ∷ []) minus vs ∙ sym same)
+
 closed_again : (ps : List ℕ) (number : ℕ) (rows : List (List Value)) (vs : List RowVersion) → map (closed ps number rows) (map (closed ps number rows) vs) ≡ map (closed ps number rows) vs
 closed_again ps number rows [] = refl
 closed_again ps number rows (v ∷ vs) =
@@ -203,10 +212,14 @@ pub all_unmapped : {X Y : Type 0} (f : X → Y) (P : Y → Type 0) (xs : List X)
 all_unmapped f P [] a = tt
 all_unmapped f P (x ∷ xs) a = (a.0, all_unmapped f P xs a.1)
 
-pub cut_mapped : {X Y : Type 0} (f : X → Y) (p : Y → Bool) (n : ℕ) (xs : List X) → IsCut (λ x. p (f x)) n xs → IsCut p n (map f xs)
+cut_mapped : {X Y : Type 0} (f : X → Y) (p : Y → Bool) (n : ℕ) (xs : List X) → IsCut (λ x. p (f x)) n xs → IsCut p n (map f xs)
 cut_mapped f p zero xs a = all_mapped f (λ y. p y ≡ false) xs a
 cut_mapped f p (suc n) [] a = a
 cut_mapped f p (suc n) (x ∷ xs) a = (a.0, cut_mapped f p n xs a.1)
+
+-- the place of a row is as it was
+pub closed_cut : (ps : List ℕ) (number : ℕ) (row : List Value) (at : ℕ) (vs us : List RowVersion) → us ≡ map (Closed ps number row) vs → IsCut (comes_before ps row number) at vs → IsCut (comes_before ps row number) at us
+closed_cut ps number row at vs us is cut = subst (IsCut (comes_before ps row number) at) (sym is) (cut_mapped (Closed ps number row) (comes_before ps row number) at vs cut)
 
 pub closed_order : (ps : List ℕ) (number : ℕ) (rows : List (List Value)) (vs : List RowVersion) → Apart (Precedes ps) vs → Apart (Precedes ps) (map (closed ps number rows) vs)
 closed_order ps number rows [] a = tt

@@ -4,9 +4,9 @@ use Rattle.lv_schema.specs.declared.version.RowVersion.{RowVersion}
 use Rattle.lv_values.specs.Ascending.{placed}
 use Rattle.lv_shelf.specs.Cuts.{Apart}
 use Rattle.lv_versions.specs.Versions.{AreNew, EndsAtMost, Precedes, closed, new_version, version_cmp, with_versions}
-use Rattle.lv_versions.proofs.Bringing.{closed_placed, last_new, new_older, older_new, placed_order, put_last, rest_new}
+use Rattle.lv_versions.proofs.Bringing.{closed_placed, due_new, last_new, new_older, older_new, placed_order, put_last, rest_new}
 use Rattle.lv_versions.proofs.Cleaning.{closed_at_most}
-use Rattle.lv_versions.proofs.Ending.{closed_last, closed_none, closed_order, closed_swap}
+use Rattle.lv_versions.proofs.Ending.{closed_due, closed_none, closed_order}
 use Rattle.lv_versions.proofs.Standing.{all_placed}
 use Rattle.lv_versions.proofs.changing.put_rows.Goals as goal
 
@@ -16,23 +16,17 @@ put_row-requires-clause-older c =
     let number = c.args.number in
     let row = c.in-Some.row in
     let rest = c.pop.new.self in
-    let minus = c.loop-row.minus in
-    let vs = c.loop-row.versions.list in
     let left = c.end_above.new.minus in
     let mid = c.end_above.new.versions.list in
-    let popped : c.loop-row.plus ≡ rest ++ row ∷ [] = c.in-Some.ensures in
     let due : List RowVersion = map (closed ps number rest) (map (closed ps number left) (map (closed ps number (row ∷ [])) mid)) in
-    let is : map (closed ps number c.loop-row.plus) (map (closed ps number minus) vs) ≡ due =
-    ap (λ l. map (closed ps number l) (map (closed ps number minus) vs)) popped
-    ∙ closed_last ps number rest row (map (closed ps number minus) vs)
-    ∙ ap (map (closed ps number rest)) (closed_swap ps number (row ∷ []) minus vs ∙ sym c.end_above.ensures.same) in
-    let new : AreNew ps number (rest ++ row ∷ []) due = subst (λ l. AreNew ps number l due) popped (subst (AreNew ps number c.loop-row.plus) is c.loop-row.invariant.new) in
-    new_older ps number row rest left mid (last_new ps number rest row due new)
+    new_older ps number row rest left mid
+    (last_new ps number rest row due (due_new ps number c.loop-row.plus rest row c.loop-row.minus left c.loop-row.versions.list mid c.in-Some.ensures c.end_above.ensures.same c.loop-row.invariant.new))
 
 pub loop-row-preserved : goal.loop-row-preserved
 loop-row-preserved c =
     let ps = c.args.positions.now in
     let number = c.args.number in
+    let plus = c.loop-row.plus in
     let row = c.in-Some.row in
     let rest = c.pop.new.self in
     let minus = c.loop-row.minus in
@@ -40,13 +34,10 @@ loop-row-preserved c =
     let left = c.end_above.new.minus in
     let mid = c.end_above.new.versions.list in
     let own : List RowVersion = map (closed ps number (row ∷ [])) mid in
-    let popped : c.loop-row.plus ≡ rest ++ row ∷ [] = c.in-Some.ensures in
     let due : List RowVersion = map (closed ps number rest) (map (closed ps number left) own) in
-    let is : map (closed ps number c.loop-row.plus) (map (closed ps number minus) vs) ≡ due =
-    ap (λ l. map (closed ps number l) (map (closed ps number minus) vs)) popped
-    ∙ closed_last ps number rest row (map (closed ps number minus) vs)
-    ∙ ap (map (closed ps number rest)) (closed_swap ps number (row ∷ []) minus vs ∙ sym c.end_above.ensures.same) in
-    let new : AreNew ps number (rest ++ row ∷ []) due = subst (λ l. AreNew ps number l due) popped (subst (AreNew ps number c.loop-row.plus) is c.loop-row.invariant.new) in
+    let popped : plus ≡ rest ++ row ∷ [] = c.in-Some.ensures in
+    let is : map (closed ps number plus) (map (closed ps number minus) vs) ≡ due = closed_due ps number plus rest row minus left vs mid popped c.end_above.ensures.same in
+    let new : AreNew ps number (rest ++ row ∷ []) due = due_new ps number plus rest row minus left vs mid popped c.end_above.ensures.same c.loop-row.invariant.new in
     let older = new_older ps number row rest left mid (last_new ps number rest row due new) in
     let moved : map (closed ps number rest) (map (closed ps number left) c.put_row.new.versions.list) ≡ placed (version_cmp ps) (new_version number row) due =
     ap (λ l. map (closed ps number rest) (map (closed ps number left) l)) c.put_row.ensures.put
@@ -59,7 +50,7 @@ loop-row-preserved c =
           (all_placed (version_cmp ps) (λ (v : RowVersion). EndsAtMost number v.until) (new_version number row) own tt (closed_at_most ps number (row ∷ []) mid c.end_above.ensures.ends));
       orders = c.put_row.ensures.orders;
       new = subst (AreNew ps number rest) (sym moved) (rest_new ps number rest row due new);
-      put = ap (with_versions ps number rest) moved ∙ sym (put_last ps number rest row due) ∙ ap (λ l. with_versions ps number l due) (sym popped) ∙ ap (with_versions ps number c.loop-row.plus) (sym is) ∙ c.loop-row.invariant.put;
+      put = ap (with_versions ps number rest) moved ∙ sym (put_last ps number rest row due) ∙ ap (λ l. with_versions ps number l due) (sym popped) ∙ ap (with_versions ps number plus) (sym is) ∙ c.loop-row.invariant.put;
       room = omega (arith, c.loop-row.invariant.room, c.put_row.ensures.room, c.end_above.ensures.room, shorter);
       taken = omega (arith, c.loop-row.invariant.taken, c.put_row.ensures.room, c.end_above.ensures.room, shorter);
     }
