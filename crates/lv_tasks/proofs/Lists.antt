@@ -4,8 +4,14 @@ use Rattle.std.specs.Prelude.{slice_set, replicate}
 use Rattle.std.proofs.lemmas.List.{get_or_default, get_or-set_same, length-set, map-set}
 use Rattle.lv_values.specs.Room.{Roomy}
 use Rattle.lv_tasks.specs.declared.task.Task.{Task}
-use Rattle.lv_tasks.specs.Kept.{tasks_kept}
+use Rattle.lv_tasks.specs.Kept.{IsLater, tasks_kept}
 use Rattle.lv_tasks.specs.Queues.{HaveRoom, lists_of, no_queue, queue_at}
+
+-- each of some tasks is of an earlier commit
+pub earlier_at : (xs : List Task) (k : ℕ) (d : Task) (n : ℕ) → IsLater n xs → k < length xs → (get_or xs k d).commit < n
+earlier_at [] k d n h lt = absurd (omega arith)
+earlier_at (x ∷ xs) zero d n h lt = h.0
+earlier_at (x ∷ xs) (suc k) d n h lt = earlier_at xs k d n h.1 (omega arith)
 
 -- the tasks of a view are those of its queue
 pub kept_at : (qs : List (Roomy Task)) (v : ℕ) → tasks_kept (lists_of qs) v ≡ (queue_at qs v).list
