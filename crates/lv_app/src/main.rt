@@ -6,13 +6,14 @@ ghost use Rattle.std.specs.Prelude.{◌≡◌};
 ghost use Rattle.lv_schema.specs.Policies.{chosen};
 ghost use Rattle.lv_picker.specs.Choices.{IsChoice};
 
-use lv_outside::{FreeGate, HostDisks, StdSink, StdSource};
+use lv_outside::{FreeGate, HostDisks, Sink, StdSink, StdSource};
 use lv_picker::{Choice, Picker, place_of_first, place_of_most, place_of_oldest};
 use lv_runner::{Status, run};
 use lv_schema::Pending;
 use lv_values::{Items, NoMemory, Text};
 use std::env::{Env, FillError};
 use std::fs::File;
+use std::io::BufWriter;
 use std::process::ExitCode;
 use std::sync::Wait;
 use std::thread::Threads;
@@ -85,7 +86,10 @@ fn run_script<T: Threads + Wait + Sync>(rt: &HostRuntime, threads: &T) -> Result
     pickers.push(Picker::new(1, most))?;
     pickers.push(Picker::new(2, first))?;
     let mut source = StdSource::new(rt.reader());
-    let mut sink = StdSink::new(io::writer(rt));
+    let Ok(output) = BufWriter::new(alloc, io::writer(rt)) else {
+        return Err(NoMemory);
+    };
+    let mut sink = StdSink::new(output);
     let mut disks = HostDisks::new(rt.clone()?);
     let ran = run(
         threads,
@@ -97,6 +101,8 @@ fn run_script<T: Threads + Wait + Sync>(rt: &HostRuntime, threads: &T) -> Result
         pickers,
         &FreeGate,
     );
+    // The replies before a fault that ends the run. A whole run has flushed its own.
+    let _ = sink.flush();
     Ok(ran.status)
 }
 

@@ -100,13 +100,6 @@ fn push_run(alloc: Global, run: &[Touch<'_>], net: &mut Net) -> Result<(), NoMem
     push_gained(alloc, first.action, last.action, &mut net.plus)
 }
 
-/// No rows, with room for so many.
-fn no_rows(alloc: Global, room: usize) -> Result<Rows, NoMemory>
-    ensures { IfOk result (λ rows. rows ≡ []) }
-{
-    Ok(Rows::from_vec(Vec::with_capacity(alloc, room)?))
-}
-
 /// What touches that ascend by their keys come to, key by key.
 fn gather(alloc: Global, touches: &[Touch<'_>]) -> Result<Net, NoMemory>
     requires { IsSorted touch_cmp touches.now }
@@ -114,8 +107,8 @@ fn gather(alloc: Global, touches: &[Touch<'_>]) -> Result<Net, NoMemory>
     ensures gained { IfOk result (λ net. net.plus ≡ by_key gained_in touches.now) }
 {
     let mut net = Net {
-        minus: no_rows(alloc, touches.len())?,
-        plus: no_rows(alloc, touches.len())?,
+        minus: Rows::from_vec(Vec::with_capacity(alloc, touches.len())?),
+        plus: Rows::from_vec(Vec::with_capacity(alloc, touches.len())?),
     };
     let mut at = 0;
     while at < touches.len() {

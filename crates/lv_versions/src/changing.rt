@@ -1,5 +1,5 @@
 //! What a commit does to versions, in place.
-ghost use Rattle.std.specs.Prelude.{◌≡◌, ◌+◌, ◌++◌, ◌<◌, ◌≤◌, ◌∷◌, [], List, MatchOption, Some, false, is_some, length, map, slice_get, slice_set};
+ghost use Rattle.std.specs.Prelude.{◌≡◌, ◌+◌, ◌++◌, ◌<◌, ◌≤◌, ◌∷◌, [], IfSome, List, MatchOption, Some, false, is_some, length, map, slice_get, slice_set};
 ghost use Rattle.std.specs.List.{AllByRecursion};
 ghost use Rattle.lv_values.specs.Ascending.{placed};
 ghost use Rattle.lv_shelf.specs.Cuts.{Apart, IsCut};
@@ -193,7 +193,8 @@ fn put_row(
 }
 
 /// Puts versions of the rows that come at their places, and ends those that they replace. Of the rows that go, those
-/// whose keys are below that of each row that comes are left. It takes no memory. Cost: as of `change`.
+/// behind the last one whose key is below that of the first row that comes are taken off. It takes no memory. Cost: as
+/// of `change`.
 fn put_rows(
     positions: &[u8],
     indexes: &[Positions],
@@ -207,6 +208,7 @@ fn put_rows(
     requires orders { HaveOrders positions.now indexes.now versions.old.spare versions.old.others versions.old.list }
     requires new { AreNew positions.now number plus (map (closed positions.now number plus) (map (closed positions.now number minus.old) versions.old.list)) }
     requires room { length plus ≤ versions.old.spare }
+    ensures left { IfSome (slice_get plus 0) (λ row. ends_from positions.now row minus.new ≡ false) }
     ensures put { map (closed positions.now number minus.new) versions.new.list ≡ with_versions positions.now number plus (map (closed positions.now number plus) (map (closed positions.now number minus.old) versions.old.list)) }
     ensures stand { Apart (Precedes positions.now) versions.new.list }
     ensures ends { AllByRecursion (λ v. EndsAtMost number v.until) versions.new.list }

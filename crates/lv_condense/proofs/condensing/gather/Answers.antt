@@ -10,8 +10,8 @@ use Rattle.lv_condense.proofs.condensing.gather.Goals as goal
 pub loop-at-init : goal.loop-at-init
 loop-at-init c = record {
   within = omega arith;
-  lost = ap (λ (l : List (List Value)). l ++ by_key lost_in c.args.touches.now) c.in_ok-no_rows.ensures;
-  gained = ap (λ (l : List (List Value)). l ++ by_key gained_in c.args.touches.now) c.in_ok-no_rows-2.ensures;
+  lost = ap (λ (l : List (List Value)). l ++ by_key lost_in c.args.touches.now) (c.from_vec.ensures ∙ c.in_ok-with_capacity.ensures.items);
+  gained = ap (λ (l : List (List Value)). l ++ by_key gained_in c.args.touches.now) (c.from_vec-2.ensures ∙ c.in_ok-with_capacity-2.ensures.items);
   rises = rises_from_sorted c.args.touches.now c.requires;
 }
 

@@ -1,7 +1,8 @@
-use Rattle.std.proofs.Common.{◌≡◌, ◌+◌, ◌≤◌, length, map}
+use Rattle.std.proofs.Common.{◌≡◌, ◌+◌, ◌++◌, ◌≤◌, drop, false, length, map}
+use Rattle.std.specs.Prelude.{IfSome, slice_get}
 use Rattle.std.specs.List.{AllByRecursion}
 use Rattle.lv_shelf.specs.Cuts.{Apart}
-use Rattle.lv_versions.specs.Versions.{HaveOrders, AreNew, EndsAtMost, Precedes, closed, with_versions}
+use Rattle.lv_versions.specs.Versions.{HaveOrders, AreNew, EndsAtMost, Precedes, closed, ends_from, with_versions}
 use Rattle.lv_versions.proofs.changing.put_rows.Given as goal
 
 abbrev pub invariant-loop-row : goal.invariant-loop-row
@@ -12,6 +13,8 @@ invariant-loop-row l = record {
   new : AreNew l.positions l.number l.plus (map (closed l.positions l.number l.plus) (map (closed l.positions l.number l.minus) l.versions.list));
   put : with_versions l.positions l.number l.plus (map (closed l.positions l.number l.plus) (map (closed l.positions l.number l.minus) l.versions.list))
       ≡ with_versions l.initial.positions l.initial.number l.initial.plus (map (closed l.initial.positions l.initial.number l.initial.plus) (map (closed l.initial.positions l.initial.number l.initial.minus) l.initial.versions.list));
+  front : l.initial.plus ≡ l.plus ++ drop (length l.plus) l.initial.plus;
+  left : IfSome (slice_get l.initial.plus (length l.plus)) (λ row. ends_from l.positions row l.minus ≡ false);
   room : length l.plus ≤ l.versions.spare;
   taken : l.versions.spare + length l.initial.plus ≡ l.initial.versions.spare + length l.plus;
 }
