@@ -1,6 +1,6 @@
 -- The first of two lists, one behind the other.
 use Rattle.std.proofs.Common.{◌≡◌, ◌++◌, List, [], ◌∷◌, Option, Some, None, refl}
-use Rattle.std.specs.Option.{option_or, option_copied}
+use Rattle.std.specs.Option.{option_or}
 use Rattle.lv_bind.specs.Sources.{first}
 
 first_append : {A : Type 0} (xs ys : List A) → first (xs ++ ys) ≡ option_or (first xs) (first ys)
