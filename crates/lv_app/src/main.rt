@@ -13,7 +13,7 @@ use lv_schema::Pending;
 use lv_values::{Items, NoMemory, Text};
 use std::env::{Env, FillError};
 use std::fs::File;
-use std::io::BufWriter;
+use std::io::{BufWriter, IsTerminal};
 use std::process::ExitCode;
 use std::sync::Wait;
 use std::thread::Threads;
@@ -21,6 +21,12 @@ use std::{env, io};
 
 /// What stands for the words where one of them is not UTF-8.
 const UNREADABLE: &str = "?";
+
+/// How many bytes of the transcript are written at once, where replies do not go one by one.
+const BLOCK: usize = 8192;
+
+/// What begins the word that names a journal.
+const LOG: &str = "--log";
 
 /// A folder that is there.
 const NO_STREAM: &str = "/";
@@ -55,6 +61,17 @@ fn words_of(rt: &HostRuntime) -> Result<Items<Text>, NoMemory> {
     Ok(words)
 }
 
+/// The size of the blocks in which replies are written: 0, each by itself, to a terminal, and beside a journal, so that a run
+/// that is killed has told each commit that is kept.
+fn block_of(rt: &HostRuntime, words: &[Text]) -> usize {
+    let has_journal = words.iter().any(|word| word.as_str().starts_with(LOG));
+    if has_journal || rt.stdout().is_terminal() {
+        0
+    } else {
+        BLOCK
+    }
+}
+
 /// Runs the script on standard input, with the three policies by which a worker chooses a view; the threads are those of the
 /// runtime.
 fn run_script<T: Threads + Wait + Sync>(rt: &HostRuntime, threads: &T) -> Result<Status, NoMemory> {
@@ -86,7 +103,8 @@ fn run_script<T: Threads + Wait + Sync>(rt: &HostRuntime, threads: &T) -> Result
     pickers.push(Picker::new(1, most))?;
     pickers.push(Picker::new(2, first))?;
     let mut source = StdSource::new(rt.reader());
-    let Ok(output) = BufWriter::new(alloc, io::writer(rt)) else {
+    let block = block_of(rt, words.as_slice());
+    let Ok(output) = BufWriter::with_capacity(alloc, block, io::writer(rt)) else {
         return Err(NoMemory);
     };
     let mut sink = StdSink::new(output);
@@ -101,7 +119,7 @@ fn run_script<T: Threads + Wait + Sync>(rt: &HostRuntime, threads: &T) -> Result
         pickers,
         &FreeGate,
     );
-    // The replies before a fault that ends the run. A whole run has flushed its own.
+    // The replies before a fault that ended the run. A whole run has flushed its own.
     let _ = sink.flush();
     Ok(ran.status)
 }
