@@ -20,6 +20,16 @@ use Rattle.lv_txn.specs.declared.conflicts.Found.{Found}
 abbrev pub put_of : List TableDef → Action → Put
 put_of tables a = record { table = a.table; key = values_at (table_at tables a.table).key a.row; row = left_by a.kind a.row }
 
+-- whether the next write, if there is one, is of the same place
+abbrev pub is_overwritten : Put → List Put → Bool
+is_overwritten q [] = false
+is_overwritten q (r ∷ puts) = same_place (q.table, q.key) (r.table, r.key)
+
+-- the writes without those that the next one overwrites
+abbrev pub kept_puts : List Put → List Put
+kept_puts [] = []
+kept_puts (q ∷ puts) = cond (is_overwritten q puts) (kept_puts puts) (q ∷ kept_puts puts)
+
 -- what writes in their order leave at a place, over what was there
 abbrev pub left_at : List Put → Place → Option (Option (List Value)) → Option (Option (List Value))
 left_at [] p row = row

@@ -124,7 +124,8 @@ impl Txns {
 
     /// Takes the actions of one more accepted change of a session that is live, also where there is none: they get the
     /// number of the change, and what they leave goes to the own rows. Want of memory changes nothing.
-    /// Cost: copies of the rows and keys, and for each action a binary search.
+    /// Cost: for each action a comparison with the next one's key, and for each whose key the next one does not write too
+    /// copies of its key and row, and a binary search.
     pub fn note(
         &mut self,
         alloc: Global,

@@ -6,11 +6,11 @@ ghost use Rattle.lv_schema.specs.Cases.{numbered};
 ghost use Rattle.lv_schema.specs.Commits.{Place};
 ghost use Rattle.lv_schema.specs.Keys.{left_by};
 ghost use Rattle.lv_overlay.specs.Puts.{put_at};
-ghost use Rattle.lv_txn.specs.Written.{left_at, put_of};
+ghost use Rattle.lv_txn.specs.Written.{is_overwritten, kept_puts, left_at, put_of};
 
 use lv_overlay::{Overlay, Put};
 use lv_schema::{Action, ActionKind, Actions, Schema};
-use lv_values::{Copying, Items, NoMemory, Room, Row, Value};
+use lv_values::{Copying, Items, NoMemory, Room, Row, Value, compare_keys};
 use std::alloc::Global;
 
 /// Writes in the order in which they are made.
@@ -20,7 +20,7 @@ pub(crate) type Puts = Items<Put>;
 pub(crate) fn key_of(alloc: Global, key: &[u8], row: &Row) -> Result<Row, NoMemory>
     ensures { IfOk result (λ r. r ≡ values_at key.now row.now) }
 {
-    let mut values = Row::new(alloc);
+    let mut values = Row::from_vec(Vec::with_capacity(alloc, key.len())?);
     for at in key {
         let value = match row.as_slice().get(*at as usize) {
             Some(value) => value.copy(alloc)?,
@@ -41,17 +41,33 @@ fn left_by(alloc: Global, action: &Action) -> Result<Option<Row>, NoMemory>
     }
 }
 
-/// The write of each action.
-pub(crate) fn puts_of(alloc: Global, schema: &Schema, actions: &[Action]) -> Result<Puts, NoMemory>
-    ensures { IfOk result (λ puts. puts ≡ map (put_of schema.now.tables) actions.now) }
+/// Whether the first of the actions behind an action writes the same key. Cost: one comparison of keys in place.
+fn is_overwritten(schema: &Schema, action: &Action, behind: &[Action]) -> bool
+    ensures { result ≡ is_overwritten (put_of schema.now.tables action.now) (map (put_of schema.now.tables) behind.now) }
 {
-    let mut puts = Puts::new(alloc);
-    for action in actions {
-        puts.push(Put {
-            table: action.table,
-            key: key_of(alloc, schema.key(action.table), &action.row)?,
-            row: left_by(alloc, action)?,
-        })?;
+    match behind.first() {
+        Some(next) => {
+            action.table == next.table
+                && compare_keys(schema.key(action.table), &action.row, &next.row).is_eq()
+        }
+        None => false,
+    }
+}
+
+/// The writes of actions, without those that the next one overwrites. Cost: for each action a comparison of keys, and
+/// for each write that is left copies of its key and row.
+pub(crate) fn puts_of(alloc: Global, schema: &Schema, actions: &[Action]) -> Result<Puts, NoMemory>
+    ensures { IfOk result (λ puts. puts ≡ kept_puts (map (put_of schema.now.tables) actions.now)) }
+{
+    let mut puts = Puts::from_vec(Vec::with_capacity(alloc, actions.len())?);
+    for (i, action) in actions.iter().enumerate() {
+        if !is_overwritten(schema, action, actions.split_at(i + 1).1) {
+            puts.push(Put {
+                table: action.table,
+                key: key_of(alloc, schema.key(action.table), &action.row)?,
+                row: left_by(alloc, action)?,
+            })?;
+        }
     }
     Ok(puts)
 }

@@ -1,6 +1,8 @@
-use Rattle.std.proofs.Common.{◌≡◌, map, take}
-use Rattle.lv_txn.specs.Written.{put_of}
+use Rattle.std.proofs.Common.{◌≡◌, ◌++◌, map, drop}
+use Rattle.lv_txn.specs.Written.{kept_puts, put_of}
 use Rattle.lv_txn.proofs.writing.puts_of.Given as goal
 
-abbrev pub invariant-loop-action : goal.invariant-loop-action
-invariant-loop-action l = l.puts ≡ map (put_of l.schema.tables) (take l.action-index l.actions)
+abbrev pub invariant-loop-i : goal.invariant-loop-i
+invariant-loop-i l =
+    let tables = l.schema.tables in
+    l.puts ++ kept_puts (map (put_of tables) (drop l.i l.actions)) ≡ kept_puts (map (put_of tables) l.actions)
