@@ -106,7 +106,7 @@ found_is c d m n e =
     let at : Option (Class × ℕ) → Class × ℕ = λ o. elim o [ None ↦ (c, m) | Some p ↦ p ] in (ap (λ o. (at o).0) e, ap (λ o. (at o).1) e)
 
 -- the spelling that begins the bytes
-begins : (bytes spelling : List ℕ) → starts_with nat_eq bytes spelling ≡ true → spelling ≡ take (length spelling) bytes
+pub begins : (bytes spelling : List ℕ) → starts_with nat_eq bytes spelling ≡ true → spelling ≡ take (length spelling) bytes
 begins bytes spelling e = (bytes_eq-Decides spelling (take (length spelling) bytes)).0 e
 
 fits_in : (bytes spelling : List ℕ) → spelling ≡ take (length spelling) bytes → length spelling ≤ length bytes

@@ -1,6 +1,7 @@
 -- What is known of the bytes of a token of each kind.
-use Rattle.std.proofs.Common.{◌≡◌, ℕ, zero, suc, ◌+◌, ◌-◌, ◌*◌, ◌^◌, ◌≤◌, ◌<◌, Bool, true, false, cond, List, [], ◌∷◌, length, get_or, take, drop, slice_range, refl, sym, ap, ap₂, ◌==◌, ◌&&◌, ◌∙◌, subst, arith, inl, inr, eqb-true, length-drop}
-use Rattle.std.specs.List.{list_all, prefix_len}
+use Rattle.std.proofs.Common.{◌≡◌, ℕ, zero, suc, ◌+◌, ◌-◌, ◌*◌, ◌^◌, ◌≤◌, ◌<◌, Bool, true, false, cond, List, [], ◌∷◌, ◌++◌, nat_eq, nat_lt, Option, Some, length, get_or, take, drop, slice_range, refl, sym, ap, ap₂, ◌==◌, ◌&&◌, ◌∙◌, subst, arith, inl, inr, eqb-true, length-drop}
+use Rattle.std.specs.List.{list_all, prefix_len, starts_with}
+use borrow.Author.Tests.{ltb-true}
 use Rattle.std.proofs.lemmas.Bool.{cases_lt, leb-true}
 use Rattle.std.proofs.lemmas.Bool.Decides.{nat_tests}
 use Rattle.std.proofs.lemmas.List.{get_or_past, take_all, length-take-le}
@@ -8,18 +9,19 @@ use Rattle.std.proofs.lemmas.Grind.{common_steps}
 use Rattle.std.specs.Char.{digit_value, to_ascii_lowercase, is_ascii_digit}
 use Rattle.std.specs.Str.{IsCharBoundary, IsUtf8, IsAscii, str_to_ascii_lowercase}
 use Rattle.std.specs.Str.Parse.{digits_value, AllDigits}
-use Rattle.std.proofs.lemmas.Str.{IsUtf8-between, IsCharBoundary-after_ascii, IsCharBoundary-before_ascii, IsUtf8-from_ascii}
-use Rattle.std.proofs.lemmas.Str.Ascii.{IsAscii-map, lowercase_ascii}
+use Rattle.std.proofs.lemmas.Str.{IsUtf8-between, IsCharBoundary-after_ascii, IsCharBoundary-before_ascii}
 use Rattle.std.proofs.lemmas.Int.Digits.{digits_value_more}
 use Rattle.std.proofs.lemmas.Str.Parse.{digits_value-take-le, digits_value_short, numerals_by_value, tells_digits}
 use Rattle.lv_values.specs.Names.{is_letter, is_word_byte}
 use Rattle.lv_lexer.specs.declared.token.Token.{Token}
 use Rattle.lv_lexer.specs.declared.token.TokenKind.{TokenKind}
-use Rattle.lv_lexer.specs.declared.token.TokenKind.TheVariants.{Word, Number, Text}
+use Rattle.lv_lexer.specs.declared.token.TokenKind.TheVariants.{Word, Number, Text, Sign}
 use Rattle.lv_lexer.specs.Piece.{piece}
 use Rattle.lv_lexer.specs.Scan.{Spells, IsTokenOf, text_in}
 use Rattle.lv_lexer.proofs.Sorts.{IsPiece, piece_is}
-use Rattle.lv_lexer.proofs.Fronts.{closes}
+use Rattle.lv_lexer.proofs.Fronts.{closes, found_is, begins}
+use Rattle.lv_lexer.specs.Signs.{first_fit, long_signs, short_signs}
+use Rattle.lv_lexer.specs.declared.terminals.Class.{Class}
 
 -- where a run is all of the bytes, each of them passes
 run_all : (p : ℕ → Bool) (bytes : List ℕ) → prefix_len p bytes ≡ length bytes → (i : ℕ) → i < length bytes → p (get_or bytes i 0) ≡ true
@@ -60,6 +62,16 @@ is_number (b ∷ bytes) e =
     let known : IsPiece b bytes Number (suc (length bytes)) = piece_is b bytes Number (suc (length bytes)) e in
     record { each = each_from is_ascii_digit b bytes known.1 (omega (arith, known.2)); few = omega (arith, known.2, leb-true (1 + prefix_len is_ascii_digit bytes) 38 known.3) }
 
+digit_small : (c : ℕ) → is_ascii_digit c ≡ true → c < 128
+digit_small c e = omega (arith, digit_known c e)
+
+is_ascii_number : (digits : List ℕ) → IsNumber digits → IsAscii digits
+is_ascii_number digits known i =
+    elim (cases_lt i (length digits)) [
+      | inl h ↦ digit_small (get_or digits i 0) (known.each i h)
+      | inr h ↦ omega (arith, get_or_past digits i 0 h)
+    ]
+
 -- the number fits, and each step on the way to it
 pub number_small : (digits : List ℕ) → IsNumber digits → digits_value 10 digits < 10 ^ 38
 number_small digits known = digits_value_short (numerals_by_value (AllDigits 10) tells_digits) digits 38 (all_digits digits known.each) known.few
@@ -89,9 +101,48 @@ is_ascii_word (b ∷ bytes) e i =
       | inr h ↦ omega (arith, get_or_past (b ∷ bytes) i 0 h)
     ]
 
--- in lower case it is a text
-pub lower_is_utf8 : (word : List ℕ) → Spells word Word → IsUtf8 (str_to_ascii_lowercase word)
-lower_is_utf8 word e = IsUtf8-from_ascii (str_to_ascii_lowercase word) (IsAscii-map to_ascii_lowercase word lowercase_ascii (is_ascii_word word e))
+-- ---- signs
+
+-- whether each of these spellings is ASCII
+all_ascii : List (List ℕ × Class) → Bool
+all_ascii table = list_all (λ s. list_all (λ b. nat_lt b 128) s.0) table
+
+ascii_if : (bytes : List ℕ) → list_all (λ b. nat_lt b 128) bytes ≡ true → IsAscii bytes
+ascii_if [] e i = omega arith
+ascii_if (b ∷ bytes) e zero = by (nat_lt b 128) refl e
+  where
+    by : (t : Bool) → nat_lt b 128 ≡ t → (t && list_all (λ b. nat_lt b 128) bytes) ≡ true → b < 128
+    by true q e = ltb-true b 128 q
+    by false q e = absurd cc
+ascii_if (b ∷ bytes) e (suc i) = by (nat_lt b 128) e (λ more. ascii_if bytes more i)
+  where
+    by : (t : Bool) → (t && list_all (λ b. nat_lt b 128) bytes) ≡ true → (list_all (λ b. nat_lt b 128) bytes ≡ true → get_or bytes i 0 < 128) → get_or bytes i 0 < 128
+    by true e more = more e
+    by false e more = absurd cc
+
+-- bytes that are one of these spellings
+fits_ascii : (table : List (List ℕ × Class)) (bytes : List ℕ) (class : Class) → all_ascii table ≡ true → first_fit table bytes ≡ Some (class, length bytes) → IsAscii bytes
+unfolding all_ascii
+fits_ascii [] bytes class a e = absurd cc
+fits_ascii (s ∷ more) bytes class a e = by (starts_with nat_eq bytes s.0) (list_all (λ b. nat_lt b 128) s.0) refl refl a e (fits_ascii more bytes class)
+  where
+    by : (t u : Bool) → starts_with nat_eq bytes s.0 ≡ t → list_all (λ b. nat_lt b 128) s.0 ≡ u → (u && all_ascii more) ≡ true
+        → cond t (Some (s.1, length s.0)) (first_fit more bytes) ≡ Some (class, length bytes)
+        → (all_ascii more ≡ true → first_fit more bytes ≡ Some (class, length bytes) → IsAscii bytes) → IsAscii bytes
+    by true true q l a e rest =
+        let same = found_is s.1 class (length s.0) (length bytes) e in
+        let whole : s.0 ≡ bytes = begins bytes s.0 q ∙ take_all (length s.0) bytes (omega (arith, same.1)) in
+        subst IsAscii whole (ascii_if s.0 l)
+    by true false q l a e rest = absurd cc
+    by false true q l a e rest = rest a e
+    by false false q l a e rest = absurd cc
+
+is_ascii_sign : (sign : List ℕ) → Spells sign Sign → IsAscii sign
+unfolding piece all_ascii
+is_ascii_sign [] e i = absurd cc
+is_ascii_sign (b ∷ bytes) e i =
+    let known : IsPiece b bytes Sign (suc (length bytes)) = piece_is b bytes Sign (suc (length bytes)) e in
+    fits_ascii (long_signs ++ short_signs) (b ∷ bytes) known.3.0 refl known.3.1 i
 
 -- ---- texts
 
@@ -124,25 +175,41 @@ inside_is_utf8 bytes q u =
     let end = IsCharBoundary-before_ascii bytes (length bytes - 1) (omega (arith, q.long)) (omega (arith, q.last)) in
     IsUtf8-between bytes 1 (length bytes - 1) u (omega (arith, q.long)) begin end
 
+-- ---- the ends of a token
+
+-- its first and its last byte are ASCII
+pub record HasAsciiEnds (bytes : List ℕ) : Type 0 where
+  pub first : get_or bytes 0 0 < 128
+  pub last : get_or bytes (length bytes - 1) 0 < 128
+
+ascii_ends : (bytes : List ℕ) → IsAscii bytes → HasAsciiEnds bytes
+ascii_ends bytes a = record { first = a 0; last = a (length bytes - 1) }
+
+has_ascii_ends : (bytes : List ℕ) (kind : TokenKind) → Spells bytes kind → HasAsciiEnds bytes
+has_ascii_ends bytes Word e = ascii_ends bytes (is_ascii_word bytes e)
+has_ascii_ends bytes Number e = ascii_ends bytes (is_ascii_number bytes (is_number bytes e))
+has_ascii_ends bytes Text e = let q = is_quoted bytes e in record { first = omega (arith, q.first); last = omega (arith, q.last) }
+has_ascii_ends bytes Sign e = ascii_ends bytes (is_ascii_sign bytes e)
+
 at_slice : (line : List ℕ) (start end i : ℕ) → start + i < end → get_or (slice_range line start end) i 0 ≡ get_or line (start + i) 0
 at_slice line start end i h = grind (arith, common_steps)
 
--- the bytes of a text token are a text
-pub token_is_utf8 : (line : List ℕ) (t : Token) → IsTokenOf line t → t.kind ≡ Text → IsUtf8 line → IsUtf8 (text_in line t)
-token_is_utf8 line t known kind u =
-    let P : TokenKind → Type 0 = λ k. Spells (text_in line t) k in
-    let q = is_quoted (text_in line t) (subst P kind known.spelled) in
+-- a token begins and ends between characters
+pub token_bounds : (line : List ℕ) (t : Token) → IsTokenOf line t → IsUtf8 line → IsCharBoundary line t.start × IsCharBoundary line t.end
+token_bounds line t known u =
+    let ends = has_ascii_ends (text_in line t) t.kind known.spelled in
     let order = known.order in
     let within = known.within in
     let whole : length (text_in line t) ≡ t.end - t.start = length-take-le (t.end - t.start) (drop t.start line) (omega (arith, length-drop t.start line)) in
-    let first : get_or line (t.start + 0) 0 ≡ 39 = sym (at_slice line t.start t.end 0 (omega arith)) ∙ q.first in
+    let first : get_or line (t.start + 0) 0 < 128 = omega (arith, at_slice line t.start t.end 0 (omega arith), ends.first) in
     let last_at : t.start + (length (text_in line t) - 1) ≡ t.end - 1 = omega arith in
-    let last : get_or line (t.end - 1) 0 ≡ 39 =
-    ap (λ (i : ℕ). get_or line i 0) (sym last_at) ∙ sym (at_slice line t.start t.end (length (text_in line t) - 1) (omega arith)) ∙ q.last in
+    let same : get_or (text_in line t) (length (text_in line t) - 1) 0 ≡ get_or line (t.end - 1) 0 =
+    at_slice line t.start t.end (length (text_in line t) - 1) (omega arith) ∙ ap (λ (i : ℕ). get_or line i 0) last_at in
+    let last : get_or line (t.end - 1) 0 < 128 = omega (arith, same, ends.last) in
     let begin = IsCharBoundary-before_ascii line (t.start + 0) (omega arith) (omega arith) in
     let end = IsCharBoundary-after_ascii line (t.end - 1) u (omega arith) (omega arith) in
     let B : ℕ → Type 0 = λ i. IsCharBoundary line i in
-    IsUtf8-between line t.start t.end u (omega arith) (subst B (omega arith) begin) (subst B (omega arith) end)
+    (subst B (omega arith) begin, subst B (omega arith) end)
 
 -- a word of which each byte is itself in lower case is so too
 pub is_in_lower_case : (word : List ℕ) → list_all (λ byte. to_ascii_lowercase byte == byte) word ≡ true → str_to_ascii_lowercase word ≡ word

@@ -57,11 +57,11 @@ fn undouble(alloc: Global, bytes: &[u8]) -> Result<Bytes, NoMemory>
 }
 
 /// What a text between quotes says.
-fn unquote(alloc: Global, bytes: &[u8]) -> Result<Text, NoMemory>
-    requires text { Spells bytes.now sort.Text }
-    requires utf8 { IsUtf8 bytes.now }
-    ensures { IfOk result (λ text. text ≡ unquoted bytes.now) }
+fn unquote(alloc: Global, quoted: &str) -> Result<Text, NoMemory>
+    requires { Spells quoted.now sort.Text }
+    ensures { IfOk result (λ text. text ≡ unquoted quoted.now) }
 {
+    let bytes = quoted.as_bytes();
     let inside = undouble(alloc, &bytes[1..bytes.len() - 1])?;
     as_text(alloc, inside.as_slice())
 }
@@ -81,15 +81,14 @@ fn is_lower(word: &[u8]) -> bool
 }
 
 /// The word in lower case.
-fn lower(alloc: Global, word: &[u8]) -> Result<Text, NoMemory>
-    requires { Spells word.now sort.Word }
+fn lower(alloc: Global, word: &str) -> Result<Text, NoMemory>
     ensures { IfOk result (λ text. text ≡ str_to_ascii_lowercase word.now) }
 {
-    if is_lower(word) {
-        return as_text(alloc, word);
+    if is_lower(word.as_bytes()) {
+        return Text::from_str(alloc, word);
     }
     let lowered = word.to_ascii_lowercase(alloc)?;
-    as_text(alloc, lowered.as_slice())
+    Text::from_str(alloc, lowered.as_str())
 }
 
 /// The number that the digits represent.
@@ -117,15 +116,14 @@ fn sign_of(sign: &[u8]) -> Class
 }
 
 /// What a token says that is a word: a keyword, or a name in lower case.
-fn word(alloc: Global, bytes: &[u8], byte: u32) -> Result<Terminal, NoMemory>
-    requires { Spells bytes.now sort.Word }
-    ensures { IfOk result (λ t. t ≡ said sort.Word bytes.now byte) }
+fn word(alloc: Global, word: &str, byte: u32) -> Result<Terminal, NoMemory>
+    ensures { IfOk result (λ t. t ≡ said sort.Word word.now byte) }
 {
-    match keyword_of(bytes) {
+    match keyword_of(word.as_bytes()) {
         Some(class) => plain(alloc, class, byte),
         None => Ok(Terminal {
             class: Class::Name,
-            text: lower(alloc, bytes)?,
+            text: lower(alloc, word)?,
             number: 0,
             byte,
         }),
@@ -144,28 +142,32 @@ fn plain(alloc: Global, class: Class, byte: u32) -> Result<Terminal, NoMemory>
     })
 }
 
-/// What the bytes say, which spell a token of this kind and stand at this byte of the line.
-fn read_bytes(alloc: Global, bytes: &[u8], kind: TokenKind, byte: u32) -> Result<Terminal, NoMemory>
-    requires spelled { Spells bytes.now kind }
-    requires utf8 { kind ≡ sort.Text → IsUtf8 bytes.now }
-    ensures said { IfOk result (λ t. t ≡ said kind bytes.now byte) }
+/// What the spelling of a token of this kind says, which stands at this byte of the line.
+fn read_spelling(
+    alloc: Global,
+    spelling: &str,
+    kind: TokenKind,
+    byte: u32,
+) -> Result<Terminal, NoMemory>
+    requires { Spells spelling.now kind }
+    ensures said { IfOk result (λ t. t ≡ said kind spelling.now byte) }
     ensures small { IfOk result (λ t. t.number < 10 ^ 38) }
 {
     match kind {
-        TokenKind::Word => word(alloc, bytes, byte),
+        TokenKind::Word => word(alloc, spelling, byte),
         TokenKind::Number => Ok(Terminal {
             class: Class::Number,
             text: Text::from_str(alloc, "")?,
-            number: number_of(bytes),
+            number: number_of(spelling.as_bytes()),
             byte,
         }),
         TokenKind::Text => Ok(Terminal {
             class: Class::Quoted,
-            text: unquote(alloc, bytes)?,
+            text: unquote(alloc, spelling)?,
             number: 0,
             byte,
         }),
-        TokenKind::Sign => plain(alloc, sign_of(bytes), byte),
+        TokenKind::Sign => plain(alloc, sign_of(spelling.as_bytes()), byte),
     }
 }
 
@@ -175,8 +177,8 @@ pub fn read_token(alloc: Global, line: &Text, token: &Token) -> Result<Terminal,
     ensures said { IfOk result (λ t. t ≡ terminal_of line.now token.now) }
     ensures small { IfOk result (λ t. t.number < 10 ^ 38) }
 {
-    let bytes = &line.as_bytes()[token.start as usize..token.end as usize];
-    read_bytes(alloc, bytes, token.kind, token.start + 1)
+    let spelling = &line.as_str()[token.start as usize..token.end as usize];
+    read_spelling(alloc, spelling, token.kind, token.start + 1)
 }
 
 /// No terminal, with room for so many.

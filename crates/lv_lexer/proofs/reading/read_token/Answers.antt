@@ -1,12 +1,18 @@
-use Rattle.std.proofs.Common.{List, ℕ, sym, subst, slice_range}
-use Rattle.std.specs.Str.{IsUtf8}
-use Rattle.lv_lexer.proofs.Said.{token_is_utf8}
+use Rattle.std.proofs.Common.{List, ℕ, sym, subst}
+use Rattle.std.specs.Str.{IsUtf8, IsCharBoundary}
+use Rattle.lv_lexer.proofs.Said.{token_bounds}
 use Rattle.lv_lexer.proofs.reading.read_token.Goals as goal
 
-pub read_bytes-requires-clause-utf8 : goal.read_bytes-requires-clause-utf8
-read_bytes-requires-clause-utf8 c kind =
+pub range-spelling-requires-clause-start_boundary : goal.range-spelling-requires-clause-start_boundary
+range-spelling-requires-clause-start_boundary c some =
     let t = c.args.token.now in
     let P : List ℕ → Type 0 = λ line. IsUtf8 line in
-    let Q : List ℕ → Type 0 = λ line. IsUtf8 (slice_range line t.start t.end) in
-    let u = subst P c.as_bytes.ensures.same c.as_bytes.ensures.utf8 in
-    subst Q (sym c.as_bytes.ensures.same) (token_is_utf8 c.args.line.now t c.requires kind u)
+    let B : List ℕ → Type 0 = λ line. IsCharBoundary line t.start in
+    subst B (sym c.as_str.ensures) (token_bounds c.args.line.now t c.requires (subst P c.as_str.ensures c.as_str.utf8)).0
+
+pub range-spelling-requires-clause-end_boundary : goal.range-spelling-requires-clause-end_boundary
+range-spelling-requires-clause-end_boundary c =
+    let t = c.args.token.now in
+    let P : List ℕ → Type 0 = λ line. IsUtf8 line in
+    let B : List ℕ → Type 0 = λ line. IsCharBoundary line t.end in
+    subst B (sym c.as_str.ensures) (token_bounds c.args.line.now t c.requires (subst P c.as_str.ensures c.as_str.utf8)).1
