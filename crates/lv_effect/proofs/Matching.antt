@@ -1,24 +1,34 @@
 -- Going over the rows of a table one by one: what a condition keeps, and the actions on it.
-use Rattle.std.proofs.Common.{◌≡◌, ℕ, ◌+◌, ◌<◌, ℤ, Bool, true, false, cond, List, [], ◌∷◌, ◌++◌, length, drop, get_or, map, refl, sym, ◌∙◌, ap, append_assoc}
-use Rattle.std.specs.Prelude.{Option, Some, None, is_some, slice_get}
+use Rattle.std.proofs.Common.{◌≡◌, ℕ, ◌+◌, ◌<◌, ℤ, Bool, true, false, cond, List, [], ◌∷◌, ◌++◌, length, drop, get_or, map, refl, sym, ◌∙◌, ap, append_assoc, ◌*◌, ◌/◌, arith}
+use Rattle.std.specs.Prelude.{Option, Some, None, Ok, is_some, slice_get}
 use Rattle.std.specs.List.{flat_map, filter_map}
-use Rattle.std.proofs.lemmas.List.{drop_more}
+use Rattle.std.proofs.lemmas.List.{drop_more, append-nil}
+use Rattle.std.proofs.Math.Nat.{mul-div_cancel}
 use Rattle.lv_values.specs.declared.value.Value.{Value}
+use Rattle.lv_schema.specs.declared.action.Action.{Action}
+use Rattle.lv_schema.specs.declared.change.Change.TheVariants.{Update}
 use Rattle.lv_schema.specs.declared.change.Set.{Set}
 use Rattle.lv_schema.specs.declared.cond.Cond.{Cond}
-use Rattle.lv_schema.specs.Effects.{matching, wide_number, first_wide, deletes}
+use Rattle.lv_schema.specs.declared.table.TableDef.{TableDef}
+use Rattle.lv_schema.specs.Effects.{matching, wide_number, first_wide, deletes, effect_on}
 use Rattle.lv_schema.specs.Truth.{holds}
 use Rattle.lv_effect.specs.TableActions.{delete_actions, update_actions, replaces}
 
 -- a list that a loop makes piece by piece, where f of a list is that of its head and that of its rest
 pub one_more : {X Y : Type 0} (f : List X → List Y) → ((x : X) (xs : List X) → f (x ∷ xs) ≡ f (x ∷ []) ++ f xs)
-    → (xs : List X) (i : ℕ) (x : X) (out all : List Y) → i < length xs → x ≡ get_or xs i x
-    → out ++ f (drop i xs) ≡ all → (out ++ f (x ∷ [])) ++ f (drop (i + 1) xs) ≡ all
-one_more f split xs i x out all h e inv =
-    append_assoc out (f (x ∷ [])) (f (drop (i + 1) xs))
-    ∙ ap (λ l. out ++ l) (sym (split x (drop (i + 1) xs)))
-    ∙ ap (λ l. out ++ f l) (ap (λ y. y ∷ drop (i + 1) xs) e ∙ sym (drop_more xs i x h))
+    → (x : X) (xs here : List X) (out all : List Y) → here ≡ x ∷ xs
+    → out ++ f here ≡ all → (out ++ f (x ∷ [])) ++ f xs ≡ all
+one_more f split x xs here out all e inv =
+    append_assoc out (f (x ∷ [])) (f xs)
+    ∙ ap (λ l. out ++ l) (sym (split x xs))
+    ∙ ap (λ l. out ++ f l) (sym e)
     ∙ inv
+
+-- it is whole where nothing is left
+pub none_left : {X Y : Type 0} (f : List X → List Y) → f [] ≡ [] → (left : List X) (out all : List Y) → length left ≡ 0
+    → out ++ f left ≡ all → out ≡ all
+none_left f empty [] out all e inv = sym (append-nil out) ∙ ap (λ l. out ++ l) (sym empty) ∙ inv
+none_left f empty (_ ∷ _) out all e inv = cc
 
 pub matching_split : (c : Cond) (x : List Value) (xs : List (List Value)) → matching c (x ∷ xs) ≡ matching c (x ∷ []) ++ matching c xs
 matching_split c x xs = by (holds c (x ∷ []))
@@ -42,6 +52,24 @@ deletes_split table c x xs = ap (map (deletes table)) (matching_split c x xs) �
 pub updates_split : (table : ℕ) (sets : List Set) (c : Cond) (x : List Value) (xs : List (List Value))
     → update_actions table sets c (x ∷ xs) ≡ update_actions table sets c (x ∷ []) ++ update_actions table sets c xs
 updates_split table sets c x xs = ap (flat_map (replaces table sets)) (matching_split c x xs) ∙ flat_append (replaces table sets) (matching c (x ∷ [])) (matching c xs)
+
+-- an UPDATE has two actions for each row
+length_replaces : (table : ℕ) (sets : List Set) (rows : List (List Value)) → length (flat_map (replaces table sets) rows) ≡ length rows * 2
+length_replaces table sets [] = refl
+length_replaces table sets (row ∷ rows) = omega (arith, length_replaces table sets rows)
+
+pub half_updates : (table : ℕ) (sets : List Set) (c : Cond) (rows : List (List Value)) → length (update_actions table sets c rows) / 2 ≡ length (matching c rows)
+half_updates table sets c rows = ap (λ n. n / 2) (length_replaces table sets (matching c rows)) ∙ mul-div_cancel (length (matching c rows)) two
+  where
+    two : 0 < 2
+    two = omega arith
+
+-- what an UPDATE does where no number is wide: its rows are half its actions
+pub update_done : (def : TableDef) (table : ℕ) (sets : List Set) (c : Cond) (rows : List (List Value)) (n : ℕ) (actions : List Action)
+    → first_wide sets (matching c rows) ≡ None → n ≡ length actions → actions ≡ update_actions table sets c rows
+    → effect_on def (Update table sets c) rows ≡ Ok (record { count = n / 2; actions = actions })
+update_done def table sets c rows n actions none size made =
+    rw (none, size, made, half_updates table sets c rows) refl
 
 -- the one, and where there is none the other
 abbrev pub first_or : {X : Type 0} → Option X → Option X → Option X

@@ -63,11 +63,11 @@ pub fn effect<L: Ledger>(
             cond,
         } => {
             let tried = rows_to_try(alloc, table, base, n, own, cond, steps)?;
-            update_effect(alloc, *no, sets.as_slice(), cond, tried.as_slice())
+            update_effect(alloc, *no, sets.as_slice(), cond, tried)
         }
         Change::Delete { table: no, cond } => {
             let tried = rows_to_try(alloc, table, base, n, own, cond, steps)?;
-            delete_effect(alloc, *no, cond, tried.as_slice())
+            delete_effect(alloc, *no, cond, tried)
         }
     }
 }

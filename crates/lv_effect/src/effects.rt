@@ -13,7 +13,7 @@ ghost use Rattle.lv_effect.specs.Answered.{GivesEffect};
 
 use crate::fault::EffectFault;
 use lv_schema::{Action, ActionKind, Actions, Cond, Fault, Set, SetValue, holds};
-use lv_values::{Copying, NoMemory, Row, Value};
+use lv_values::{Copying, NoMemory, Row, Rows, Value};
 use std::alloc::Global;
 use std::slice::from_ref;
 
@@ -137,50 +137,42 @@ pub(crate) fn action(table: u32, kind: ActionKind, row: Row) -> Action
     }
 }
 
-/// Appends the action of a DELETE on a row, where the condition keeps the row.
-fn delete_row(
-    alloc: Global,
-    table: u32,
-    cond: &Cond,
-    row: &Row,
-    actions: &mut Actions,
-) -> Result<(), NoMemory>
-    ensures { OnOk result (actions.new ≡ actions.old ++ delete_actions table cond.now (row.now ∷ [])) }
+/// Appends the action of a DELETE on a row, where the condition keeps the row. The row moves into it.
+fn delete_row(table: u32, cond: &Cond, row: Row, actions: &mut Actions) -> Result<(), NoMemory>
+    ensures { OnOk result (actions.new ≡ actions.old ++ delete_actions table cond.now (row ∷ [])) }
 {
-    if keeps(cond, row) {
-        let row = row.copy(alloc)?;
+    if keeps(cond, &row) {
         return actions.push(action(table, ActionKind::Delete, row));
     }
     Ok(())
 }
 
 /// The actions of a DELETE: one for each row that the condition keeps, in the order of the keys.
-fn deletes(alloc: Global, table: u32, cond: &Cond, rows: &[Row]) -> Result<Actions, NoMemory>
-    ensures { IfOk result (λ a. a ≡ delete_actions table cond.now rows.now) }
+fn deletes(alloc: Global, table: u32, cond: &Cond, rows: Rows) -> Result<Actions, NoMemory>
+    ensures { IfOk result (λ a. a ≡ delete_actions table cond.now rows) }
 {
     let mut actions = Actions::new(alloc);
-    for row in rows {
-        delete_row(alloc, table, cond, row, &mut actions)?;
+    for row in rows.into_vec() {
+        delete_row(table, cond, row, &mut actions)?;
     }
     Ok(actions)
 }
 
-/// Appends the actions of an UPDATE on a row, where the condition keeps the row.
+/// Appends the actions of an UPDATE on a row, where the condition keeps the row. The row moves into the first one.
 fn update_row(
     alloc: Global,
     table: u32,
     sets: &[Set],
     cond: &Cond,
-    row: &Row,
+    row: Row,
     actions: &mut Actions,
 ) -> Result<(), NoMemory>
-    requires { RowSumsFit sets.now row.now }
-    ensures { OnOk result (actions.new ≡ actions.old ++ update_actions table sets.now cond.now (row.now ∷ [])) }
+    requires { RowSumsFit sets.now row }
+    ensures { OnOk result (actions.new ≡ actions.old ++ update_actions table sets.now cond.now (row ∷ [])) }
 {
-    if keeps(cond, row) {
-        let old = row.copy(alloc)?;
-        let new = updated(alloc, sets, row)?;
-        actions.push(action(table, ActionKind::Delete, old))?;
+    if keeps(cond, &row) {
+        let new = updated(alloc, sets, &row)?;
+        actions.push(action(table, ActionKind::Delete, row))?;
         return actions.push(action(table, ActionKind::Insert, new));
     }
     Ok(())
@@ -193,50 +185,45 @@ fn updates(
     table: u32,
     sets: &[Set],
     cond: &Cond,
-    rows: &[Row],
+    rows: Rows,
 ) -> Result<Actions, NoMemory>
-    requires { SumsFit sets.now rows.now }
-    ensures { IfOk result (λ a. a ≡ update_actions table sets.now cond.now rows.now) }
+    requires { SumsFit sets.now rows }
+    ensures { IfOk result (λ a. a ≡ update_actions table sets.now cond.now rows) }
 {
     let mut actions = Actions::new(alloc);
-    for row in rows {
+    for row in rows.into_vec() {
         update_row(alloc, table, sets, cond, row, &mut actions)?;
     }
     Ok(actions)
 }
 
-/// What an UPDATE does. Cost: three passes over the rows.
+/// What an UPDATE does. Cost: two passes over the rows.
 pub(crate) fn update_effect(
     alloc: Global,
     table: u32,
     sets: &[Set],
     cond: &Cond,
-    rows: &[Row],
+    rows: Rows,
 ) -> Result<(u64, Actions), EffectFault>
-    requires { SumsFit sets.now rows.now }
-    ensures { (def : ATable) → GivesEffect result (effect_on def (Update table sets.now cond.now) rows.now) }
+    requires { SumsFit sets.now rows }
+    ensures { (def : ATable) → GivesEffect result (effect_on def (Update table sets.now cond.now) rows) }
 {
-    if let Some(number) = first_wide(sets, cond, rows) {
+    if let Some(number) = first_wide(sets, cond, rows.as_slice()) {
         return Err(EffectFault::Stmt(Fault::Range { number }));
     }
-    Ok((count(cond, rows), updates(alloc, table, sets, cond, rows)?))
+    let actions = updates(alloc, table, sets, cond, rows)?;
+    Ok((actions.len() as u64 / 2, actions))
 }
 
-/// What a DELETE does. Cost: two passes over the rows.
+/// What a DELETE does. Cost: one pass over the rows.
 pub(crate) fn delete_effect(
     alloc: Global,
     table: u32,
     cond: &Cond,
-    rows: &[Row],
+    rows: Rows,
 ) -> Result<(u64, Actions), EffectFault>
-    ensures { (def : ATable) → GivesEffect result (effect_on def (Delete table cond.now) rows.now) }
+    ensures { (def : ATable) → GivesEffect result (effect_on def (Delete table cond.now) rows) }
 {
-    Ok((count(cond, rows), deletes(alloc, table, cond, rows)?))
-}
-
-/// How many rows a condition keeps.
-fn count(cond: &Cond, rows: &[Row]) -> u64
-    ensures { result ≡ length (matching cond.now rows.now) }
-{
-    rows.iter().filter(|row| keeps(cond, row)).count() as u64
+    let actions = deletes(alloc, table, cond, rows)?;
+    Ok((actions.len() as u64, actions))
 }
