@@ -13,6 +13,9 @@ use lv_values::{Items, NoMemory};
 use std::alloc::Global;
 use std::marker::Model;
 
+/// For how many tasks room is made at least, since that looks at each queue.
+const ROOM: u64 = 64;
+
 /// Makes room for `more` tasks in each queue.
 fn reserve_each(queues: &mut [Queue], more: u64) -> Result<(), NoMemory>
     ensures same { lists_of queues.new ≡ lists_of queues.old }
@@ -79,15 +82,16 @@ impl Tasks {
     }
 
     /// Makes room for so many tasks, of whichever views. Want of memory changes nothing, and room never shrinks.
-    /// Cost: constant, and now and then a move of the tasks.
+    /// Cost: constant; a look at each queue for every 64 tasks, and now and then a move of the tasks.
     pub fn reserve(&mut self, tasks: u64) -> Result<(), NoMemory>
         ensures same { self.new.tasks ≡ self.old.tasks }
         ensures room { OnOk result (tasks ≤ self.new.spare) }
         ensures kept { self.old.spare ≤ self.new.spare }
     {
         if tasks > self.spare {
-            reserve_each(&mut self.queues, tasks)?;
-            self.spare = tasks;
+            let room = tasks.max(ROOM);
+            reserve_each(&mut self.queues, room)?;
+            self.spare = room;
         }
         Ok(())
     }
