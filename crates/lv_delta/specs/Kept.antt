@@ -1,5 +1,5 @@
 -- The entries of the commits that are kept, and what is found among them.
-use Rattle.std.specs.Prelude.{ℕ, ◌≤◌, Bool, ◌==◌, ◌&&◌, nat_lt, nat_le, List, [], ◌∷◌, filter, map, Option, None}
+use Rattle.std.specs.Prelude.{ℕ, ◌≤◌, ◌-◌, Bool, ◌==◌, ◌&&◌, nat_lt, nat_le, List, [], ◌∷◌, filter, map, Option, None}
 use Rattle.std.specs.List.{last_or, AllByRecursion}
 use Rattle.lv_values.specs.declared.value.Value.{Value}
 use Rattle.lv_values.specs.Order.{row_eq}
@@ -24,6 +24,10 @@ AreRising (e ∷ entries) = AllByRecursion (λ (later : DeltaEntry). e.number �
 pub record AreInOrder (last : ℕ) (entries : List DeltaEntry) : Type 0 where
   pub rising : AreRising entries
   pub up_to : AllByRecursion (λ (e : DeltaEntry). e.number ≤ last) entries
+
+-- those that lie behind are fewer than those that are kept, or none, of so many in all
+abbrev pub AreFewBehind : ℕ → ℕ → Type 0
+AreFewBehind behind all = behind ≤ all - behind - 1
 
 -- an entry above a number, one up to a number, and one above a number and up to another
 abbrev pub is_above : ℕ → DeltaEntry → Bool

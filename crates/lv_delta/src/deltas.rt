@@ -13,7 +13,7 @@ use std::marker::Model;
 /// Contracts see the entries, how many more go in without memory, the last number and the floor.
 ///
 /// A clean-up leaves the entries that it drops where they are until they are half of all, so that it costs what it
-/// drops.
+/// drops; fewer lie there than are kept.
 #[derive(Drop)]
 pub struct Deltas {
     items: Vec<DeltaEntry>,
@@ -23,14 +23,14 @@ pub struct Deltas {
 }
 
 impl Model for Deltas {
-    ghost use Rattle.std.specs.Prelude.{◌≤◌, ◌-◌, drop, length, vec_len, vec_capacity};
-    ghost use Rattle.lv_delta.specs.Kept.{AreInOrder, DeltasKept};
+    ghost use Rattle.std.specs.Prelude.{◌-◌, drop, length, vec_len, vec_capacity};
+    ghost use Rattle.lv_delta.specs.Kept.{AreFewBehind, AreInOrder, DeltasKept};
 
     ghost Value = { DeltasKept };
 
     ghost view = { λ d. record { entries = drop d.first d.items.items; spare = vec_capacity d.items - vec_len d.items; last = d.last; floor = d.floor } };
 
-    ghost invariant = { λ d. (d.first ≤ length d.items.items) × AreInOrder d.last (drop d.first d.items.items) };
+    ghost invariant = { λ d. AreFewBehind d.first (length d.items.items) × AreInOrder d.last (drop d.first d.items.items) };
 }
 
 /// Adds the actions of a commit at the end, where there is room for them.
@@ -140,24 +140,17 @@ impl Deltas {
         ensures room { self.old.spare ≤ self.new.spare }
     {
         let gone = up_to(self.as_slice(), floor);
-        self.skip(gone, floor);
-        self.let_go();
+        self.leave(gone, floor);
     }
 
-    /// Leaves the first so many entries behind.
-    fn skip(&mut self, gone: usize, floor: u64)
+    /// Leaves the first so many entries behind, and lets go of all that lie behind where they are half.
+    fn leave(&mut self, gone: usize, floor: u64)
         requires within { gone ≤ length self.old.entries }
-        ensures { self.new ≡ record self.old { entries = drop gone self.old.entries; floor = floor } }
-    {
-        self.first += gone;
-        self.floor = floor;
-    }
-
-    /// Lets go of the entries that were left behind, where they are half of all.
-    fn let_go(&mut self)
-        ensures entries { self.new ≡ record self.old { spare = self.new.spare } }
+        ensures entries { self.new ≡ record self.old { entries = drop gone self.old.entries; spare = self.new.spare; floor = floor } }
         ensures room { self.old.spare ≤ self.new.spare }
     {
+        self.floor = floor;
+        self.first += gone;
         if self.first >= self.items.len() - self.first {
             drop(self.items.drain(..self.first));
             self.first = 0;
