@@ -4,8 +4,9 @@ import math
 WIDE, LABEL, BAR, GAP, LEFT, RIGHT = 860, 190, 13, 22, 20, 70
 COLORS = {
     "lazyview": "#1b6ca8",
-    "sqlite3 plain": "#d9822b", "sqlite3 triggers": "#e3a565", "sqlite3 noted": "#edc8a0",
-    "postgresql plain": "#3f7d4e", "postgresql triggers": "#6fa57c", "postgresql noted": "#9fc7a8", "postgresql refresh": "#c9e2cf",
+    "sqlite3 plain": "#d9822b", "sqlite3 triggers": "#e3a565", "sqlite3 noted": "#edc8a0", "sqlite3 renewed": "#f5dfc6",
+    "postgresql plain": "#3f7d4e", "postgresql triggers": "#6fa57c", "postgresql noted": "#9fc7a8", "postgresql renewed": "#b4d4bb",
+    "postgresql refresh": "#c9e2cf",
 }
 
 

@@ -1,8 +1,9 @@
 """The systems that bench/lazy runs side by side, and how each keeps a view. A system takes a script of its own SQL on standard input.
 
-Beside lazyview, whose views are lazy, sqlite3 and PostgreSQL keep a view in up to four ways: `plain`, a view that is not stored; `triggers`, a
-table that triggers change with each row; `noted`, a table as well, but triggers only note what changed, and a statement brings that in before
-the query; `refresh`, a materialized view that is refreshed before the query."""
+Beside lazyview, whose views are lazy, sqlite3 and PostgreSQL keep a view in up to five ways: `plain`, a view that is not stored; `triggers`, a
+table that triggers change with each row; `noted`, a table as well, but triggers only note by how much what changed, and a statement brings that in
+before the query; `renewed`, where triggers note which groups changed, and these are computed anew before the query, as is done where nobody
+knows a formula for the difference; `refresh`, a materialized view that is refreshed before the query."""
 import contextlib
 import os
 import pwd
@@ -78,19 +79,30 @@ BRING_IN = {
         " * (select count(*) from sale where sale.item = near.item) where item in (select item from noted)"
     ],
 }
+# Of the join, `noted` computes the rows anew whose item is noted. Of the views with groups, this does so.
+RENEWED = {
+    "per_item": "select item, sum(qty) as total, count(*) as n from sale where item in (select item from noted) group by item",
+    "near": "select x.item, sum(y.qty) as total, count(*) as n from sale x, sale y where x.item = y.item and x.item in (select item from noted) group by x.item",
+}
+NOTED_ITEM = "create table noted (item integer primary key)"
+COMES, GOES = ("insert into noted values (%s.item) on conflict (item) do nothing" % row for row in ("new", "old"))
+AS_ITEMS = [("sale", "insert", COMES), ("sale", "delete", GOES), ("sale", "update", COMES + "; " + GOES)]
 
 
 def strategies(view, trigger, has_refresh):
     """The ways of a system whose triggers are made by `trigger`."""
     definition = DEFINITIONS[view]
     fill = ["insert into %s %s" % (view, definition)]
-    triggers = lambda kinds: [line for table, kind, body in kinds[view] for line in trigger(table, kind, body)]
-    bring_in = ["begin"] + BRING_IN[view] + ["delete from noted", "commit"]
+    triggers = lambda kinds: [line for table, kind, body in kinds for line in trigger(table, kind, body)]
+    bring_in = lambda lines: ["begin"] + lines + ["delete from noted", "commit"]
     found = [
         Strategy("plain", ["create view %s as %s" % (view, definition)], [], []),
-        Strategy("triggers", STORED[view], fill + triggers(AT_ONCE), []),
-        Strategy("noted", STORED[view] + [NOTES[view]], fill + triggers(AS_NOTES), bring_in),
+        Strategy("triggers", STORED[view], fill + triggers(AT_ONCE[view]), []),
+        Strategy("noted", STORED[view] + [NOTES[view]], fill + triggers(AS_NOTES[view]), bring_in(BRING_IN[view])),
     ]
+    if view in RENEWED:
+        renew = ["delete from %s where item in (select item from noted)" % view, "insert into %s %s" % (view, RENEWED[view])]
+        found.append(Strategy("renewed", STORED[view] + [NOTED_ITEM], fill + triggers(AS_ITEMS), bring_in(renew)))
     if has_refresh:
         stored = ["create materialized view %s as %s" % (view, definition)]
         found.append(Strategy("refresh", [], stored, ["refresh materialized view %s" % view]))
