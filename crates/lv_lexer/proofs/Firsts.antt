@@ -1,5 +1,5 @@
 -- A word is looked up among the keywords of its first letter.
-use Rattle.std.proofs.Common.{◌≡◌, ℕ, suc, Bool, true, false, cond, nat_eq, List, [], ◌∷◌, length, get_or, map, filter, Option, Some, None, codes, refl, sym, ap, ◌∙◌, arith}
+use Rattle.std.proofs.Common.{◌≡◌, ℕ, suc, Bool, true, false, cond, nat_eq, List, [], ◌∷◌, get_or, filter, Option, Some, None, codes, refl, sym, ap, ◌∙◌, arith}
 use Rattle.std.specs.List.{AllPass, list_any}
 use Rattle.std.proofs.lemmas.List.Sums.{AllPass-from_list_all}
 use Rattle.std.specs.Char.{to_ascii_lowercase}

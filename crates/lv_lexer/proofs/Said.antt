@@ -1,5 +1,5 @@
 -- What is known of the bytes of a token of each kind.
-use Rattle.std.proofs.Common.{◌≡◌, ℕ, zero, suc, ◌+◌, ◌-◌, ◌*◌, ◌^◌, ◌≤◌, ◌<◌, Bool, true, false, cond, List, [], ◌∷◌, ◌++◌, nat_eq, nat_lt, Option, Some, length, get_or, take, drop, slice_range, refl, sym, ap, ap₂, ◌==◌, ◌&&◌, ◌∙◌, subst, arith, inl, inr, eqb-true, length-drop}
+use Rattle.std.proofs.Common.{◌≡◌, ℕ, zero, suc, ◌+◌, ◌-◌, ◌*◌, ◌^◌, ◌≤◌, ◌<◌, Bool, true, false, cond, List, [], ◌∷◌, ◌++◌, nat_eq, nat_lt, Some, length, get_or, take, drop, slice_range, refl, ap, ap₂, ◌==◌, ◌&&◌, ◌∙◌, subst, arith, inl, inr, eqb-true, length-drop}
 use Rattle.std.specs.List.{list_all, prefix_len, starts_with}
 use borrow.Author.Tests.{ltb-true}
 use Rattle.std.proofs.lemmas.Bool.{cases_lt, leb-true}

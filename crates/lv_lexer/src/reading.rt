@@ -1,6 +1,6 @@
 //! What a token says.
 
-ghost use Rattle.std.specs.Prelude.{◌≡◌, ◌+◌, ◌-◌, ◌<◌, ◌≤◌, ◌^◌, ◌==◌, ◌&&◌, [], length, slice_index, map, All, IfOk, IsUtf8};
+ghost use Rattle.std.specs.Prelude.{◌≡◌, ◌+◌, ◌-◌, ◌<◌, ◌≤◌, ◌^◌, ◌==◌, ◌&&◌, length, slice_index, map, All, IfOk, IsUtf8};
 ghost use Rattle.std.specs.List.{list_all};
 ghost use Rattle.std.specs.Char.{to_ascii_lowercase};
 ghost use Rattle.std.specs.Str.{str_to_ascii_lowercase};
@@ -181,20 +181,13 @@ pub fn read_token(alloc: Global, line: &Text, token: &Token) -> Result<Terminal,
     read_spelling(alloc, spelling, token.kind, token.start + 1)
 }
 
-/// No terminal, with room for so many.
-fn no_terminals(alloc: Global, room: usize) -> Result<Terminals, NoMemory>
-    ensures { IfOk result (λ list. list ≡ []) }
-{
-    Ok(Terminals::from_vec(Vec::with_capacity(alloc, room)?))
-}
-
 /// What the tokens of the line say, in their order. Cost: linear in the line.
 pub fn read_tokens(alloc: Global, line: &Text, tokens: &[Token]) -> Result<Terminals, NoMemory>
     requires { All (IsTokenOf line.now) tokens.now }
     ensures said { IfOk result (λ ts. ts ≡ map (terminal_of line.now) tokens.now) }
     ensures small { IfOk result (All (λ t. t.number < 10 ^ 38)) }
 {
-    let mut terminals = no_terminals(alloc, tokens.len())?;
+    let mut terminals = Terminals::from_vec(Vec::with_capacity(alloc, tokens.len())?);
     for token in tokens {
         terminals.push(read_token(alloc, line, token)?)?;
     }

@@ -1,6 +1,6 @@
 //! The tokens of a line.
 
-ghost use Rattle.std.specs.Prelude.{◌≡◌, ℕ, ◌-◌, ◌<◌, ◌^◌, List, [], length, Option, IfOk, All};
+ghost use Rattle.std.specs.Prelude.{◌≡◌, ℕ, ◌-◌, ◌<◌, ◌^◌, List, length, Option, IfOk, All};
 ghost use Rattle.lv_lexer.specs.declared.token.Token.{Token};
 ghost use Rattle.lv_lexer.specs.Scan.{Scans, IsTokenOf, AreInOrder, is_over};
 
@@ -20,19 +20,13 @@ fn is_over(bytes: &[u8]) -> bool
     }
 }
 
-/// No token, with room for as many as most lines of so many bytes have.
-fn no_tokens(alloc: Global, line: &[u8]) -> Result<Tokens, NoMemory>
-    ensures { IfOk result (λ list. list ≡ []) }
-{
-    Ok(Tokens::from_vec(Vec::with_capacity(alloc, line.len() / 2 + 1)?))
-}
-
 /// The tokens of the bytes, and the place of the first piece that is none.
 fn scan(alloc: Global, line: &[u8]) -> Result<Scan, NoMemory>
     requires { length line.now < 2 ^ 32 - 1 }
     ensures { IfOk result (λ scan. Scans 0 line.now scan.list scan.stopped) }
 {
-    let mut list = no_tokens(alloc, line)?;
+    // Most lines have no more tokens than this.
+    let mut list = Tokens::from_vec(Vec::with_capacity(alloc, line.len() / 2 + 1)?);
     let mut at = 0;
     'each: loop {
         at += blanks_len(&line[at..]);
