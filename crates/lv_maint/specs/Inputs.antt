@@ -1,5 +1,5 @@
 -- What a maintenance step is given, and what it gives.
-use Rattle.std.specs.Prelude.{◌≡◌, ℕ, List}
+use Rattle.std.specs.Prelude.{ℕ, List}
 use Rattle.std.specs.List.{AllByRecursion, AllZip}
 use Rattle.lv_schema.specs.declared.part.Part.{Part}
 use Rattle.lv_schema.specs.declared.signed.SignedRow.{SignedRow}

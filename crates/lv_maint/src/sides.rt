@@ -3,10 +3,10 @@ ghost use Rattle.std.specs.Prelude.{◌≡◌, ◌<◌, ◌≤◌, ◌+◌, ◌�
 ghost use Rattle.lv_values.specs.declared.value.Value.{Value};
 ghost use Rattle.lv_schema.specs.Jobs.{new_rows, old_sides};
 ghost use Rattle.lv_maint.specs.Inputs.{IsOfTable};
-ghost use Rattle.lv_maint.specs.Terms.{is_row, without};
+ghost use Rattle.lv_maint.specs.Terms.{is_row, seen, seen_sides, without};
 
 use lv_schema::Part;
-use lv_values::{Copying, NoMemory, Row, Rows};
+use lv_values::{NoMemory, Row};
 use std::alloc::Global;
 
 /// Whether there is a row at a place, and it is this one.
@@ -19,55 +19,73 @@ fn is_row_at(rows: &[Row], at: usize, row: &Row) -> bool
     }
 }
 
-/// Copies a row behind those that are kept, or skips it where it is the next of those to be left out.
-fn keep_or_skip(
-    alloc: Global,
-    row: &Row,
+/// Puts a row behind those that are kept, or skips it where it is the next of those to be left out.
+fn keep_or_skip<'a>(
+    row: &'a Row,
     minus: &[Row],
     next: &mut usize,
-    kept: &mut Rows,
+    kept: &mut Vec<&'a Row>,
 ) -> Result<(), NoMemory>
     requires { next.old < usize.MAX }
-    ensures kept { OnOk result ((rows : List (List Value)) → kept.new ++ without rows (drop next.new minus.now) ≡ kept.old ++ without (row.now ∷ rows) (drop next.old minus.now)) }
+    ensures kept { OnOk result ((rows : List (List Value)) → seen kept.new.items ++ without rows (drop next.new minus.now) ≡ seen kept.old.items ++ without (row.now ∷ rows) (drop next.old minus.now)) }
     ensures next { next.new ≤ next.old + 1 }
 {
     if is_row_at(minus, *next, row) {
         *next += 1;
         return Ok(());
     }
-    kept.push(row.copy(alloc)?)?;
+    kept.push(row)?;
     Ok(())
 }
 
-/// Copies of the rows but for some that stand among them in the same order. Cost: one comparison for each row.
-fn rows_without(alloc: Global, rows: &[Row], minus: &[Row]) -> Result<Rows, NoMemory>
-    ensures { IfOk result (λ kept. kept ≡ without rows.now minus.now) }
+/// References to the rows but for some that stand among them in the same order. Cost: one comparison for each row.
+fn rows_without<'a>(alloc: Global, rows: &'a [Row], minus: &[Row]) -> Result<Vec<&'a Row>, NoMemory>
+    ensures { IfOk result (λ kept. seen kept.items ≡ without rows.now minus.now) }
 {
-    let mut kept = Rows::new(alloc);
+    let mut kept = Vec::with_capacity(alloc, rows.len())?;
     let mut next = 0;
     for row in rows {
-        keep_or_skip(alloc, row, minus, &mut next, &mut kept)?;
+        keep_or_skip(row, minus, &mut next, &mut kept)?;
     }
     Ok(kept)
 }
 
-/// Copies of the rows after the step. Cost: linear in the rows.
-pub(crate) fn new_rows(alloc: Global, part: &Part) -> Result<Rows, NoMemory>
+/// Puts references to rows behind others. Cost: one for each row.
+fn add_references<'a>(rows: &'a [Row], refs: &mut Vec<&'a Row>) -> Result<(), NoMemory>
+    ensures { OnOk result (seen refs.new.items ≡ seen refs.old.items ++ rows.now) }
+{
+    for row in rows {
+        refs.push(row)?;
+    }
+    Ok(())
+}
+
+/// References to the rows. Cost: one for each row.
+pub(crate) fn references<'a>(alloc: Global, rows: &'a [Row]) -> Result<Vec<&'a Row>, NoMemory>
+    ensures { IfOk result (λ refs. seen refs.items ≡ rows.now) }
+{
+    let mut refs = Vec::with_capacity(alloc, rows.len())?;
+    add_references(rows, &mut refs)?;
+    Ok(refs)
+}
+
+/// References to the rows after the step. Cost: linear in the rows.
+pub(crate) fn new_rows<'a>(alloc: Global, part: &'a Part) -> Result<Vec<&'a Row>, NoMemory>
     requires { IsOfTable part.now }
-    ensures { IfOk result (λ rows. rows ≡ new_rows part.now) }
+    ensures { IfOk result (λ rows. seen rows.items ≡ new_rows part.now) }
 {
     let mut rows = rows_without(alloc, part.old.as_slice(), part.minus.as_slice())?;
-    rows.append(part.plus.copy(alloc)?)?;
+    add_references(part.plus.as_slice(), &mut rows)?;
     Ok(rows)
 }
 
-/// Copies of the rows of each alias before the step. Cost: linear in the rows.
-pub(crate) fn old_sides(alloc: Global, parts: &[Part]) -> Result<Vec<Rows>, NoMemory>
-    ensures { IfOk result (λ sides. sides.items ≡ old_sides parts.now) }
+/// References to the rows of each alias before the step. Cost: linear in the rows.
+pub(crate) fn old_sides<'a>(alloc: Global, parts: &'a [Part]) -> Result<Vec<Vec<&'a Row>>, NoMemory>
+    ensures { IfOk result (λ sides. seen_sides sides.items ≡ old_sides parts.now) }
 {
     let mut sides = Vec::new(alloc);
     for part in parts {
-        sides.push(part.old.copy(alloc)?)?;
+        sides.push(references(alloc, part.old.as_slice())?)?;
     }
     Ok(sides)
 }

@@ -5,6 +5,6 @@ use Rattle.lv_maint.proofs.sides.new_rows.Goals as goal
 
 pub returns : goal.returns
 returns c =
-    c.in_ok-append.ensures.added
-    ∙ (λ i. (c.in_ok-rows.ensures ∙ λ k. without (c.as_slice.ensures k) (c.as_slice-2.ensures k)) i ++ c.in_ok-copy.ensures i)
+    c.in_ok-add_references.ensures
+    ∙ (λ i. (c.in_ok-rows.ensures ∙ λ k. without (c.as_slice.ensures k) (c.as_slice-2.ensures k)) i ++ c.as_slice-3.ensures i)
     ∙ kept_is c.args.part.now c.requires
