@@ -1,5 +1,6 @@
 -- What a step is computed from, from its changes, its reach and its small parts.
-use Rattle.std.proofs.Common.{◌≡◌, ℕ, ◌+◌, ◌≤◌, Bool, true, false, ◌||◌, List, [], ◌∷◌, map, length, take, drop, slice_get, Some, get_or, refl, sym, ap, ◌∙◌, subst, arith}
+use Rattle.std.proofs.Common.{◌≡◌, ℕ, ◌+◌, ◌≤◌, Bool, true, List, [], ◌∷◌, map, length, take, drop, slice_get, Some, get_or, refl, sym, ap, ◌∙◌, subst, arith}
+use Rattle.std.specs.Prelude.{Result, Ok, Err, OnOk, OnErr}
 use Rattle.std.specs.List.{AllZip}
 use Rattle.lv_schema.specs.declared.part.Part.{Part}
 use Rattle.lv_schema.specs.declared.view.ViewDef.{ViewDef}
@@ -13,14 +14,14 @@ use Rattle.lv_reach.specs.declared.link.Link.{Link}
 use Rattle.lv_reach.specs.declared.rows.AliasRow.{AliasRow}
 use Rattle.lv_reach.specs.Cost.{AreFound, IsReach, cost, looked_up, whole_from}
 use Rattle.lv_reach.specs.Links.{links_of}
-use Rattle.lv_reach.specs.Reach.{AreWithin, cut, is_changed, IsReachOf, kept_by, part_at, with_old}
+use Rattle.lv_reach.specs.Reach.{AreWithin, cut, IsReachOf, kept_by, with_old}
 use Rattle.lv_reach.specs.Walk.{HasNear}
 use Rattle.lv_reach.proofs.Costing.{one_cost}
 use Rattle.lv_reach.proofs.LinksWithin.{links_within}
 use Rattle.lv_reach.proofs.NearLaws.{changed_near}
 use Rattle.lv_reach.proofs.Reached.{reach_gives}
 use Rattle.lv_near.specs.Small.{IsSmallInput, IsSplit, change_in, old_at, table_at_commit, whole_parts}
-use Rattle.lv_near.proofs.Parts.{changes_with_old, fit_cut, is_split, keeps_reach, reach_is_cut}
+use Rattle.lv_near.proofs.Parts.{changes_with_old, fit_cut, is_split, reach_is_cut}
 
 as_many_columns : (b : BaseRoom) (ts : List ℕ) → length (alias_columns (defs_of b) ts) ≡ length ts
 as_many_columns b [] = refl
@@ -41,6 +42,12 @@ module _ (b : BaseRoom) (view : ViewDef) (lo hi : ℕ) where
   abbrev own_links : List Link
   own_links = links_of view.cond
 
+  within_own : (views : List ViewDef) → FitOver (defs_of b) views view whole → AreWithin (length view.tables) own_links
+  within_own views fit = subst (λ n. AreWithin n own_links) (as_many_columns b view.tables) (links_within (alias_columns (defs_of b) view.tables) view.cond fit.bound.bound_cond)
+
+  within_view : (views : List ViewDef) → FitOver (defs_of b) views view whole → AreWithin (length whole) own_links
+  within_view views fit = subst (λ n. AreWithin n own_links) (sym (as_many_parts b lo hi view.tables)) (within_own views fit)
+
   -- ---- what was found of the tables and links
   module _ (tables : List ℕ) (changes : List Part) (links : List Link) (t_is : tables ≡ view.tables) (c_is : changes ≡ map (change_in b lo hi) tables) (l_is : links ≡ own_links) where
     abbrev made : List Part
@@ -53,16 +60,10 @@ module _ (b : BaseRoom) (view : ViewDef) (lo hi : ℕ) where
     few h = let long = ap (λ (l : List Part). length l) c_is ∙ as_many_changes b lo hi tables ∙ ap (λ (l : List ℕ). length l) t_is in omega (arith, long, h)
 
     module _ (views : List ViewDef) (fit : FitOver (defs_of b) views view whole) where
-      within_own : AreWithin (length view.tables) own_links
-      within_own = subst (λ n. AreWithin n own_links) (as_many_columns b view.tables) (links_within (alias_columns (defs_of b) view.tables) view.cond fit.bound.bound_cond)
-
-      within_whole : AreWithin (length whole) own_links
-      within_whole = subst (λ n. AreWithin n own_links) (sym (as_many_parts b lo hi view.tables)) within_own
-
       pub within_found : AreWithin (length changes) links
       within_found =
           let long : length view.tables ≡ length changes = sym (ap (λ (l : List Part). length l) c_is ∙ as_many_changes b lo hi tables ∙ ap (λ (l : List ℕ). length l) t_is) in
-          subst (AreWithin (length changes)) (sym l_is) (subst (λ n. AreWithin n own_links) long within_own)
+          subst (AreWithin (length changes)) (sym l_is) (subst (λ n. AreWithin n own_links) long (within_own views fit))
 
       -- ---- the reach that was found
       module _ (near : List AliasRow) (flags : List Bool) (changed : ℕ)
@@ -86,32 +87,10 @@ module _ (b : BaseRoom) (view : ViewDef) (lo hi : ℕ) where
             alias t at
 
         -- ---- the small parts
-        module _ (small : List Part) (s_is : small ≡ cut (kept_by near flags) (whole_parts b tables lo hi)) where
-          small_is : small ≡ cut (kept_by near flags) whole
-          small_is = s_is ∙ ap (λ ts. cut (kept_by near flags) (whole_parts b ts lo hi)) t_is
-
-          second_there : (a b : Bool) → b ≡ true → (a || b) ≡ true
-          second_there true b h = refl
-          second_there false b h = h
-
-          changed_kept : (a : AliasRow) → is_changed (part_at whole a.alias) a.row ≡ true → kept_by near flags a ≡ true
-          changed_kept a h = second_there (get_or flags a.alias true) _ ((reach_told.near_rows a).1 (changed_near own_links whole a h))
-
-          pub fit_told : (def : ViewDef) → def ≡ view → Fit def small
-          fit_told def is = subst (λ d. Fit d small) (sym is) (fit_cut (defs_of b) views view whole small (kept_by near flags) fit changed_kept small_is)
-
-          pub input_told : (input : Input) (def : ViewDef) → def ≡ view → input ≡ record { def = def; lo = lo; hi = hi; parts = small } → IsSmallInput view lo hi whole input
-          input_told input def d is = record {
-            def_is = ap (λ (x : Input). x.def) is ∙ d;
-            lo_is = ap (λ (x : Input). x.lo) is;
-            hi_is = ap (λ (x : Input). x.hi) is;
-            reach = subst (λ (ps : List Part). IsReachOf own_links whole ps) (sym (ap (λ (x : Input). x.parts) is ∙ small_is)) (reach_is_cut own_links whole near flags reach_told flags_long);
-          }
-
-          pub same_told : (input : Input) (def : ViewDef) → input ≡ record { def = def; lo = lo; hi = hi; parts = small } → difference view (old_sides input.parts) (new_sides input.parts) ≡ difference view (old_sides whole) (new_sides whole)
-          same_told input def is =
-              ap (λ (ps : List Part). difference view (old_sides ps) (new_sides ps)) (ap (λ (x : Input). x.parts) is ∙ small_is)
-              ∙ reach_gives view whole (kept_by near flags) within_whole (keeps_reach own_links whole near flags reach_told flags_long)
+        pub reach_of_small : (small : List Part) → small ≡ cut (kept_by near flags) (whole_parts b tables lo hi) → IsReachOf own_links whole small
+        reach_of_small small is =
+            subst (IsReachOf own_links whole) (sym (is ∙ ap (λ ts. cut (kept_by near flags) (whole_parts b ts lo hi)) t_is))
+            (reach_is_cut own_links whole near flags reach_told flags_long)
 
         -- ---- the cost
         module _ (start middle : ℕ) (looked : middle ≤ start + looked_up links made near) where
@@ -130,5 +109,27 @@ module _ (b : BaseRoom) (view : ViewDef) (lo hi : ℕ) where
         let here = looked all (λ a h. (r.near_rows a).1 h) in
         omega (arith, here)
 
-pub from_equal : {m n : ℕ} → m ≡ n → m ≤ n
-from_equal e = omega (arith, e)
+  -- ---- the input over parts that keep the reach and no more
+  module _ (views : List ViewDef) (fit : FitOver (defs_of b) views view whole) (small : List Part) (reach : IsReachOf own_links whole small) where
+    pub fit_told : (def : ViewDef) → def ≡ view → Fit def small
+    fit_told def is =
+        subst (λ d. Fit d small) (sym is)
+        (fit_cut (defs_of b) views view whole small reach.keep fit (λ a h. reach.keeps.near a (changed_near own_links whole a h)) reach.cut_is)
+
+    pub input_told : (input : Input) (def : ViewDef) → def ≡ view → input ≡ record { def = def; lo = lo; hi = hi; parts = small } → IsSmallInput view lo hi whole input
+    input_told input def d is = record {
+      def_is = ap (λ (x : Input). x.def) is ∙ d;
+      lo_is = ap (λ (x : Input). x.lo) is;
+      hi_is = ap (λ (x : Input). x.hi) is;
+      reach = subst (IsReachOf own_links whole) (sym (ap (λ (x : Input). x.parts) is)) reach;
+    }
+
+    pub same_told : (input : Input) (def : ViewDef) → input ≡ record { def = def; lo = lo; hi = hi; parts = small } → difference view (old_sides input.parts) (new_sides input.parts) ≡ difference view (old_sides whole) (new_sides whole)
+    same_told input def is =
+        ap (λ (ps : List Part). difference view (old_sides ps) (new_sides ps)) (ap (λ (x : Input). x.parts) is ∙ reach.cut_is)
+        ∙ reach_gives view whole reach.keep (within_view views fit) reach.keeps
+
+-- a bound that holds where a call goes well and where it fails
+pub either_way : {T E : Type 0} (r : Result T E) (m n : ℕ) → OnOk r (m ≡ n) → OnErr r (m ≤ n) → m ≤ n
+either_way (Ok a) m n e le = omega (arith, e)
+either_way (Err x) m n e le = le

@@ -3,3 +3,4 @@ pub mod Picked
 pub mod Parts
 pub mod Inputs
 pub mod LinkIndexes
+pub mod Alone

@@ -54,7 +54,7 @@ same_flag true b h k = sym (h refl)
 same_flag false true h k = k refl
 same_flag false false h k = refl
 
-among : (P : ARow → Type 0) (rows : List ARow) (q : ARow) → AllByRecursion P rows → has_row q rows ≡ true → P q
+pub among : (P : ARow → Type 0) (rows : List ARow) (q : ARow) → AllByRecursion P rows → has_row q rows ≡ true → P q
 among P [] q a h = cc
 among P (r ∷ rows) q a h = by (row_eq q r) refl h (among P rows q a.1)
   where
@@ -64,7 +64,7 @@ among P (r ∷ rows) q a h = by (row_eq q r) refl h (among P rows q a.1)
 
 -- ---- what is kept of a table
 module _ (b : BaseRoom) (lo hi : ℕ) where
-  abbrev part : ℕ → Part
+  abbrev pub part : ℕ → Part
   part t = part_in (defs_of b) (base_of b) lo hi t
 
   pub old_is : (t : ℕ) → (part t).old ≡ table_at_commit b lo t

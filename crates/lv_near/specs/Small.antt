@@ -36,6 +36,10 @@ whole_parts b tables lo hi = map (part_in (defs_of b) (base_of b) lo hi) tables
 abbrev pub change_in : BaseRoom → ℕ → ℕ → ℕ → Part
 change_in b lo hi t = let p = part_in (defs_of b) (base_of b) lo hi t in record { old = []; minus = p.minus; plus = p.plus }
 
+-- a change with those rows before it alone that go
+abbrev pub with_lost : Part → Part
+with_lost p = record { old = p.minus; minus = p.minus; plus = p.plus }
+
 -- what a step is computed from where these are its parts with whole tables: of them the reach of the change
 pub record IsSmallInput (def : ViewDef) (lo hi : ℕ) (whole : List Part) (input : Input) : Type 0 where
   pub def_is : input.def ≡ def

@@ -8,8 +8,8 @@ ghost use Rattle.lv_maint.specs.Inputs.{FitOver};
 ghost use Rattle.lv_reach.specs.declared.rows.AliasRow.{AliasRow as ARowOf};
 ghost use Rattle.lv_reach.specs.Cost.{IsReach, cost, whole_from};
 ghost use Rattle.lv_reach.specs.Links.{links_of};
-ghost use Rattle.lv_reach.specs.Reach.{cut, kept_by};
-ghost use Rattle.lv_near.specs.Small.{CanRead, IsSmallInput, IsSplit, change_in, table_at_commit, whole_parts};
+ghost use Rattle.lv_reach.specs.Reach.{IsReachOf, cut, kept_by};
+ghost use Rattle.lv_near.specs.Small.{CanRead, IsSmallInput, IsSplit, change_in, table_at_commit, whole_parts, with_lost};
 
 use crate::changes::changes_between;
 use crate::picking::old_of;
@@ -57,11 +57,47 @@ fn small_parts<L: Ledger>(
     Ok(small)
 }
 
+/// The parts of a step of a view of one alias: of the old rows those alone that go. No link leads from an alias to itself,
+/// so that no other old row is near.
+fn alone_parts(alloc: Global, changes: Parts) -> Result<Parts, NoMemory>
+    ensures { IfOk result (λ parts. parts ≡ map with_lost changes) }
+{
+    let mut parts = Parts::new(alloc);
+    for change in changes.into_vec() {
+        let old = change.minus.copy(alloc)?;
+        parts.push(with_old(change, old))?;
+    }
+    Ok(parts)
+}
+
+/// The parts of a step of a view, cut to the reach of the change: with the near old rows alone, or all of a far alias.
+fn step_parts<L: Ledger>(
+    alloc: Global,
+    at: &TablesBetween<'_>,
+    def: &ViewDef,
+    steps: &mut Steps<L>,
+) -> Result<Parts, NoMemory>
+    requires can { CanRead at.now.base.now at.now.tables.now at.now.lo }
+    requires tables { at.now.tables.now ≡ def.now.tables }
+    requires fit { (views : List AViewDef) × FitOver (defs_of at.now.base.now) views def.now (whole_parts at.now.base.now def.now.tables at.now.lo at.now.hi) }
+    ensures reach { IfOk result (λ parts. IsReachOf (links_of def.now.cond) (whole_parts at.now.base.now def.now.tables at.now.lo at.now.hi) parts) }
+    ensures most { (near : List ARowOf) (far : ℕ → Bool) → IsReach (links_of def.now.cond) (whole_parts at.now.base.now def.now.tables at.now.lo at.now.hi) near far
+        → steps.new ≤ steps.old + cost (links_of def.now.cond) (whole_parts at.now.base.now def.now.tables at.now.lo at.now.hi) near far }
+{
+    let changes = changes_between(alloc, at)?;
+    if at.tables.len() == 1 {
+        return alone_parts(alloc, changes);
+    }
+    let links = links(alloc, def)?;
+    let reach = reach_of(alloc, links.as_slice(), changes.as_slice(), at, steps)?;
+    small_parts(alloc, at, changes, &reach, steps)
+}
+
 /// The input of the step of a view from one commit to another, read from the committed states: the net change of each
 /// alias, and of the old rows those that are near, or all of a far alias. The difference of the view over them is that
-/// over whole tables. Cost: the condensing of the entries between the commits for each alias, and that of the reach, which
-/// looks each distinct value up once; it ticks at most as often as the step costs, so by what changed, unless an alias is
-/// far.
+/// over whole tables. Cost: the condensing of the entries between the commits for each alias, and where there is more than
+/// one alias that of the reach, which looks each distinct value up once; it ticks at most as often as the step costs, so by
+/// what changed, unless an alias is far.
 pub fn step_input<L: Ledger>(
     alloc: Global,
     base: &Base,
@@ -83,9 +119,6 @@ pub fn step_input<L: Ledger>(
         lo,
         hi,
     };
-    let links = links(alloc, def)?;
-    let changes = changes_between(alloc, &at)?;
-    let reach = reach_of(alloc, links.as_slice(), changes.as_slice(), &at, steps)?;
-    let parts = small_parts(alloc, &at, changes, &reach, steps)?;
+    let parts = step_parts(alloc, &at, def, steps)?;
     Ok(JobInput::new(def.copy(alloc)?, lo, hi, parts))
 }
