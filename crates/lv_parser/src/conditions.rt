@@ -147,14 +147,18 @@ fn more_units(
     Ok(found)
 }
 
-/// Units with AND between.
+/// Units with AND between. One that stands alone takes no list.
 #[cycle(condition)]
 #[tactic(auto, unfolding(crate::specs::Read::conj_of, crate::specs::Reading::separated))]
 fn conj(alloc: Global, cursor: &mut Cursor, within: Within, depth: u32) -> Result<CondTree, Stop>
     ensures { Gives (read.conj_of (read.unit within depth) cursor.old) result cursor.new }
 {
+    let first = unit(alloc, cursor, within, depth)?;
+    if !cursor.sees(Class::And) {
+        return Ok(first);
+    }
     let mut found = Items::new(alloc);
-    found.push(unit(alloc, cursor, within, depth)?)?;
+    found.push(first)?;
     let parts = more_units(alloc, cursor, within, depth, found)?;
     Ok(all_of(parts))
 }
@@ -195,7 +199,7 @@ fn more_conjs(
     Ok(found)
 }
 
-/// A condition in which parentheses and NOT nest at most so deep.
+/// A condition in which parentheses and NOT nest at most so deep. A conjunction that stands alone takes no list.
 #[cycle(condition)]
 #[tactic(auto, unfolding(crate::specs::Read::cond_of, crate::specs::Reading::separated))]
 fn cond_within(
@@ -206,8 +210,12 @@ fn cond_within(
 ) -> Result<CondTree, Stop>
     ensures { Gives (read.cond_of (read.unit within depth) cursor.old) result cursor.new }
 {
+    let first = conj(alloc, cursor, within, depth)?;
+    if !cursor.sees(Class::Or) {
+        return Ok(first);
+    }
     let mut found = Items::new(alloc);
-    found.push(conj(alloc, cursor, within, depth)?)?;
+    found.push(first)?;
     let parts = more_conjs(alloc, cursor, within, depth, found)?;
     Ok(one_of(parts))
 }
