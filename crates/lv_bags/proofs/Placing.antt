@@ -1,5 +1,5 @@
 -- An entry that goes to its place is put into the list; and where the last place is.
-use Rattle.std.proofs.Common.{◌≡◌, ℕ, zero, suc, ◌+◌, ◌-◌, ◌<◌, ◌≤◌, ◌==◌, Bool, true, false, cond, Some, None, List, [], ◌∷◌, ◌++◌, length, take, drop, get_or, refl, sym, ap, ◌∙◌, subst, arith, add-one}
+use Rattle.std.proofs.Common.{◌≡◌, ℕ, zero, suc, ◌-◌, ◌<◌, ◌≤◌, true, false, List, [], ◌∷◌, ◌++◌, length, get_or, refl, sym, ap, ◌∙◌, subst, arith, add-one}
 use Rattle.std.proofs.Math.ListN.{set}
 use Rattle.std.specs.Prelude.{slice_get}
 use Rattle.std.specs.List.{insert, AllByRecursion}
@@ -85,7 +85,7 @@ not_above Less h = cc
 not_above Equal h = refl
 not_above Greater h = cc
 
-pub last_equal : (row : ARow) (list : List SignedRow) (n : ℕ) → Rising list → AtMost row list → suc n ≡ length list → is_of row (slice_get list n) ≡ true → IsPlace row n list
+last_equal : (row : ARow) (list : List SignedRow) (n : ℕ) → Rising list → AtMost row list → suc n ≡ length list → is_of row (slice_get list n) ≡ true → IsPlace row n list
 last_equal row [] n up most e h = absurd (omega arith)
 last_equal row (r ∷ []) zero up most e h = (not_above _ h, tt)
 last_equal row (r ∷ []) (suc n) up most e h = absurd (omega arith)
@@ -93,7 +93,7 @@ last_equal row (r ∷ t ∷ list) zero up most e h = absurd (omega arith)
 last_equal row (r ∷ t ∷ list) (suc n) up most e h =
     (above r.row row (less_along r.row t.row row up.0.0 most.1.0), last_equal row (t ∷ list) n up.1 most.1 (omega arith) h)
 
-pub last_other : (row : ARow) (list : List SignedRow) (n : ℕ) → Rising list → AtMost row list → suc n ≡ length list → is_of row (slice_get list n) ≡ false → IsPlace row (suc n) list
+last_other : (row : ARow) (list : List SignedRow) (n : ℕ) → Rising list → AtMost row list → suc n ≡ length list → is_of row (slice_get list n) ≡ false → IsPlace row (suc n) list
 last_other row [] n up most e h = absurd (omega arith)
 last_other row (r ∷ []) zero up most e h = (turned r.row row most.0 h, tt)
 last_other row (r ∷ []) (suc n) up most e h = absurd (omega arith)
@@ -101,9 +101,24 @@ last_other row (r ∷ t ∷ list) zero up most e h = absurd (omega arith)
 last_other row (r ∷ t ∷ list) (suc n) up most e h =
     (above r.row row (less_along r.row t.row row up.0.0 most.1.0), last_other row (t ∷ list) n up.1 most.1 (omega arith) h)
 
-pub no_place : (row : ARow) (list : List SignedRow) → length list ≡ 0 → IsPlace row 0 list
-no_place row [] e = tt
-no_place row (r ∷ list) e = absurd (omega arith)
+end_is_none : (row : ARow) (list : List SignedRow) → is_of row (slice_get list (length list)) ≡ false
+end_is_none row [] = refl
+end_is_none row (r ∷ list) = end_is_none row list
+
+insert_end : (list : List SignedRow) (s : SignedRow) → insert list (length list) s ≡ list ++ s ∷ []
+insert_end [] s = refl
+insert_end (r ∷ list) s = ap (λ l. r ∷ l) (insert_end list s)
+
+pub last_on : (s d : SignedRow) (list : List SignedRow) (n : ℕ) → Rising list → AtMost s.row list → n ≡ length list → is_of s.row (slice_get list (length list - 1)) ≡ true → d ≡ get_or list (n - 1) d → set list (n - 1) (both_of s d) ≡ put s list
+last_on s d list n up most long h is =
+    let here : is_of s.row (slice_get list (n - 1)) ≡ true = subst (λ m. is_of s.row (slice_get list (m - 1)) ≡ true) (sym long) h in
+    put_on s d list (n - 1) (last_equal s.row list (n - 1) up most (omega (arith, long, of_within s.row (n - 1) list here)) here) here is
+
+pub last_new : (s : SignedRow) (list : List SignedRow) → Rising list → AtMost s.row list → is_of s.row (slice_get list (length list - 1)) ≡ false → list ++ s ∷ [] ≡ put s list
+last_new s [] up most h = refl
+last_new s (r ∷ list) up most h =
+    let other : is_of s.row (slice_get (r ∷ list) (length list)) ≡ false = subst (λ n. is_of s.row (slice_get (r ∷ list) n) ≡ false) (omega arith) h in
+    sym (insert_end (r ∷ list) s) ∙ put_new s (r ∷ list) (suc (length list)) (last_other s.row (r ∷ list) (length list) up most refl other) (end_is_none s.row list)
 
 -- ---- what a sort leaves
 abbrev pub Climbs : List SignedRow → Type 0
@@ -169,7 +184,3 @@ place_from row list zero le h = all_from (λ (r : SignedRow). is_gt (row_cmp row
 place_from row [] (suc i) le h = absurd (omega arith)
 place_from row (r ∷ list) (suc i) le h =
     (h.0 0 r (omega arith) (omega arith), place_from row list i (omega arith) ((λ k d a b. h.0 (suc k) d (omega arith) (omega arith)), (λ k d a b. h.1 (suc k) d (omega arith) (omega arith))))
-
-pub some_last : (n : ℕ) → (n == 0) ≡ false → suc (n - 1) ≡ n
-some_last zero h = cc
-some_last (suc n) h = omega arith

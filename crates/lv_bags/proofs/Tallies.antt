@@ -1,6 +1,6 @@
 -- One entry more is put in its place; the order of the entries changes nothing; without those whose numbers are all 0
 -- it is the list added up.
-use Rattle.std.proofs.Common.{◌≡◌, ℕ, zero, suc, ◌+◌, ◌<◌, ℤ, pos, ◌+ℤ◌, Bool, true, false, cond, not, ◌&&◌, ◌||◌, Some, None, List, [], ◌∷◌, ◌++◌, map, filter, length, get_or, FitsSigned, refl, sym, ap, ◌∙◌, subst, arith}
+use Rattle.std.proofs.Common.{◌≡◌, ℕ, zero, suc, ◌<◌, ℤ, pos, ◌+ℤ◌, true, false, cond, ◌||◌, List, [], ◌∷◌, map, length, get_or, FitsSigned, refl, sym, ap, ◌∙◌, subst, arith}
 use Rattle.std.proofs.lemmas.Int.{ints, int_wrap-add_right, int_wrap_fits}
 use Rattle.std.proofs.lemmas.Cmp.{tied_itself}
 use Rattle.std.proofs.lemmas.List.FromFn.{fill_by_all, length-map-range_with_len, get_or-map-range_with_len}
@@ -19,7 +19,7 @@ use Rattle.lv_schema.specs.Once.{Ascends, put_once, once}
 use Rattle.lv_schema.specs.SignedRows.{entries_of}
 use Rattle.lv_schema.proofs.ChangeLists.{ARow, sum_place}
 use Rattle.lv_schema.proofs.DifferencesAddUp.{any_once}
-use Rattle.lv_schema.proofs.OnceLists.{is_equal, once_up}
+use Rattle.lv_schema.proofs.OnceLists.{once_up}
 use Rattle.lv_bags.specs.Tallies.{sums_added, both_of, put, wrapped, tallied, IsEntry, Rising}
 
 -- ---- the entries of a row

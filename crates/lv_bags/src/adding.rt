@@ -27,7 +27,7 @@ fn add_each(sums: &mut [i128], more: &[i128])
 
 /// Two entries of one row, with equally many sums, as one: the counts and the sums are added, modulo 2 ^ 128.
 /// It takes no memory.
-fn both_of(s: SignedRow, r: &SignedRow) -> SignedRow
+pub(crate) fn both_of(s: SignedRow, r: &SignedRow) -> SignedRow
     requires { length s.sums ≡ length r.now.sums }
     ensures { result ≡ both_of s r.now }
 {

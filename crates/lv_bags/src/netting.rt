@@ -1,5 +1,5 @@
 //! Signed rows added up.
-ghost use Rattle.std.specs.Prelude.{◌≡◌, ◌++◌, pos, length, filter, IfOk};
+ghost use Rattle.std.specs.Prelude.{◌≡◌, ◌++◌, ◌-◌, pos, length, filter, slice_get, IfOk, OnOk};
 ghost use Rattle.std.specs.List.{list_all};
 ghost use Rattle.std.specs.List.Sorted.{IsPermutation, IsSortedByKey};
 ghost use Rattle.std.specs.Ordering.{int_eq};
@@ -7,9 +7,9 @@ ghost use Rattle.lv_values.specs.Order.{row_cmp};
 ghost use Rattle.lv_schema.specs.Differences.{is_change};
 ghost use Rattle.lv_schema.specs.SignedRows.{netted};
 ghost use Rattle.lv_bags.specs.Bags.{HaveSums, CountsFit, width};
-ghost use Rattle.lv_bags.specs.Tallies.{AtMost, IsPlace, Rising, tallied};
+ghost use Rattle.lv_bags.specs.Tallies.{AtMost, Rising, is_of, put, tallied};
 
-use crate::adding::{is_at, is_entry, put_at};
+use crate::adding::{both_of, is_at, is_entry};
 use lv_schema::{Signed, SignedRow};
 use lv_values::{NoMemory, Row};
 use std::alloc::Global;
@@ -22,21 +22,29 @@ fn sort_by_row(list: &mut Vec<SignedRow>)
     list.sort_unstable_by(|a, b| a.row.cmp(&b.row));
 }
 
-/// Where a row belongs among entries that ascend, of which none is above it. Cost: one comparison.
-fn last_place(list: &[SignedRow], row: &Row) -> usize
-    requires rising { Rising list.now }
-    requires most { AtMost row.now list.now }
-    ensures { IsPlace row.now result list.now }
+/// Whether there is a last entry, and it is of this row.
+fn is_last(list: &[SignedRow], row: &Row) -> bool
+    ensures { result ≡ is_of row.now (slice_get list.now (length list.now - 1)) }
 {
-    if list.is_empty() {
-        return 0;
+    is_at(list, list.len().saturating_sub(1), row)
+}
+
+/// Puts an entry behind entries that ascend, of which none is above it: where the last one is of its row, its numbers
+/// go there. Cost: one comparison.
+fn put_last(list: &mut Vec<SignedRow>, s: SignedRow) -> Result<(), NoMemory>
+    requires rising { Rising list.old.items }
+    requires most { AtMost s.row list.old.items }
+    requires sums { HaveSums (length s.sums) list.old.items }
+    ensures { OnOk result (list.new.items ≡ put s list.old.items) }
+{
+    if is_last(list, &s.row) {
+        let last = list.len() - 1;
+        let both = both_of(s, &list[last]);
+        list[last] = both;
+        return Ok(());
     }
-    let last = list.len() - 1;
-    if is_at(list, last, row) {
-        last
-    } else {
-        last + 1
-    }
+    list.push(s)?;
+    Ok(())
 }
 
 /// The entries of each row as one, of entries in the order of their rows. Cost: one pass.
@@ -48,8 +56,7 @@ fn tally(alloc: Global, sorted: Vec<SignedRow>) -> Result<Vec<SignedRow>, NoMemo
     let mut out = Vec::new(alloc);
     for s in sorted {
         is_entry(&s);
-        let at = last_place(&out, &s.row);
-        put_at(&mut out, at, s)?;
+        put_last(&mut out, s)?;
     }
     Ok(out)
 }

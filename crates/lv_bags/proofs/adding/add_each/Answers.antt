@@ -1,6 +1,5 @@
-use Rattle.std.proofs.Common.{◌≡◌, ℤ, pos, ◌+ℤ◌, get_or, FitsSigned, arith, rules}
-use Rattle.std.specs.Int.{w128, int_wrap}
-use Rattle.std.proofs.lemmas.Int.{wrapping_add_is, wraps}
+use Rattle.std.proofs.Common.{arith, rules}
+use Rattle.std.proofs.lemmas.Int.{wraps}
 use Rattle.lv_bags.proofs.SumsAdded.{added_step}
 use Rattle.lv_bags.proofs.adding.add_each.Goals as goal
 

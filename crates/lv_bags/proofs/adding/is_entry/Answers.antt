@@ -1,4 +1,4 @@
-use Rattle.std.proofs.Common.{◌≡◌, FitsSigned, refl, rules, sym, subst}
+use Rattle.std.proofs.Common.{FitsSigned, refl, rules, subst}
 use Rattle.std.proofs.lemmas.Int.{int_wrap_fits}
 use Rattle.std.specs.List.{All}
 use Rattle.std.specs.Int.{w128}

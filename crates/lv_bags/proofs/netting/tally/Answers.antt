@@ -1,30 +1,30 @@
-use Rattle.std.proofs.Common.{◌≡◌, ℕ, false, List, [], ◌∷◌, ◌++◌, length, sym, ap, ◌∙◌, subst, append_assoc}
+use Rattle.std.proofs.Common.{◌≡◌, ℕ, false, [], ◌∷◌, ◌++◌, length, sym, ap, ◌∙◌, subst, append_assoc}
 use Rattle.std.specs.Ordering.{is_gt}
 use Rattle.lv_values.specs.Order.{row_cmp}
 use Rattle.lv_schema.specs.declared.signed.SignedRow.{SignedRow}
 use Rattle.lv_schema.proofs.ChangeLists.{ARow}
 use Rattle.lv_bags.specs.Bags.{HaveSums, width}
-use Rattle.lv_bags.specs.Tallies.{put, tallied, AtMost, IsEntry, Rising}
+use Rattle.lv_bags.specs.Tallies.{put, AtMost, IsEntry, Rising}
 use Rattle.lv_bags.proofs.AddedUp.{tally_rises, tally_rows, tally_has_sums, tallied_last}
 use Rattle.lv_bags.proofs.Placing.{climbs_from_sorted, most_before, one_of}
 use Rattle.lv_bags.proofs.Tallies.{tallied_more}
 use Rattle.lv_bags.proofs.netting.tally.Goals as goal
 
-pub last_place-at-requires-clause-rising : goal.last_place-at-requires-clause-rising
-last_place-at-requires-clause-rising c =
-    subst Rising (sym (c.deref.ensures.value ∙ c.loop-s.invariant.out)) (tally_rises (width c.args.sorted.items) c.loop-s.yielded)
+pub put_last-requires-clause-rising : goal.put_last-requires-clause-rising
+put_last-requires-clause-rising c =
+    subst Rising (sym c.loop-s.invariant.out) (tally_rises (width c.args.sorted.items) c.loop-s.yielded)
 
-pub last_place-at-requires-clause-most : goal.last_place-at-requires-clause-most
-last_place-at-requires-clause-most c =
+pub put_last-requires-clause-most : goal.put_last-requires-clause-most
+put_last-requires-clause-most c =
     let sorted = c.args.sorted.items in
     let s = c.in-Some.s in
     let all : c.loop-s.yielded ++ s ∷ c.next.new.self.rest.items ≡ sorted = ap (λ l. c.loop-s.yielded ++ l) (sym c.in-Some.ensures.steps.0) ∙ c.loop-s.invariant.all in
-    subst (AtMost s.row) (sym (c.deref.ensures.value ∙ c.loop-s.invariant.out))
+    subst (AtMost s.row) (sym c.loop-s.invariant.out)
     (tally_rows (λ (q : ARow). is_gt (row_cmp q s.row) ≡ false) (width sorted) c.loop-s.yielded
     (most_before sorted c.loop-s.yielded s c.next.new.self.rest.items all (climbs_from_sorted sorted c.requires.sorted)))
 
-pub put_at-requires-clause-sums : goal.put_at-requires-clause-sums
-put_at-requires-clause-sums c =
+pub put_last-requires-clause-sums : goal.put_last-requires-clause-sums
+put_last-requires-clause-sums c =
     let sorted = c.args.sorted.items in
     let s = c.in-Some.s in
     let all : c.loop-s.yielded ++ s ∷ c.next.new.self.rest.items ≡ sorted = ap (λ l. c.loop-s.yielded ++ l) (sym c.in-Some.ensures.steps.0) ∙ c.loop-s.invariant.all in
@@ -42,5 +42,5 @@ loop-s-preserved c =
     let entry : IsEntry n s = subst (λ (m : ℕ). IsEntry m s) wide c.is_entry.ensures in
     record {
       all = append_assoc c.loop-s.yielded (s ∷ []) c.next.new.self.rest.items ∙ all;
-      out = c.in_ok-put_at.ensures.put ∙ ap (put s) c.loop-s.invariant.out ∙ sym (tallied_last n c.loop-s.yielded s ∙ tallied_more n s c.loop-s.yielded entry);
+      out = c.in_ok-put_last.ensures ∙ ap (put s) c.loop-s.invariant.out ∙ sym (tallied_last n c.loop-s.yielded s ∙ tallied_more n s c.loop-s.yielded entry);
     }
