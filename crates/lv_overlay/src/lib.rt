@@ -5,6 +5,7 @@ mod laws;
 mod merging;
 mod overlay;
 mod put;
+mod writes;
 
 pub use laws::writes_give_own_rows;
 pub use overlay::Overlay;

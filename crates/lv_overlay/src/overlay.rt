@@ -8,7 +8,7 @@ ghost use Rattle.lv_overlay.specs.Puts.{put_at, put_keys, PutIs};
 ghost use Rattle.lv_overlay.specs.Ordered.{is_before, is_below, is_there, put_cmp};
 
 use crate::put::{Before, Below, Put, is_at};
-use lv_shelf::Shelf;
+use crate::writes::Writes;
 use lv_values::{NoMemory, Row};
 use std::alloc::Global;
 use std::marker::Model;
@@ -17,7 +17,7 @@ use std::marker::Model;
 /// more go in without memory.
 #[derive(Drop)]
 pub struct Overlay {
-    writes: Shelf<Put>,
+    writes: Writes,
 }
 
 impl Model for Overlay {
@@ -39,7 +39,7 @@ impl Overlay {
         ensures { result.list ≡ [] }
     {
         Overlay {
-            writes: Shelf::new(alloc),
+            writes: Writes::new(alloc),
         }
     }
 
@@ -132,11 +132,11 @@ impl Overlay {
         ensures added { self.new.list ≡ insert self.old.list at put }
         ensures room { self.old.spare ≤ self.new.spare + 1 }
     {
-        self.writes.insert(at, put, 0);
+        self.writes.insert(at, put);
     }
 
     /// Puts a row at a key of a table, or deletes the one there. It takes no memory.
-    /// Cost: a binary search, and for a new key a move of small numbers.
+    /// Cost: a binary search, and for a new key a move of a few writes or of small numbers.
     pub fn put(&mut self, table: u32, key: Row, row: Option<Row>)
         requires { 0 < self.old.spare }
         ensures put { PutIs (record { table = table; key = key; row = row }) self.old.list self.new.list }
