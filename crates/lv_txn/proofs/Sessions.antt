@@ -1,11 +1,11 @@
 -- The snapshots of the live transactions, session by session.
-use Rattle.std.proofs.Common.{◌≡◌, ℕ, ◌&&◌, ◌||◌, List, [], ◌∷◌, ◌++◌, ◌+◌, ◌<◌, take, length, get_or, Option, Some, None, refl, sym, ap, ◌∙◌, arith}
+use Rattle.std.proofs.Common.{◌≡◌, ℕ, zero, suc, ◌&&◌, ◌||◌, List, [], ◌∷◌, ◌++◌, ◌+◌, ◌<◌, take, length, get_or, Option, Some, None, refl, sym, ap, ◌∙◌, arith}
 use Rattle.std.specs.Prelude.{min, nat_le, nat_lt}
 use Rattle.std.specs.List.{list_any}
 use Rattle.std.proofs.lemmas.List.{append-nil, take_more}
 use Rattle.lv_schema.specs.StepPlans.{is_inside}
 use Rattle.lv_schema.specs.World.{least}
-use Rattle.lv_txn.specs.Kept.{TransactionKept, least_of, lesser, live_kept, snapshot_inside}
+use Rattle.lv_txn.specs.Kept.{TransactionKept, least_of, lesser, live_kept, snapshot_inside, NoneLiveFrom}
 
 live_behind : (xs : List (Option TransactionKept)) (o : Option TransactionKept) → live_kept (xs ++ o ∷ []) ≡ live_kept xs ++ live_kept (o ∷ [])
 live_behind [] o = refl
@@ -28,6 +28,15 @@ pub inside_is : (from below : ℕ) (sessions : List (Option TransactionKept)) �
 inside_is from below [] = refl
 inside_is from below (None ∷ sessions) = inside_is from below sessions
 inside_is from below (Some t ∷ sessions) = ap (λ b. (nat_le from t.snapshot && nat_lt t.snapshot below) || b) (inside_is from below sessions)
+
+-- the live transactions are all among the first so many places
+pub live_among : (sessions : List (Option TransactionKept)) (used : ℕ) → NoneLiveFrom used sessions → live_kept (take used sessions) ≡ live_kept sessions
+live_among [] zero free = refl
+live_among [] (suc used) free = refl
+live_among (None ∷ sessions) zero free = live_among sessions zero (λ k le. free (suc k) (omega arith))
+live_among (Some t ∷ sessions) zero free = let none = free zero (omega arith) in cc
+live_among (None ∷ sessions) (suc used) free = live_among sessions used (λ k le. free (suc k) (omega arith))
+live_among (Some t ∷ sessions) (suc used) free = ap (λ l. t.snapshot ∷ l) (live_among sessions used (λ k le. free (suc k) (omega arith)))
 
 -- a loop's step
 pub least_step : (sessions : List (Option TransactionKept)) (i : ℕ) (o : Option TransactionKept) (sofar next : Option ℕ) → i < length sessions → o ≡ get_or sessions i o → sofar ≡ least_of (live_kept (take i sessions)) → next ≡ lesser sofar o

@@ -1,5 +1,5 @@
 -- What is kept of the live transactions.
-use Rattle.std.specs.Prelude.{◌≡◌, ℕ, ◌+◌, Bool, false, ◌&&◌, nat_le, nat_lt, min, List, [], ◌∷◌, ◌++◌, is_some, true, slice_index_or, slice_set, Option, Some, None, unwrap_or}
+use Rattle.std.specs.Prelude.{◌≡◌, ℕ, ◌+◌, ◌≤◌, Bool, false, ◌&&◌, nat_le, nat_lt, min, List, [], ◌∷◌, ◌++◌, length, is_some, true, slice_index_or, slice_set, Option, Some, None, unwrap_or}
 use Rattle.lv_schema.specs.declared.action.Action.{Action}
 use Rattle.lv_schema.specs.declared.table.TableDef.{TableDef}
 use Rattle.lv_schema.specs.Cases.{numbered}
@@ -27,6 +27,16 @@ IsLive sessions session = is_some (transaction_at sessions session) ≡ true
 
 abbrev pub transaction_of : List (Option TransactionKept) → ℕ → TransactionKept
 transaction_of sessions session = unwrap_or (transaction_at sessions session) (begun 0)
+
+-- no session from a number on is live
+abbrev pub NoneLiveFrom : ℕ → List (Option TransactionKept) → Type 0
+NoneLiveFrom used sessions = (session : ℕ) → used ≤ session → transaction_at sessions session ≡ None
+
+-- a place for each session, where the live ones are all among the first so many
+pub record ArePlaces (used : ℕ) (sessions : List (Option TransactionKept)) : Type 0 where
+  pub each : length sessions ≡ 17
+  pub within : used ≤ 17
+  pub free : NoneLiveFrom used sessions
 
 -- the snapshots of the live transactions, and the least of them
 abbrev pub live_kept : List (Option TransactionKept) → List ℕ

@@ -1,10 +1,10 @@
 //! The transaction of each session.
-ghost use Rattle.std.specs.Prelude.{◌≡◌, ◌≤◌, ◌<◌, Bool, true, None, Some, map, option_map, replicate, slice_set, IfOk, OnErr, OnOk};
+ghost use Rattle.std.specs.Prelude.{◌≡◌, ◌≤◌, ◌<◌, Bool, true, None, Some, map, option_map, replicate, slice_set, length, IfOk, OnErr, OnOk};
 ghost use Rattle.std.specs.List.{list_all, list_any};
 ghost use Rattle.lv_schema.specs.Commits.{conflict_in};
 ghost use Rattle.lv_schema.specs.StepPlans.{is_inside};
 ghost use Rattle.lv_overlay.specs.declared.put.Put.{Put};
-ghost use Rattle.lv_txn.specs.Kept.{begun, least_of, lesser, live_kept, snapshot_inside, transaction_at, transaction_of, IsLive, SessionChanges};
+ghost use Rattle.lv_txn.specs.Kept.{begun, least_of, lesser, live_kept, snapshot_inside, transaction_at, transaction_of, IsLive, NoneLiveFrom, SessionChanges};
 ghost use Rattle.lv_txn.specs.Written.{conflict_fault, put_of};
 
 use crate::conflicts::conflict;
@@ -20,21 +20,23 @@ use std::marker::Model;
 const SESSIONS: usize = 17;
 
 /// The live transactions, each at the place of its session. There is a place for each of the 17 sessions from the start.
+/// No session from the number `used` on is live.
 #[derive(Drop)]
 pub struct Txns {
     alloc: Global,
     sessions: Items<Option<Transaction>>,
+    used: usize,
 }
 
 impl Model for Txns {
-    ghost use Rattle.std.specs.Prelude.{◌≡◌, List, Option, length};
-    ghost use Rattle.lv_txn.specs.Kept.{TransactionKept};
+    ghost use Rattle.std.specs.Prelude.{List, Option};
+    ghost use Rattle.lv_txn.specs.Kept.{TransactionKept, ArePlaces};
 
     ghost Value = { List (Option TransactionKept) };
 
     ghost view = { λ t. t.sessions };
 
-    ghost invariant = { λ t. length t.sessions ≡ 17 };
+    ghost invariant = { λ t. ArePlaces t.used t.sessions };
 }
 
 /// A place for each session, with nobody live.
@@ -54,7 +56,11 @@ impl Txns {
         ensures { IfOk result (λ txns. txns ≡ replicate 17 None) }
     {
         let sessions = places(alloc)?;
-        Ok(Txns { alloc, sessions })
+        Ok(Txns {
+            alloc,
+            sessions,
+            used: 0,
+        })
     }
 
     /// Opens a transaction over a snapshot for a session, which has none. It takes no memory. Cost: constant.
@@ -65,15 +71,26 @@ impl Txns {
     {
         let transaction = Transaction::begun(self.alloc, snapshot);
         self.sessions.set(session as usize, Some(transaction));
+        self.used = self.used.max(session as usize + 1);
     }
 
-    /// Closes the transaction of a session. It takes no memory. Cost: linear in what the transaction has.
+    /// Closes the transaction of a session. It takes no memory. Cost: linear in what the transaction has, and at most a
+    /// pass over the sessions.
     pub fn end(&mut self, session: u32)
         requires session { session < 17 }
         requires live { IsLive self.old session }
         ensures { self.new ≡ slice_set self.old session None }
     {
         self.sessions.set(session as usize, None);
+        self.used = still_used(self.sessions.as_slice(), self.used);
+    }
+
+    /// The places up to that of the last live session. Cost: constant.
+    #[tactic(auto, using(crate::proofs::Sessions::live_among))]
+    fn used_places(&self) -> &[Option<Transaction>]
+        ensures { live_kept result.now ≡ live_kept self.now }
+    {
+        &self.sessions.as_slice()[..self.used]
     }
 
     /// The transaction of a session that is live.
@@ -95,12 +112,13 @@ impl Txns {
         }
     }
 
-    /// The least live snapshot, none exactly where nobody is live. Cost: a pass over the sessions.
+    /// The least live snapshot, none exactly where nobody is live.
+    /// Cost: a pass over the sessions up to the last live one.
     pub fn least(&self) -> Option<u64>
         ensures { result ≡ least_of (live_kept self.now) }
     {
         let mut least = None;
-        for transaction in self.sessions.as_slice() {
+        for transaction in self.used_places() {
             least = lesser(least, transaction);
         }
         least
@@ -171,6 +189,20 @@ impl Txns {
     }
 }
 
+/// How many places there are up to that of the last live session, where none from the number `bound` on is live.
+fn still_used(sessions: &[Option<Transaction>], bound: usize) -> usize
+    requires within { bound ≤ length sessions.now }
+    requires free { NoneLiveFrom bound sessions.now }
+    ensures within { result ≤ length sessions.now }
+    ensures free { NoneLiveFrom result sessions.now }
+{
+    let mut used = bound;
+    while 0 < used && sessions[used - 1].is_none() {
+        used -= 1;
+    }
+    used
+}
+
 /// The lesser of a snapshot and that of a transaction, if there is one.
 fn lesser(least: Option<u64>, transaction: &Option<Transaction>) -> Option<u64>
     ensures { result ≡ lesser least transaction.now }
@@ -204,9 +236,9 @@ fn any_between(sessions: &[Option<Transaction>], from: u64, below: u64) -> bool
 impl Live for Txns {
     ghost inside = { λ t from below. is_inside (live_kept t) from below };
 
-    /// Cost: a pass over the sessions.
+    /// Cost: a pass over the sessions up to the last live one.
     #[tactic(auto, using(crate::proofs::Sessions::inside_is))]
     fn inside(&self, from: u64, below: u64) -> bool {
-        any_between(self.sessions.as_slice(), from, below)
+        any_between(self.used_places(), from, below)
     }
 }
