@@ -24,7 +24,7 @@ use Rattle.lv_schema.specs.World.{table_at}
 use Rattle.lv_schema.proofs.DifferencesAddUp.{any_once}
 use Rattle.lv_schema.proofs.NetsLead.{only_rows}
 use Rattle.lv_schema.proofs.OnceLists.{once_up}
-use Rattle.lv_condense.specs.Touches.{ATouch, key_of, touch_cmp, touched, found_in, left_in, lost_in, gained_in, of_key, by_key}
+use Rattle.lv_condense.specs.Touches.{Alike, ATouch, key_of, touch_by, touch_cmp, touched, found_in, left_in, lost_in, gained_in, of_key, by_key}
 use Rattle.lv_condense.proofs.Runs.{same_picks}
 
 abbrev Key : Type 0
@@ -77,6 +77,10 @@ by_key_kept f xs ys moved stable =
 same_number : (x y : ℕ) → (x == y) ≡ true → x ≡ y
 same_number x y e = grind (arith, nat_tests)
 
+all_same : (f g : Key → Option Key) → ((k : Key) → f k ≡ g k) → (ks : List Key) → filter_map f ks ≡ filter_map g ks
+all_same f g same [] = refl
+all_same f g same (k ∷ ks) = ap₂ cons_option (same k) (all_same f g same ks)
+
 module _ (tables : List TableDef) (t : ℕ) where
   abbrev key : List ℕ
   key = (table_at tables t).key
@@ -89,7 +93,7 @@ module _ (tables : List TableDef) (t : ℕ) where
   keys_are (a ∷ actions) = by (t == a.table) (keys_are actions)
     where
       by : (b : Bool) → map key_of (mine actions) ≡ written_keys tables actions t
-          → map key_of (map {B = ATouch} (λ (x : Action). (key, x)) (cond b (a ∷ filter (λ (x : Action). t == x.table) actions) (filter (λ (x : Action). t == x.table) actions)))
+          → map key_of (map (touch_by key) (cond b (a ∷ filter (λ (x : Action). t == x.table) actions) (filter (λ (x : Action). t == x.table) actions)))
           ≡ cond b (values_at key a.row ∷ written_keys tables actions t) (written_keys tables actions t)
       by true e = ap (λ ks. values_at key a.row ∷ ks) e
       by false e = e
@@ -102,11 +106,11 @@ module _ (tables : List TableDef) (t : ℕ) where
       by true e = ap (λ u. row_eq k (values_at (table_at tables u).key a.row)) (sym (same_number t a.table e))
       by false e = refl
 
-  own_with : (k : Key) (a : Action) (actions : List Action) → of_key k (mine (a ∷ actions)) ≡ cond ((t == a.table) && row_eq k (values_at key a.row)) ((key, a) ∷ of_key k (mine actions)) (of_key k (mine actions))
+  own_with : (k : Key) (a : Action) (actions : List Action) → of_key k (mine (a ∷ actions)) ≡ cond ((t == a.table) && row_eq k (values_at key a.row)) (touch_by key a ∷ of_key k (mine actions)) (of_key k (mine actions))
   own_with k a actions = by (t == a.table)
     where
-      by : (b : Bool) → of_key k (map {B = ATouch} (λ (x : Action). (key, x)) (cond b (a ∷ filter (λ (x : Action). t == x.table) actions) (filter (λ (x : Action). t == x.table) actions)))
-          ≡ cond (b && row_eq k (values_at key a.row)) ((key, a) ∷ of_key k (mine actions)) (of_key k (mine actions))
+      by : (b : Bool) → of_key k (map (touch_by key) (cond b (a ∷ filter (λ (x : Action). t == x.table) actions) (filter (λ (x : Action). t == x.table) actions)))
+          ≡ cond (b && row_eq k (values_at key a.row)) (touch_by key a ∷ of_key k (mine actions)) (of_key k (mine actions))
       by true = refl
       by false = refl
 
@@ -118,7 +122,7 @@ module _ (tables : List TableDef) (t : ℕ) where
       ∙ ap (λ b. cond b (found_by a.kind a.row) (first_found tables actions (t, k))) (sym (place_is k a))
     where
       by : (b : Bool) → found_in (of_key k (mine actions)) ≡ first_found tables actions (t, k)
-          → found_in (cond b ((key, a) ∷ of_key k (mine actions)) (of_key k (mine actions))) ≡ cond b (found_by a.kind a.row) (first_found tables actions (t, k))
+          → found_in (cond b (touch_by key a ∷ of_key k (mine actions)) (of_key k (mine actions))) ≡ cond b (found_by a.kind a.row) (first_found tables actions (t, k))
       by true e = refl
       by false e = e
 
@@ -130,13 +134,9 @@ module _ (tables : List TableDef) (t : ℕ) where
       ∙ ap (λ b. carried tables (t, k) (cond b (left_by a.kind a.row) row) actions) (sym (place_is k a))
     where
       by : (b : Bool) → left_in (left_by a.kind a.row) (of_key k (mine actions)) ≡ carried tables (t, k) (left_by a.kind a.row) actions → left_in row (of_key k (mine actions)) ≡ carried tables (t, k) row actions
-          → left_in row (cond b ((key, a) ∷ of_key k (mine actions)) (of_key k (mine actions))) ≡ carried tables (t, k) (cond b (left_by a.kind a.row) row) actions
+          → left_in row (cond b (touch_by key a ∷ of_key k (mine actions)) (of_key k (mine actions))) ≡ carried tables (t, k) (cond b (left_by a.kind a.row) row) actions
       by true e f = e
       by false e f = f
-
-  all_same : (f g : Key → Option Key) → ((k : Key) → f k ≡ g k) → (ks : List Key) → filter_map f ks ≡ filter_map g ks
-  all_same f g same [] = refl
-  all_same f g same (k ∷ ks) = ap₂ cons_option (same k) (all_same f g same ks)
 
   pub lost_is : (actions : List Action) → by_key lost_in (mine actions) ≡ (condensed tables actions t).minus
   lost_is actions =
@@ -150,19 +150,33 @@ module _ (tables : List TableDef) (t : ℕ) where
       ∙ all_same (λ k. gained_in (of_key k (mine actions))) (λ k. unless (last_left tables actions (t, k)) (first_found tables actions (t, k)))
       (λ k. ap₂ unless (last_is k None actions) (first_is k actions)) (once row_cmp (written_keys tables actions t))
 
--- the whole: what is gathered of the sorted touches
-pub condensed_is : (tables : List TableDef) (def : TableDef) (actions : List Action) (sorted : List ATouch) (net : Net) → table_at tables def.no ≡ def → IsPermutation (touched def.key def.no actions) sorted → IsStable touch_cmp (touched def.key def.no actions) sorted
-    → net.minus ≡ by_key lost_in sorted → net.plus ≡ by_key gained_in sorted → net ≡ condensed tables actions def.no
-condensed_is tables def actions sorted net is moved stable minus plus = λ i. record { minus = lost i; plus = gained i }
+-- touches that come to the same at each key come to the same
+by_key_alike : (f : List ATouch → Option Key) (xs ys : List ATouch) → Alike xs ys → ((k : Key) → f (of_key k xs) ≡ f (of_key k ys)) → by_key f xs ≡ by_key f ys
+by_key_alike f xs ys alike same =
+    ap (filter_map (λ k. f (of_key k xs)))
+    (only_rows row_total (once row_cmp (map key_of xs)) (once row_cmp (map key_of ys)) (once_up row_total (map key_of xs)) (once_up row_total (map key_of ys))
+    (λ q. any_once q (map key_of xs) ∙ alike.keys q ∙ sym (any_once q (map key_of ys))))
+    ∙ all_same (λ k. f (of_key k xs)) (λ k. f (of_key k ys)) same (once row_cmp (map key_of ys))
+
+pub lost_alike : (xs ys : List ATouch) → Alike xs ys → by_key lost_in xs ≡ by_key lost_in ys
+lost_alike xs ys alike = by_key_alike lost_in xs ys alike (λ k. ap₂ unless (alike.found k) (alike.left k None))
+
+pub gained_alike : (xs ys : List ATouch) → Alike xs ys → by_key gained_in xs ≡ by_key gained_in ys
+gained_alike xs ys alike = by_key_alike gained_in xs ys alike (λ k. ap₂ unless (alike.left k None) (alike.found k))
+
+-- the whole: what is gathered of touches that come to what the actions on the table come to
+pub condensed_is : (tables : List TableDef) (def : TableDef) (actions : List Action) (touches : List ATouch) (net : Net) → table_at tables def.no ≡ def → Alike touches (touched def.key def.no actions)
+    → net.minus ≡ by_key lost_in touches → net.plus ≡ by_key gained_in touches → net ≡ condensed tables actions def.no
+condensed_is tables def actions touches net is alike minus plus = λ i. record { minus = lost i; plus = gained i }
   where
     keyed : touched (table_at tables def.no).key def.no actions ≡ touched def.key def.no actions
     keyed = ap (λ (d : TableDef). touched d.key def.no actions) is
 
     lost : net.minus ≡ (condensed tables actions def.no).minus
-    lost = minus ∙ by_key_kept lost_in (touched def.key def.no actions) sorted moved stable ∙ ap (by_key lost_in) (sym keyed) ∙ lost_is tables def.no actions
+    lost = minus ∙ lost_alike touches (touched def.key def.no actions) alike ∙ ap (by_key lost_in) (sym keyed) ∙ lost_is tables def.no actions
 
     gained : net.plus ≡ (condensed tables actions def.no).plus
-    gained = plus ∙ by_key_kept gained_in (touched def.key def.no actions) sorted moved stable ∙ ap (by_key gained_in) (sym keyed) ∙ gained_is tables def.no actions
+    gained = plus ∙ gained_alike touches (touched def.key def.no actions) alike ∙ ap (by_key gained_in) (sym keyed) ∙ gained_is tables def.no actions
 
 -- ---- what an answer says twice
 pub on_ok : {T E : Type 0} (r : Result T E) (P : Type 0) → P → OnOk r P

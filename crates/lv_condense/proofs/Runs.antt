@@ -1,5 +1,5 @@
 -- Touches that ascend by their keys fall into runs, one for each key.
-use Rattle.std.proofs.Common.{◌≡◌, ℕ, zero, suc, add-one, ◌+◌, ◌<◌, ◌≤◌, Bool, true, false, cond, List, [], ◌∷◌, ◌++◌, map, take, drop, length, get_or, Some, None, Option, slice_get, refl, sym, ap, ap₂, ◌∙◌, subst, arith}
+use Rattle.std.proofs.Common.{◌≡◌, ℕ, zero, suc, add-one, ◌+◌, ◌<◌, ◌≤◌, Bool, true, false, cond, List, [], ◌∷◌, ◌++◌, map, take, drop, length, get_or, Some, None, Option, refl, sym, ap, ap₂, ◌∙◌, subst, arith}
 use Rattle.std.specs.List.{AllByRecursion, prefix_len, filter_map, cons_option}
 use Rattle.std.specs.List.Sorted.{IsSorted}
 use Rattle.std.specs.Ordering.{is_eq, is_gt, is_lt, ordering_reverse}
@@ -9,13 +9,12 @@ use Rattle.std.specs.FinMap.Entries.{by_order}
 use Rattle.std.proofs.lemmas.Cmp.{tied_itself, upto}
 use Rattle.std.proofs.lemmas.List.{take-append-drop, append-nil, append_assoc, drop-drop}
 use Rattle.std.proofs.lemmas.List.Elements.{filter-append}
-use Rattle.std.proofs.lemmas.Option.{same_Some, slice_get_read}
 use Rattle.lv_values.specs.declared.value.Value.{Value}
 use Rattle.lv_values.specs.Order.{row_cmp, row_eq}
 use Rattle.lv_values.specs.OrderLaws.{row_total, row_exact}
 use Rattle.lv_schema.specs.Keys.{left_by}
-use Rattle.lv_schema.specs.Once.{put_once, once}
-use Rattle.lv_condense.specs.Touches.{ATouch, key_of, touch_cmp, found_in, left_in, of_key, by_key}
+use Rattle.lv_schema.specs.Once.{Ascends, put_once, once}
+use Rattle.lv_condense.specs.Touches.{AtLeast, ATouch, key_of, touch_cmp, found_in, left_in, of_key, by_key, Rises, run_of}
 
 abbrev Key : Type 0
 Key = List Value
@@ -40,19 +39,11 @@ equal_from Equal h = refl
 equal_from Greater h = cc
 
 -- ---- what stands behind a touch
-abbrev AtLeast : Key → List ATouch → Type 0
-AtLeast k xs = AllByRecursion (λ x. is_gt (row_cmp k (key_of x)) ≡ false) xs
-
 abbrev Above : Key → List ATouch → Type 0
 Above k xs = AllByRecursion (λ x. row_cmp k (key_of x) ≡ Less) xs
 
 abbrev Same : Key → List ATouch → Type 0
 Same k xs = AllByRecursion (λ x. key_of x ≡ k) xs
-
--- no touch is of a greater key than one behind it
-abbrev pub Rises : List ATouch → Type 0
-Rises [] = Unit {0}
-Rises (x ∷ xs) = AtLeast (key_of x) xs × Rises xs
 
 rises_drop : (n : ℕ) (xs : List ATouch) → Rises xs → Rises (drop n xs)
 rises_drop zero xs r = r
@@ -185,13 +176,9 @@ falls_at x xs r =
       within = let le = run_within k xs in omega arith;
     }
 
-pub falls : (first : ATouch) (n : ℕ) (xs : List ATouch) → slice_get xs 0 ≡ Some first → Rises xs → n ≡ prefix_len (λ x. is_eq (touch_cmp first x)) xs → Falls n xs
-falls first n [] at r is = cc
-falls first n (x ∷ xs) at r is =
-    let same : x ≡ first = same_Some x first at in
-    let here : prefix_len (λ y. is_eq (touch_cmp x y)) (x ∷ xs) ≡ suc (run (key_of x) xs) =
-    (λ i. cond (is_eq (tied_itself row_total (key_of x) i)) (1 + run (key_of x) xs) 0) ∙ one_more (run (key_of x) xs) in
-    subst (λ (m : ℕ). Falls m (x ∷ xs)) (sym (is ∙ ap (λ f. prefix_len (λ y. is_eq (touch_cmp f y)) (x ∷ xs)) (sym same) ∙ here)) (falls_at x xs r)
+falls : (xs : List ATouch) → 0 < length xs → Rises xs → Falls (run_of xs) xs
+falls [] some r = absurd (omega arith)
+falls (x ∷ xs) some r = subst (λ (m : ℕ). Falls m (x ∷ xs)) (sym (one_more (run (key_of x) xs))) (falls_at x xs r)
 
 -- what a sort leaves rises
 not_gt : (x y : ATouch) → is_lt (touch_cmp y x) ≡ false → is_gt (touch_cmp x y) ≡ false
@@ -213,6 +200,33 @@ rises_from_sorted (x ∷ y ∷ xs) s =
     let rest = rises_from_sorted (y ∷ xs) (λ k d l h. simp add-one (simp add-one at (s (suc k) d (omega arith) (omega arith)))) in
     let here = not_gt x y (s 0 x (omega arith) (omega arith)) in
     ((here, least_along (key_of x) y xs here rest.0), rest)
+
+-- so do touches each of a lower key than the next one
+pub rises_from_ascends : (xs : List ATouch) → Ascends touch_cmp xs → Rises xs
+rises_from_ascends [] a = tt
+rises_from_ascends (x ∷ xs) a = (least (key_of x) xs a.0, rises_from_ascends xs a.1)
+  where
+    least : (k : Key) (ys : List ATouch) → Above k ys → AtLeast k ys
+    least k [] l = tt
+    least k (y ∷ ys) l = (ap is_gt l.0, least k ys l.1)
+
+ascends_drop : (n : ℕ) (xs : List ATouch) → Ascends touch_cmp xs → Ascends touch_cmp (drop n xs)
+ascends_drop zero xs a = a
+ascends_drop (suc n) [] a = tt
+ascends_drop (suc n) (x ∷ xs) a = ascends_drop n xs a.1
+
+pub ascends_from : (touches xs : List ATouch) (at : ℕ) → xs ≡ drop at touches → Ascends touch_cmp touches → Ascends touch_cmp xs
+ascends_from touches xs at is a = subst (Ascends touch_cmp) (sym is) (ascends_drop at touches a)
+
+-- the first of touches each of a lower key than the next one is a run
+pub run_of_one : (xs : List ATouch) → 0 < length xs → Ascends touch_cmp xs → 1 ≡ run_of xs
+run_of_one [] some a = absurd (omega arith)
+run_of_one (x ∷ []) some a = refl
+run_of_one (x ∷ y ∷ xs) some a = λ i. 1 + cond (is_eq (sym a.0.0 i)) (1 + prefix_len (λ z. is_eq (touch_cmp x z)) xs) 0
+
+pub run_of_first : (xs others : List ATouch) (first : ATouch) (n : ℕ) → 0 < length xs → others ≡ drop 1 xs → first ≡ get_or xs 0 first → n ≡ prefix_len (λ y. is_eq (touch_cmp first y)) others → 1 + n ≡ run_of xs
+run_of_first [] others first n some rest here e = absurd (omega arith)
+run_of_first (x ∷ xs) others first n some rest here e = ap (λ (m : ℕ). 1 + m) (e ∙ (λ i. prefix_len (λ y. is_eq (touch_cmp (here i) y)) (rest i)))
 
 behind : (x : Option Key) (rows : List Key) → cons_option x [] ++ rows ≡ cons_option x rows
 behind None rows = refl
@@ -236,12 +250,12 @@ pub found_first : (xs : List ATouch) (x : ATouch) → 0 < length xs → x ≡ ge
 found_first [] x lt e = absurd (omega arith)
 found_first (y ∷ xs) x lt e = ap (λ z. found_in (z ∷ [])) (sym e)
 
-pub left_last : (row : Option Key) (xs : List ATouch) (i : ℕ) (x : ATouch) → suc i ≡ length xs → x ≡ get_or xs i x → left_in row xs ≡ left_by x.1.kind x.1.row
+pub left_last : (row : Option Key) (xs : List ATouch) (i : ℕ) (x : ATouch) → suc i ≡ length xs → x ≡ get_or xs i x → left_in row xs ≡ left_by x.last.kind x.last.row
 left_last row [] i x lt e = absurd (omega arith)
-left_last row (y ∷ []) zero x lt e = ap (λ (z : ATouch). left_by z.1.kind z.1.row) (sym e)
+left_last row (y ∷ []) zero x lt e = ap (λ (z : ATouch). left_by z.last.kind z.last.row) (sym e)
 left_last row (y ∷ []) (suc i) x lt e = absurd (omega arith)
 left_last row (y ∷ z ∷ xs) zero x lt e = absurd (omega arith)
-left_last row (y ∷ z ∷ xs) (suc i) x lt e = left_last (left_by y.1.kind y.1.row) (z ∷ xs) i x (omega arith) e
+left_last row (y ∷ z ∷ xs) (suc i) x lt e = left_last (left_by y.last.kind y.last.row) (z ∷ xs) i x (omega arith) e
 
-pub run_falls : (touches xs : List ATouch) (first : ATouch) (n at : ℕ) → xs ≡ drop at touches → first ≡ get_or xs 0 first → 0 < length xs → Rises (drop at touches) → n ≡ prefix_len (λ x. is_eq (touch_cmp first x)) xs → Falls n xs
-run_falls touches xs first n at is here some rises e = falls first n xs (slice_get_read xs (length xs) 0 first refl some here) (subst Rises (sym is) rises) e
+pub run_falls : (touches xs : List ATouch) (n at : ℕ) → xs ≡ drop at touches → 0 < length xs → Rises (drop at touches) → n ≡ run_of xs → Falls n xs
+run_falls touches xs n at is some rises e = subst (λ (m : ℕ). Falls m xs) (sym e) (falls xs some (subst Rises (sym is) rises))

@@ -1,7 +1,6 @@
 //! Condensing.
-ghost use Rattle.std.specs.Prelude.{◌≡◌, ◌<◌, ◌≤◌, ◌++◌, ℕ, List, [], length, map, IfOk, OnOk};
+ghost use Rattle.std.specs.Prelude.{◌≡◌, true, ◌<◌, ◌≤◌, ◌++◌, List, [], length, map, IfOk, OnOk};
 ghost use Rattle.std.specs.List.{cons_option, prefix_len};
-ghost use Rattle.std.specs.List.Sorted.{IsSorted};
 ghost use Rattle.std.specs.Ordering.{is_eq};
 ghost use Rattle.lv_schema.specs.declared.action.DeltaEntry.{DeltaEntry};
 ghost use Rattle.lv_schema.specs.declared.table.TableDef.{TableDef};
@@ -10,38 +9,21 @@ ghost use Rattle.lv_schema.specs.Keys.{left_by};
 ghost use Rattle.lv_schema.specs.Databases.{Db, rows_of, IsDatabase};
 ghost use Rattle.lv_schema.specs.Effects.{acted_all};
 ghost use Rattle.lv_schema.specs.Nets.{net_of};
+ghost use Rattle.lv_schema.specs.Once.{Ascends};
 ghost use Rattle.lv_schema.specs.SoundWorld.{CanAct};
 ghost use Rattle.lv_schema.specs.World.{table_at};
-ghost use Rattle.lv_condense.specs.Touches.{by_key, gained_in, lost_in, touch_cmp, touched};
+ghost use Rattle.lv_condense.specs.Touches.{Alike, by_key, gained_in, lost_in, Rises, run_of, touch_cmp, touched};
 
+use crate::collecting::{Touches, touches_in, touches_of};
 use crate::touch::Touch;
 use lv_schema::{Action, ActionKind, DeltaEntry, Net, TableDef};
 use lv_values::{Copying, NoMemory, Rows};
 use std::alloc::Global;
 
-/// The actions on a table, in their order.
-fn touches_of<'a>(
-    alloc: Global,
-    table: &'a TableDef,
-    entries: &'a [DeltaEntry],
-) -> Result<Vec<Touch<'a>>, NoMemory>
-    ensures { IfOk result (λ touches. touches.items ≡ touched table.now.key table.now.no (map (λ (e : DeltaEntry). e.action) entries.now)) }
-{
-    let mut touches = Vec::with_capacity(alloc, entries.len())?;
-    for entry in entries {
-        if table.no == entry.action.table {
-            touches.push(Touch {
-                key: table.key.as_slice(),
-                action: &entry.action,
-            })?;
-        }
-    }
-    Ok(touches)
-}
-
 /// How many touches from the front on are of the first one's key.
 fn run_len(first: &Touch<'_>, touches: &[Touch<'_>]) -> usize
-    ensures { result ≡ prefix_len (λ touch. is_eq (touch_cmp first.now touch)) touches.now }
+    ensures run { result ≡ prefix_len (λ touch. is_eq (touch_cmp first.now touch)) touches.now }
+    ensures within { result ≤ length touches.now }
 {
     for (i, touch) in touches.iter().enumerate() {
         if first != touch {
@@ -49,6 +31,18 @@ fn run_len(first: &Touch<'_>, touches: &[Touch<'_>]) -> usize
         }
     }
     touches.len()
+}
+
+/// How many touches at the front are of one key. Cost: a comparison of keys for each of them, none where the keys ascend.
+fn first_run(touches: &[Touch<'_>], ascend: bool) -> usize
+    requires some { 0 < length touches.now }
+    requires ascend { ascend ≡ true → Ascends touch_cmp touches.now }
+    ensures { result ≡ run_of touches.now }
+{
+    if ascend {
+        return 1;
+    }
+    1 + run_len(&touches[0], touches.split_at(1).1)
 }
 
 /// Adds the row that a key has lost, by the first action on it and the last one.
@@ -96,13 +90,15 @@ fn push_run(alloc: Global, run: &[Touch<'_>], net: &mut Net) -> Result<(), NoMem
 {
     let first = &run[0];
     let last = &run[run.len() - 1];
-    push_lost(alloc, first.action, last.action, &mut net.minus)?;
-    push_gained(alloc, first.action, last.action, &mut net.plus)
+    push_lost(alloc, first.first, last.last, &mut net.minus)?;
+    push_gained(alloc, first.first, last.last, &mut net.plus)
 }
 
-/// What touches that ascend by their keys come to, key by key.
-fn gather(alloc: Global, touches: &[Touch<'_>]) -> Result<Net, NoMemory>
-    requires { IsSorted touch_cmp touches.now }
+/// What touches in the order of their keys come to, key by key, where it is known whether each is of a lower key than the
+/// next one.
+fn gather(alloc: Global, touches: &[Touch<'_>], ascend: bool) -> Result<Net, NoMemory>
+    requires rises { Rises touches.now }
+    requires ascend { ascend ≡ true → Ascends touch_cmp touches.now }
     ensures lost { IfOk result (λ net. net.minus ≡ by_key lost_in touches.now) }
     ensures gained { IfOk result (λ net. net.plus ≡ by_key gained_in touches.now) }
 {
@@ -113,53 +109,38 @@ fn gather(alloc: Global, touches: &[Touch<'_>]) -> Result<Net, NoMemory>
     let mut at = 0;
     while at < touches.len() {
         let rest = touches.split_at(at).1;
-        let len = run_len(&rest[0], rest);
+        let len = first_run(rest, ascend);
         push_run(alloc, rest.split_at(len).0, &mut net)?;
         at += len;
     }
     Ok(net)
 }
 
-/// The actions on a table, in their order.
-fn touches_in<'a>(
-    alloc: Global,
-    table: &'a TableDef,
-    actions: &'a [Action],
-) -> Result<Vec<Touch<'a>>, NoMemory>
-    ensures { IfOk result (λ touches. touches.items ≡ touched table.now.key table.now.no actions.now) }
-{
-    let mut touches = Vec::with_capacity(alloc, actions.len())?;
-    for action in actions {
-        if table.no == action.table {
-            touches.push(Touch {
-                key: table.key.as_slice(),
-                action,
-            })?;
-        }
-    }
-    Ok(touches)
-}
-
-/// The net change of the actions of which these are those on a table.
+/// The net change of the actions on a table from which these touches come.
 fn condense_touches(
     alloc: Global,
     table: &TableDef,
-    mut touches: Vec<Touch<'_>>,
+    mut touches: Touches<'_>,
 ) -> Result<Net, NoMemory>
-    ensures condensed { IfOk result (λ net. (tables : List TableDef) (actions : List Action) → touches.entry.items ≡ touched table.now.key table.now.no actions → table_at tables table.now.no ≡ table.now
+    requires { touches.ascend ≡ true → Ascends touch_cmp touches.list.items }
+    ensures condensed { IfOk result (λ net. (tables : List TableDef) (actions : List Action) → Alike touches.entry.list.items (touched table.now.key table.now.no actions) → table_at tables table.now.no ≡ table.now
         → net ≡ condensed tables actions table.now.no) }
-    ensures net { IfOk result (λ net. (tables : List TableDef) (db : Db) (actions : List Action) → touches.entry.items ≡ touched table.now.key table.now.no actions → IsDatabase tables db → CanAct tables db actions → table.now.no < length tables → table_at tables table.now.no ≡ table.now
+    ensures net { IfOk result (λ net. (tables : List TableDef) (db : Db) (actions : List Action) → Alike touches.entry.list.items (touched table.now.key table.now.no actions) → IsDatabase tables db → CanAct tables db actions → table.now.no < length tables → table_at tables table.now.no ≡ table.now
         → net ≡ net_of (rows_of db table.now.no) (rows_of (acted_all tables db actions) table.now.no)) }
 {
-    touches.sort()?;
-    gather(alloc, &touches)
+    if touches.ascend {
+        return gather(alloc, &touches.list, true);
+    }
+    touches.list.sort()?;
+    gather(alloc, &touches.list, false)
 }
 
 /// The net change that actions make of a table: for each key that they write, in the order of the keys, the row that the
 /// first of them finds and the one that the last of them leaves, where these differ. So it is the net change from each
 /// state on which they can be taken to the one to which they lead.
 ///
-/// Cost: n log n comparisons of keys in place for the n actions on the table, and copies of the rows of the net change.
+/// Cost: a comparison of keys in place for each action on the table, and copies of the rows of the net change. Where the
+/// keys do not ascend, also n log n comparisons, where n counts actions in a row on one key once.
 pub fn condense_actions(
     alloc: Global,
     table: &TableDef,

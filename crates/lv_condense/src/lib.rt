@@ -1,6 +1,7 @@
 //! The net change that entries of commits make of a table.
 #![tactic(auto)]
 
+mod collecting;
 mod condensing;
 mod touch;
 

@@ -5,19 +5,20 @@ ghost use Rattle.std.specs.Ordering.{as_partial_cmp, eq_by_cmp};
 ghost use Rattle.std.proofs.lemmas.Cmp.{eq_by_cmp_equiv};
 ghost use Rattle.lv_values.specs.Order.{row_cmp, value_cmp};
 ghost use Rattle.lv_values.specs.Rows.{value_in, values_at};
-ghost use Rattle.lv_condense.specs.Touches.{touch_cmp, touch_total};
+ghost use Rattle.lv_condense.specs.Touches.{then_by, touch_by, touch_cmp, touch_total};
 
 use lv_schema::Action;
 use lv_values::{Row, Value};
 use std::cmp::Ordering;
 use std::marker::Model;
 
-/// An action, with the positions of its table's key. Contracts see the pair of both. Touches are ordered by the keys
-/// that they touch, in place.
+/// The first and the last of some actions on one key, with the positions of their table's key. Contracts see all three.
+/// Touches are ordered by the keys that they touch, in place.
 #[derive(Drop)]
 pub(crate) struct Touch<'a> {
     pub key: &'a [u8],
-    pub action: &'a Action,
+    pub first: &'a Action,
+    pub last: &'a Action,
 }
 
 impl<'a> Model for Touch<'a> {
@@ -25,7 +26,31 @@ impl<'a> Model for Touch<'a> {
 
     ghost Value = { ATouch };
 
-    ghost view = { λ t. (t.key.now, t.action.now) };
+    ghost view = { λ t. record { key = t.key.now; first = t.first.now; last = t.last.now } };
+}
+
+impl<'a> Touch<'a> {
+    /// The touch by one action.
+    pub fn by(key: &'a [u8], action: &'a Action) -> Touch<'a>
+        ensures { result ≡ touch_by key.now action.now }
+    {
+        Touch {
+            key,
+            first: action,
+            last: action,
+        }
+    }
+
+    /// The touch with an action after its last one.
+    pub fn then(&self, action: &'a Action) -> Touch<'a>
+        ensures { result ≡ then_by self.now action.now }
+    {
+        Touch {
+            key: self.key,
+            first: self.first,
+            last: action,
+        }
+    }
 }
 
 /// Compares the value at a position of one row with that at a position of another, the number 0 standing past a row's
@@ -98,6 +123,6 @@ impl<'a> Ord for Touch<'a> {
     ghost matches_eq = { λ _ _. refl };
 
     fn cmp(&self, other: &Touch<'a>) -> Ordering {
-        compare_keys(self.key, &self.action.row, other.key, &other.action.row)
+        compare_keys(self.key, &self.first.row, other.key, &other.first.row)
     }
 }

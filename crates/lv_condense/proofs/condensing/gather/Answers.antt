@@ -1,10 +1,8 @@
-use Rattle.std.proofs.Common.{◌≤◌, List, ◌++◌, [], length, ap, sym, subst, ◌∙◌, arith}
+use Rattle.std.proofs.Common.{List, ◌++◌, [], ap, ◌∙◌, arith}
 use Rattle.std.specs.List.{cons_option}
-use Rattle.std.proofs.lemmas.List.Sums.{prefix_len-le-length}
-use Rattle.std.specs.Ordering.{is_eq}
 use Rattle.lv_values.specs.declared.value.Value.{Value}
-use Rattle.lv_condense.specs.Touches.{ATouch, by_key, gained_in, lost_in, touch_cmp}
-use Rattle.lv_condense.proofs.Runs.{Falls, gather_step, rises_from_sorted, rises_on, run_falls}
+use Rattle.lv_condense.specs.Touches.{by_key, gained_in, lost_in}
+use Rattle.lv_condense.proofs.Runs.{ascends_from, Falls, gather_step, rises_on, run_falls}
 use Rattle.lv_condense.proofs.condensing.gather.Goals as goal
 
 pub loop-at-init : goal.loop-at-init
@@ -12,22 +10,25 @@ loop-at-init c = record {
   within = omega arith;
   lost = ap (λ (l : List (List Value)). l ++ by_key lost_in c.args.touches.now) (c.from_vec.ensures ∙ c.in_ok-with_capacity.ensures.items);
   gained = ap (λ (l : List (List Value)). l ++ by_key gained_in c.args.touches.now) (c.from_vec-2.ensures ∙ c.in_ok-with_capacity-2.ensures.items);
-  rises = rises_from_sorted c.args.touches.now c.requires;
+  rises = c.requires.rises;
 }
+
+pub first_run-len-requires-clause-ascend : goal.first_run-len-requires-clause-ascend
+first_run-len-requires-clause-ascend c = λ up. ascends_from c.args.touches.now c.split_at.result.1.now c.loop-at.at c.split_at.ensures.back (c.requires.ascend up)
 
 pub split_at-requires-in-loop-at : goal.split_at-requires-in-loop-at
 split_at-requires-in-loop-at c =
-    subst (λ n. n ≤ length c.split_at.result.1.now) (sym c.run_len-len.ensures) (prefix_len-le-length (λ (x : ATouch). is_eq (touch_cmp c.index-rest-0.result x)) c.split_at.result.1.now)
+    (run_falls c.args.touches.now c.split_at.result.1.now c.first_run-len.result c.loop-at.at c.split_at.ensures.back (omega (arith, c.split_at.ensures.back_len)) c.loop-at.invariant.rises c.first_run-len.ensures).within
 
 pub push_run-requires : goal.push_run-requires
 push_run-requires c =
-    let f = run_falls c.args.touches.now c.split_at.result.1.now c.index-rest-0.result c.run_len-len.result c.loop-at.at c.split_at.ensures.back c.index-rest-0.is (omega (arith, c.split_at.ensures.back_len)) c.loop-at.invariant.rises c.run_len-len.ensures in
+    let f = run_falls c.args.touches.now c.split_at.result.1.now c.first_run-len.result c.loop-at.at c.split_at.ensures.back (omega (arith, c.split_at.ensures.back_len)) c.loop-at.invariant.rises c.first_run-len.ensures in
     let some = f.some in
     omega (arith, c.split_at-in-loop-at.ensures.front_len, some)
 
 -- the run at the front of the rest
-front : (c : goal.In_ok-push_run) → Falls c.run_len-len.result c.split_at.result.1.now
-front c = run_falls c.args.touches.now c.split_at.result.1.now c.index-rest-0.result c.run_len-len.result c.loop-at.at c.split_at.ensures.back c.index-rest-0.is (omega (arith, c.split_at.ensures.back_len)) c.loop-at.invariant.rises c.run_len-len.ensures
+front : (c : goal.In_ok-push_run) → Falls c.first_run-len.result c.split_at.result.1.now
+front c = run_falls c.args.touches.now c.split_at.result.1.now c.first_run-len.result c.loop-at.at c.split_at.ensures.back (omega (arith, c.split_at.ensures.back_len)) c.loop-at.invariant.rises c.first_run-len.ensures
 
 pub loop-at-smaller : goal.loop-at-smaller
 loop-at-smaller c = let some = (front c).some in omega (arith, some)
@@ -35,7 +36,7 @@ loop-at-smaller c = let some = (front c).some in omega (arith, some)
 pub loop-at-preserved : goal.loop-at-preserved
 loop-at-preserved c =
     let es = c.split_at.result.1.now in
-    let n = c.run_len-len.result in
+    let n = c.first_run-len.result in
     let back = c.split_at.ensures.back in
     let within = (front c).within in
     record {

@@ -1,6 +1,5 @@
 use Rattle.std.proofs.Common.{◌≡◌, ◌≤◌, ◌-◌, ◌++◌, length, drop}
-use Rattle.lv_condense.specs.Touches.{by_key, gained_in, lost_in}
-use Rattle.lv_condense.proofs.Runs.{Rises}
+use Rattle.lv_condense.specs.Touches.{by_key, gained_in, lost_in, Rises}
 use Rattle.lv_condense.proofs.condensing.gather.Given as goal
 
 abbrev pub invariant-loop-at : goal.invariant-loop-at

@@ -9,13 +9,13 @@ use Rattle.lv_condense.proofs.NetByKey.{on_ok}
 use Rattle.lv_condense.proofs.Runs.{found_first, left_last}
 use Rattle.lv_condense.proofs.condensing.push_run.Goals as goal
 
-found : (c : goal.After-push_gained) → found_by c.first.inside.action.now.kind c.first.inside.action.now.row ≡ found_in c.args.run.now
-found c = ap (λ (x : ATouch). found_by x.1.kind x.1.row) c.first.view_is ∙ sym (found_first c.args.run.now c.index-run-0.result c.requires c.index-run-0.is)
+found : (c : goal.After-push_gained) → found_by c.first.inside.first.now.kind c.first.inside.first.now.row ≡ found_in c.args.run.now
+found c = ap (λ (x : ATouch). found_by x.first.kind x.first.row) c.first.view_is ∙ sym (found_first c.args.run.now c.index-run-0.result c.requires c.index-run-0.is)
 
-left : (c : goal.After-push_gained) → left_by c.last.inside.action.now.kind c.last.inside.action.now.row ≡ left_in None c.args.run.now
+left : (c : goal.After-push_gained) → left_by c.last.inside.last.now.kind c.last.inside.last.now.row ≡ left_in None c.args.run.now
 left c =
     let last : suc (length c.args.run.now - 1) ≡ length c.args.run.now = omega (arith, c.requires) in
-    ap (λ (x : ATouch). left_by x.1.kind x.1.row) c.last.view_is ∙ sym (left_last None c.args.run.now (length c.args.run.now - 1) c.index-run-run.result last c.index-run-run.is)
+    ap (λ (x : ATouch). left_by x.last.kind x.last.row) c.last.view_is ∙ sym (left_last None c.args.run.now (length c.args.run.now - 1) c.index-run-run.result last c.index-run-run.is)
 
 pub returns-clause-lost : goal.returns-clause-lost
 returns-clause-lost c = on_ok c.push_gained.result _ (c.in_ok-push_lost.ensures ∙ ap (λ o. c.args.net.now.minus ++ cons_option o []) (ap₂ unless (found c) (left c)))
