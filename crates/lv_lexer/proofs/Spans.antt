@@ -42,14 +42,14 @@ module _ (line : List ℕ) (at : ℕ) (bytes : List ℕ) (rest : bytes ≡ drop 
     text_length : length (text_in line t) ≡ t.end - t.start
     text_length = ap length (sym text_is) ∙ length-take-le (t.end - t.start) (after_blanks bytes) known.within
 
-    is_token : IsTokenOf line t
+    pub is_token : IsTokenOf line t
     is_token = record {
       order = omega (arith, known.some);
       within = end_within;
       spelled = ap piece (sym text_is) ∙ known.front ∙ ap (λ (n : ℕ). Some (t.kind, n)) (sym text_length);
     }
 
-    after : drop (t.end - t.start) (after_blanks bytes) ≡ drop t.end line
+    pub after : drop (t.end - t.start) (after_blanks bytes) ≡ drop t.end line
     after = ap (drop (t.end - t.start)) from_start ∙ sym (drop_twice t.start (t.end - t.start) line) ∙ ap (λ (n : ℕ). drop n line) (omega arith)
 
 pub in_order : (line : List ℕ) (at : ℕ) (bytes : List ℕ) (ts : List Token) (stopped : Option ℕ) → bytes ≡ drop at line → at ≤ length line → Scans at bytes ts stopped

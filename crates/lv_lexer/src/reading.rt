@@ -1,18 +1,20 @@
 //! What a token says.
 
-ghost use Rattle.std.specs.Prelude.{◌≡◌, ◌+◌, ◌-◌, ◌<◌, ◌≤◌, ◌^◌, ◌==◌, ◌&&◌, length, slice_index, map, All, IfOk, IsUtf8};
+ghost use Rattle.std.specs.Prelude.{◌≡◌, ◌+◌, ◌-◌, ◌<◌, ◌≤◌, ◌^◌, ◌==◌, ◌&&◌, length, slice_index, map, All, IfOk, IfSome, IsUtf8};
 ghost use Rattle.std.specs.List.{list_all};
 ghost use Rattle.std.specs.Char.{to_ascii_lowercase};
 ghost use Rattle.std.specs.Str.{str_to_ascii_lowercase};
 ghost use Rattle.std.specs.Str.Parse.{digits_value};
 ghost use Rattle.lv_lexer.specs.declared.token.TokenKind.TheVariants as sort;
+ghost use Rattle.lv_lexer.specs.Cut.{cut};
 ghost use Rattle.lv_lexer.specs.Scan.{IsTokenOf, Spells};
 ghost use Rattle.lv_lexer.specs.Meaning.{undoubled, unquoted, plain_at, said, sign_of, terminal_of};
 ghost use Rattle.lv_lexer.specs.Signs as spec;
 
 use crate::keywords::keyword_of;
+use crate::scanning::{Next, next_token};
 use crate::signs::sign_at;
-use crate::terminals::{Class, Terminal, Terminals};
+use crate::terminals::{Class, Terminal, TerminalScan, Terminals};
 use crate::token::{Token, TokenKind};
 use lv_values::{Bytes, NoMemory, Text, TextFault};
 use std::alloc::Global;
@@ -192,4 +194,30 @@ pub fn read_tokens(alloc: Global, line: &Text, tokens: &[Token]) -> Result<Termi
         terminals.push(read_token(alloc, line, token)?)?;
     }
     Ok(terminals)
+}
+
+/// What a line has, as a grammar sees it: what its tokens say, up to its end or up to the first piece that is no token.
+/// Cost: linear in the line, in one pass.
+pub fn line_terminals(alloc: Global, line: &Text) -> Result<TerminalScan, NoMemory>
+    requires { length line.now < 2 ^ 32 - 1 }
+    // The tokens are those that the line is cut into.
+    ensures said { IfOk result (λ scan. scan.list ≡ map (terminal_of line.now) (cut line.now).0) }
+    ensures stopped { IfOk result (λ scan. scan.stopped ≡ (cut line.now).1) }
+    ensures small { IfOk result (λ scan. All (λ t. t.number < 10 ^ 38) scan.list) }
+    // The piece that is no token stands in the line.
+    ensures within { IfOk result (λ scan. IfSome scan.stopped (λ stop. stop < length line.now)) }
+{
+    // Most lines have no more tokens than this.
+    let room = line.as_bytes().len() / 3 + 1;
+    let mut list = Terminals::from_vec(Vec::with_capacity(alloc, room)?);
+    let mut at = 0;
+    'each: loop {
+        match next_token(line.as_bytes(), at) {
+            Next::Token(token) => {
+                list.push(read_token(alloc, line, &token)?)?;
+                at = token.end as usize;
+            }
+            Next::End(stopped) => return Ok(TerminalScan { list, stopped }),
+        }
+    }
 }

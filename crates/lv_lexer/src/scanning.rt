@@ -1,7 +1,8 @@
 //! The tokens of a line.
 
-ghost use Rattle.std.specs.Prelude.{◌≡◌, ℕ, ◌-◌, ◌<◌, ◌^◌, List, length, Option, IfOk, All};
+ghost use Rattle.std.specs.Prelude.{◌≡◌, ℕ, ◌-◌, ◌<◌, ◌≤◌, ◌^◌, List, length, Option, IfOk, All};
 ghost use Rattle.lv_lexer.specs.declared.token.Token.{Token};
+ghost use Rattle.lv_lexer.specs.Next.{IsNext};
 ghost use Rattle.lv_lexer.specs.Scan.{Scans, IsTokenOf, AreInOrder, is_over};
 
 use crate::pieces::{blanks_len, piece};
@@ -20,6 +21,35 @@ fn is_over(bytes: &[u8]) -> bool
     }
 }
 
+/// What comes next in a line.
+pub(crate) enum Next {
+    /// A token.
+    Token(Token),
+    /// No token: the line is over, or what stands at this byte is none.
+    End(Option<u32>),
+}
+
+/// What comes next in the line, from this byte on. Cost: linear in the blanks and the token.
+pub(crate) fn next_token(line: &[u8], at: usize) -> Next
+    requires len { length line.now < 2 ^ 32 - 1 }
+    requires at { at ≤ length line.now }
+    ensures { IsNext line.now at result }
+{
+    let start = at + blanks_len(&line[at..]);
+    let rest = &line[start..];
+    if is_over(rest) {
+        return Next::End(None);
+    }
+    match piece(rest) {
+        None => Next::End(Some(start as u32)),
+        Some((kind, len)) => Next::Token(Token {
+            kind,
+            start: start as u32,
+            end: (start + len) as u32,
+        }),
+    }
+}
+
 /// The tokens of the bytes, and the place of the first piece that is none.
 fn scan(alloc: Global, line: &[u8]) -> Result<Scan, NoMemory>
     requires { length line.now < 2 ^ 32 - 1 }
@@ -29,26 +59,13 @@ fn scan(alloc: Global, line: &[u8]) -> Result<Scan, NoMemory>
     let mut list = Tokens::from_vec(Vec::with_capacity(alloc, line.len() / 2 + 1)?);
     let mut at = 0;
     'each: loop {
-        at += blanks_len(&line[at..]);
-        let rest = &line[at..];
-        if is_over(rest) {
-            return Ok(Scan {
-                list,
-                stopped: None,
-            });
+        match next_token(line, at) {
+            Next::Token(token) => {
+                list.push(token)?;
+                at = token.end as usize;
+            }
+            Next::End(stopped) => return Ok(Scan { list, stopped }),
         }
-        let Some((kind, len)) = piece(rest) else {
-            return Ok(Scan {
-                list,
-                stopped: Some(at as u32),
-            });
-        };
-        list.push(Token {
-            kind,
-            start: at as u32,
-            end: (at + len) as u32,
-        })?;
-        at += len;
     }
 }
 

@@ -98,6 +98,15 @@ pub struct Terminal {
 /// Tokens as a grammar sees them, in their order.
 pub type Terminals = Items<Terminal>;
 
+/// What a line has, as a grammar sees it: its tokens up to its end, or up to the first piece that is no token.
+#[derive(Drop)]
+pub struct TerminalScan {
+    /// The tokens.
+    pub list: Terminals,
+    /// Where the piece that is no token begins, counted from 0.
+    pub stopped: Option<u32>,
+}
+
 impl Copying for Terminal {
     fn copy(&self, alloc: Global) -> Result<Self, NoMemory> {
         Ok(Terminal {

@@ -1,13 +1,9 @@
-use Rattle.std.proofs.Common.{◌∙◌, sym}
-use Rattle.lv_lexer.proofs.Lines.{ended, stopped_at}
+use Rattle.std.proofs.Common.{List, [], subst}
+use Rattle.std.proofs.lemmas.List.{append-nil}
+use Rattle.lv_lexer.specs.declared.token.Token.{Token}
+use Rattle.lv_lexer.specs.Scan.{Scans}
 use Rattle.lv_lexer.proofs.scanning.scan.Goals as goal
 
-pub returns-then-is_over : goal.returns-then-is_over
-returns-then-is_over c =
-    ended c.args.line.now c.each.list c.each.at c.blanks_len.result c.each.invariant.behind c.blanks_len.ensures.value
-    (sym c.is_over.ensures ∙ c.if-is_over.true)
-
-pub returns-in_default : goal.returns-in_default
-returns-in_default c =
-    stopped_at c.args.line.now c.each.list c.each.at c.blanks_len.result c.each.invariant.behind c.blanks_len.ensures.value
-    (sym c.is_over.ensures ∙ c.if-is_over.false) (sym c.piece.ensures.value ∙ c.in_default.is)
+pub returns-in-End : goal.returns-in-End
+returns-in-End c =
+    let P : List Token → Type 0 = λ ts. Scans 0 c.args.line.now ts c.in-End.stopped in subst P (append-nil c.each.list) (c.each.invariant.behind [] c.in-End.stopped c.in-End.ensures)
