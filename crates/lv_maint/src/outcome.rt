@@ -67,8 +67,8 @@ impl JobResult {
 /// beside the new rows of the aliases before it and the old rows of those behind it.
 ///
 /// Cost: for each term a join of the changed rows of one alias with the rows of the others; a sort of the tuples that
-/// they give; and for each alias a reference to each of its rows, for those that change two. No row is copied but for
-/// the values that the entries list.
+/// they give; and for each alias a reference to each of its rows, for those that change two but for the last. No row
+/// is copied but for the values that the entries list.
 pub fn compute(alloc: Global, input: JobInput) -> Result<JobResult, NoMemory>
     ensures input { IfOk result (λ r. r.input ≡ input) }
     ensures difference { IfOk result (λ r. r.signed ≡ difference input.def (old_sides input.parts) (new_sides input.parts)) }

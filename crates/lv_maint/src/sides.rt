@@ -3,8 +3,10 @@ ghost use Rattle.std.specs.Prelude.{◌≡◌, ◌<◌, ◌≤◌, ◌+◌, ◌�
 ghost use Rattle.lv_values.specs.declared.value.Value.{Value};
 ghost use Rattle.lv_schema.specs.Jobs.{new_rows, old_sides};
 ghost use Rattle.lv_maint.specs.Inputs.{IsOfTable};
-ghost use Rattle.lv_maint.specs.Terms.{is_row, seen, seen_sides, without};
+ghost use Rattle.lv_join.specs.Ties.{seen};
+ghost use Rattle.lv_maint.specs.Terms.{is_row, seen_sides, without};
 
+use lv_join::references;
 use lv_schema::Part;
 use lv_values::{NoMemory, Row};
 use std::alloc::Global;
@@ -60,15 +62,6 @@ fn add_references<'a>(rows: &'a [Row], refs: &mut Vec<&'a Row>) -> Result<(), No
     Ok(())
 }
 
-/// References to the rows. Cost: one for each row.
-pub(crate) fn references<'a>(alloc: Global, rows: &'a [Row]) -> Result<Vec<&'a Row>, NoMemory>
-    ensures { IfOk result (λ refs. seen refs.items ≡ rows.now) }
-{
-    let mut refs = Vec::with_capacity(alloc, rows.len())?;
-    add_references(rows, &mut refs)?;
-    Ok(refs)
-}
-
 /// References to the rows after the step. Cost: linear in the rows.
 pub(crate) fn new_rows<'a>(alloc: Global, part: &'a Part) -> Result<Vec<&'a Row>, NoMemory>
     requires { IsOfTable part.now }
@@ -83,7 +76,7 @@ pub(crate) fn new_rows<'a>(alloc: Global, part: &'a Part) -> Result<Vec<&'a Row>
 pub(crate) fn old_sides<'a>(alloc: Global, parts: &'a [Part]) -> Result<Vec<Vec<&'a Row>>, NoMemory>
     ensures { IfOk result (λ sides. seen_sides sides.items ≡ old_sides parts.now) }
 {
-    let mut sides = Vec::new(alloc);
+    let mut sides = Vec::with_capacity(alloc, parts.len())?;
     for part in parts {
         sides.push(references(alloc, part.old.as_slice())?)?;
     }

@@ -1,5 +1,5 @@
 use Rattle.std.proofs.Common.{◌≡◌, ◌++◌, take}
-use Rattle.lv_maint.specs.Terms.{seen}
+use Rattle.lv_join.specs.Ties.{seen}
 use Rattle.lv_maint.proofs.sides.add_references.Given as goal
 
 abbrev pub invariant-loop-row : goal.invariant-loop-row

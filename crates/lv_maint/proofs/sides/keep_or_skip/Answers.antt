@@ -1,7 +1,8 @@
 use Rattle.std.proofs.Common.{Bor, List, [], ◌∷◌, ◌++◌, drop, sym, ap, ◌∙◌, append_assoc}
 use Rattle.std.proofs.lemmas.List.{map-append}
 use Rattle.lv_values.specs.declared.value.Value.{Value}
-use Rattle.lv_maint.specs.Terms.{seen, without}
+use Rattle.lv_join.specs.Ties.{seen}
+use Rattle.lv_maint.specs.Terms.{without}
 use Rattle.lv_maint.proofs.Balance.{without_there, without_other}
 use Rattle.lv_maint.proofs.sides.keep_or_skip.Goals as goal
 

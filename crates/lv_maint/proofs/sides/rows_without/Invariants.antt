@@ -1,5 +1,6 @@
 use Rattle.std.proofs.Common.{◌≡◌, ◌≤◌, ◌++◌, drop}
-use Rattle.lv_maint.specs.Terms.{seen, without}
+use Rattle.lv_join.specs.Ties.{seen}
+use Rattle.lv_maint.specs.Terms.{without}
 use Rattle.lv_maint.proofs.sides.rows_without.Given as goal
 
 abbrev pub invariant-loop-row : goal.invariant-loop-row
