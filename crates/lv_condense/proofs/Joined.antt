@@ -15,12 +15,6 @@ use Rattle.lv_condense.specs.Touches.{Alike, ATouch, key_of, touch_cmp, found_in
 abbrev Key : Type 0
 Key = List Value
 
-pub alike_itself : (xs : List ATouch) → Alike xs xs
-alike_itself xs = record { keys = λ k. refl; found = λ k. refl; left = λ k row. refl }
-
-pub alike_through : (xs ys zs : List ATouch) → Alike xs ys → Alike ys zs → Alike xs zs
-alike_through xs ys zs a b = record { keys = λ k. a.keys k ∙ b.keys k; found = λ k. a.found k ∙ b.found k; left = λ k row. a.left k row ∙ b.left k row }
-
 alike_behind : (x : ATouch) (xs ys : List ATouch) → Alike xs ys → Alike (x ∷ xs) (x ∷ ys)
 alike_behind x xs ys a = record {
   keys = λ k. ap (λ b. row_eq k (key_of x) || b) (a.keys k);
