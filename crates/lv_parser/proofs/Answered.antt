@@ -1,8 +1,9 @@
 -- From the answer for all tokens to the answer for a line.
-use Rattle.std.proofs.Common.{◌≡◌, ◌<◌, ℕ, Bool, true, false, List, [], ◌∷◌, ◌⊎◌, inl, inr, Option, Some, None, is_none, is_some, not, IfSome, IfOk, Result, Ok, Err, refl, sym, ◌∙◌, ap, subst}
+use Rattle.std.proofs.Common.{◌≡◌, ℕ, Bool, true, false, List, [], ◌⊎◌, inl, inr, Option, Some, None, is_none, is_some, not, IfOk, Result, Ok, Err, refl, sym, ◌∙◌, ap, subst}
 use Rattle.lv_lexer.specs.declared.token.Token.{Token}
 use Rattle.lv_lexer.specs.declared.terminals.Terminal.{Terminal}
-use Rattle.lv_lexer.specs.Scan.{Scans, AreInOrder}
+use Rattle.lv_lexer.specs.Cut.{cut}
+use Rattle.lv_lexer.specs.Scan.{Scans}
 use Rattle.lv_parser.specs.declared.tree.Stmt.{Stmt}
 use Rattle.lv_parser.specs.declared.stop.ParseFault.{ParseFault}
 use Rattle.lv_parser.specs.declared.stop.ParseFault.TheVariants.{Syntax, NoMemory}
@@ -10,14 +11,17 @@ use Rattle.lv_parser.specs.Fault.{IsAnswer, Stops, byte_of}
 use Rattle.lv_parser.specs.Grammar as rule
 use Rattle.lv_parser.specs.Lines.{ReadsAs, IsFaultAt, said, end_byte}
 use Rattle.lv_parser.proofs.ExactRules.{line_reads}
+use Rattle.lv_lexer.proofs.Cuts.{cut_scans}
 use Rattle.lv_lexer.proofs.Spans.{scans_one}
 use Rattle.lv_parser.proofs.Whole.{one_reading, one_place}
 
--- the piece that is no token stands in the line
-pub stopped_within : (len at : ℕ) (list : List Token) (stopped : Option ℕ) → AreInOrder len at list stopped → IfSome stopped (λ stop. stop < len)
-stopped_within len at [] None h = tt
-stopped_within len at [] (Some stop) h = h.1
-stopped_within len at (t ∷ more) stopped h = stopped_within len t.end more stopped h.2
+-- a line has the tokens that it is cut into
+pub scans_as_cut : (line : List ℕ) (stopped : Option ℕ) → stopped ≡ (cut line).1 → Scans 0 line (cut line).0 stopped
+scans_as_cut line stopped e = let P : Option ℕ → Type 0 = λ s. Scans 0 line (cut line).0 s in subst P (sym e) (cut_scans line)
+
+-- and no others
+pub only_cut : (line : List ℕ) (stopped : Option ℕ) → stopped ≡ (cut line).1 → (list : List Token) (s : Option ℕ) → Scans 0 line list s → ((cut line).0 ≡ list) × (stopped ≡ s)
+only_cut line stopped e list s scan = scans_one 0 line (cut line).0 list stopped s (scans_as_cut line stopped e) scan
 
 -- no piece is no token where the line ends
 pub ends_at : (stopped : Option ℕ) (ends : Bool) → is_some stopped ≡ not ends → ends ≡ is_none stopped

@@ -12,7 +12,7 @@ use crate::cursor::Cursor;
 use crate::statements::line;
 use crate::stop::{ParseFault, Stop};
 use crate::tree::Stmt;
-use lv_lexer::{Terminals, read_tokens, tokens};
+use lv_lexer::{TerminalScan, Terminals, line_terminals};
 use lv_values::Text;
 use std::alloc::Global;
 
@@ -68,8 +68,7 @@ pub fn parse(alloc: Global, line: &Text) -> Result<Stmt, ParseFault>
     // The byte of a syntax fault is where the line stops being a statement.
     ensures byte { (byte : ℕ) → result ≡ Err (ParseFault.Syntax byte) → IsFaultAt line.now byte }
 {
-    let scan = tokens(alloc, line)?;
-    let terminals = read_tokens(alloc, line, scan.list.as_slice())?;
-    let end = end_of(line, scan.stopped);
-    read_all(alloc, terminals, scan.stopped.is_none(), end)
+    let TerminalScan { list, stopped } = line_terminals(alloc, line)?;
+    let end = end_of(line, stopped);
+    read_all(alloc, list, stopped.is_none(), end)
 }
