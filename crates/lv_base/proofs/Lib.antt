@@ -1,4 +1,5 @@
 pub mod Added
+pub mod Begins
 pub mod NetChanges
 pub mod Places
 pub mod Prepared

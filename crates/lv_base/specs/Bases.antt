@@ -40,6 +40,11 @@ net_in nets t = slice_index_or nets t no_net
 abbrev pub kept_of : Kept → TableKept
 kept_of k = record { def = k.def; versions = k.versions; last = k.last; floor = k.floor }
 
+-- the number of the rows of a table's last state is known, and before the first commit it has none
+pub record IsTable (rows : ℕ) (k : Kept) : Type 0 where
+  pub counted : rows ≡ length (shown k.last k.versions)
+  pub begins : shown 0 k.versions ≡ []
+
 abbrev pub base_of : BaseRoom → BaseKept
 base_of b = record { tables = map kept_of b.tables; entries = b.deltas.entries; number = b.number; pruned = b.pruned }
 

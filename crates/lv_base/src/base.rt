@@ -100,6 +100,14 @@ impl Base {
         self.tables[table as usize].versions()
     }
 
+    /// Before the first commit no table has a row: a law, and the call does nothing.
+    pub fn begins_empty(&self, table: u32)
+        requires { table < length self.now.tables }
+        ensures { shown 0 (table_in self.now.tables table).versions ≡ [] }
+    {
+        self.tables[table as usize].begins_empty();
+    }
+
     /// The entries of the commits above the floor of the last clean-up.
     pub fn deltas(&self) -> &Deltas
         ensures deltas { result.now ≡ self.now.deltas }

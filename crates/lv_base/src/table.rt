@@ -11,7 +11,8 @@ use lv_versions::Versions;
 use std::alloc::Global;
 use std::marker::Model;
 
-/// A table's versions, with the number of the rows that its last state has. Contracts see the versions.
+/// A table's versions, with the number of the rows that its last state has. Before the first commit it has no row. Contracts
+/// see the versions.
 #[derive(Drop)]
 pub(crate) struct Table {
     versions: Versions,
@@ -19,15 +20,14 @@ pub(crate) struct Table {
 }
 
 impl Model for Table {
-    ghost use Rattle.std.specs.Prelude.{◌≡◌, length};
-    ghost use Rattle.lv_stands.specs.Kept.{shown};
+    ghost use Rattle.lv_base.specs.Bases.{IsTable};
     ghost use Rattle.lv_versions.specs.Versions.{Kept};
 
     ghost Value = { Kept };
 
     ghost view = { λ t. t.versions };
 
-    ghost invariant = { λ t. t.rows ≡ length (shown t.versions.last t.versions.versions) };
+    ghost invariant = { λ t. IsTable t.rows t.versions };
 }
 
 impl Table {
@@ -60,6 +60,13 @@ impl Table {
     {
         self.versions.newest();
         self.rows
+    }
+
+    /// It has no row before the first commit: a law, and the call does nothing.
+    pub(crate) fn begins_empty(&self)
+        ensures { shown 0 self.now.versions ≡ [] }
+    {
+        let _ = &self.versions;
     }
 
     /// Makes room for `rows` rows. What is kept stays as it was, and the room never shrinks.

@@ -1,4 +1,4 @@
-use Rattle.std.proofs.Common.{◌≡◌, ◌+◌, length, suc, sym, ap, subst, arith}
+use Rattle.std.proofs.Common.{◌≡◌, ◌+◌, length, suc, sym, ap, ◌∙◌, subst, arith}
 use Rattle.lv_stands.specs.Moves.{TableCommits}
 use Rattle.lv_versions.specs.Versions.{Kept}
 use Rattle.lv_base.specs.Bases.{CanTakeNet, kept_of}
@@ -15,15 +15,18 @@ pub overflow_sub-self : goal.overflow_sub-self
 overflow_sub-self c =
     let old = c.self.inside.versions in
     let takes : CanTakeNet c.args.last c.args.net old = subst (CanTakeNet c.args.last c.args.net) (sym c.self.view_is) c.requires.takes in
-    omega (arith, gone_fewer c.args.last c.args.net old takes c.newest.ensures, c.self.invariant, ap length c.as_slice.ensures)
+    omega (arith, gone_fewer c.args.last c.args.net old takes c.newest.ensures, c.self.invariant.counted, ap length c.as_slice.ensures)
 
 pub invariant_of-self : goal.invariant_of-self
 invariant_of-self c =
     let old = c.self.inside.versions in
     let new = c.commit.new.self in
     let takes : CanTakeNet c.args.last c.args.net old = subst (CanTakeNet c.args.last c.args.net) (sym c.self.view_is) c.requires.takes in
-    rows_follow c.args.last c.args.net old takes c.newest.ensures c.self.inside.rows (length c.as_slice.result.now) (length c.as_slice-2.result.now) new.last new c.self.invariant
-    (ap length c.as_slice.ensures) (ap length c.as_slice-2.ensures) (c.commit.ensures.state new.last (omega (arith, c.commit.ensures.last)))
+    record {
+      counted = rows_follow c.args.last c.args.net old takes c.newest.ensures c.self.inside.rows (length c.as_slice.result.now) (length c.as_slice-2.result.now) new.last new c.self.invariant.counted
+          (ap length c.as_slice.ensures) (ap length c.as_slice-2.ensures) (c.commit.ensures.state new.last (omega (arith, c.commit.ensures.last)));
+      begins = c.commit.ensures.before 0 (omega arith) ∙ c.self.invariant.begins;
+    }
 
 pub returns-clause-commits : goal.returns-clause-commits
 returns-clause-commits c =
