@@ -45,7 +45,7 @@ module _ (b : BaseRoom) (view : ViewDef) (lo hi : ℕ) where
   within_own : (views : List ViewDef) → FitOver (defs_of b) views view whole → AreWithin (length view.tables) own_links
   within_own views fit = subst (λ n. AreWithin n own_links) (as_many_columns b view.tables) (links_within (alias_columns (defs_of b) view.tables) view.cond fit.bound.bound_cond)
 
-  within_view : (views : List ViewDef) → FitOver (defs_of b) views view whole → AreWithin (length whole) own_links
+  pub within_view : (views : List ViewDef) → FitOver (defs_of b) views view whole → AreWithin (length whole) own_links
   within_view views fit = subst (λ n. AreWithin n own_links) (sym (as_many_parts b lo hi view.tables)) (within_own views fit)
 
   -- ---- what was found of the tables and links

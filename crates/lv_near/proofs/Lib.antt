@@ -4,3 +4,5 @@ pub mod Parts
 pub mod Inputs
 pub mod LinkIndexes
 pub mod Alone
+pub mod FarTold
+pub mod EmptyBefore

@@ -33,11 +33,11 @@ use Rattle.lv_reach.proofs.Gathering.{among as alias_among}
 use Rattle.lv_near.specs.Small.{IsSplit, change_in, old_at, table_at_commit, whole_parts}
 use Rattle.lv_near.proofs.Picked.{any_filter}
 
-first_there : (a b : Bool) → a ≡ true → (a || b) ≡ true
+pub first_there : (a b : Bool) → a ≡ true → (a || b) ≡ true
 first_there true b h = refl
 first_there false b h = cc
 
-second_there : (a b : Bool) → b ≡ true → (a || b) ≡ true
+pub second_there : (a b : Bool) → b ≡ true → (a || b) ≡ true
 second_there true b h = refl
 second_there false b h = h
 

@@ -1,6 +1,6 @@
 -- What a step of a view is computed from, told from the committed states as they are kept.
 use Rattle.std.specs.Prelude.{◌≡◌, ℕ, ◌≤◌, ◌==◌, ◌&&◌, ◌||◌, Bool, true, cond, nat_lt, List, [], ◌∷◌, map, length, drop, slice_index_or}
-use Rattle.std.specs.List.{list_all}
+use Rattle.std.specs.List.{AllByRecursion, list_all}
 use Rattle.std.specs.Ordering.{is_lt}
 use Rattle.std.specs.declared.cmp.Ordering.TheVariants.{Equal}
 use Rattle.lv_values.specs.declared.value.Value.{Value}
@@ -35,6 +35,10 @@ whole_parts b tables lo hi = map (part_in (defs_of b) (base_of b) lo hi) tables
 
 abbrev pub change_in : BaseRoom → ℕ → ℕ → ℕ → Part
 change_in b lo hi t = let p = part_in (defs_of b) (base_of b) lo hi t in record { old = []; minus = p.minus; plus = p.plus }
+
+-- none of these tables has a row at a commit
+abbrev pub AreEmptyAt : BaseRoom → ℕ → List ℕ → Type 0
+AreEmptyAt b lo tables = AllByRecursion (λ t. table_at_commit b lo t ≡ []) tables
 
 -- a change with those rows before it alone that go
 abbrev pub with_lost : Part → Part

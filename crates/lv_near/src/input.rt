@@ -9,7 +9,7 @@ ghost use Rattle.lv_reach.specs.declared.rows.AliasRow.{AliasRow as ARowOf};
 ghost use Rattle.lv_reach.specs.Cost.{IsReach, cost, whole_from};
 ghost use Rattle.lv_reach.specs.Links.{links_of};
 ghost use Rattle.lv_reach.specs.Reach.{IsReachOf, cut, kept_by};
-ghost use Rattle.lv_near.specs.Small.{CanRead, IsSmallInput, IsSplit, change_in, table_at_commit, whole_parts, with_lost};
+ghost use Rattle.lv_near.specs.Small.{AreEmptyAt, CanRead, IsSmallInput, IsSplit, change_in, table_at_commit, whole_parts, with_lost};
 
 use crate::changes::changes_between;
 use crate::picking::old_of;
@@ -57,8 +57,8 @@ fn small_parts<L: Ledger>(
     Ok(small)
 }
 
-/// The parts of a step of a view of one alias: of the old rows those alone that go. No link leads from an alias to itself,
-/// so that no other old row is near.
+/// The parts of a step of a view of one alias, or over tables that are empty before it: of the old rows those alone that
+/// go. No link leads from an alias to itself, and an empty table has no row, so that no other old row is near.
 fn alone_parts(alloc: Global, changes: Parts) -> Result<Parts, NoMemory>
     ensures { IfOk result (λ parts. parts ≡ map with_lost changes) }
 {
@@ -68,6 +68,18 @@ fn alone_parts(alloc: Global, changes: Parts) -> Result<Parts, NoMemory>
         parts.push(with_old(change, old))?;
     }
     Ok(parts)
+}
+
+/// Before the first commit no table has a row: a law, and the call reads none.
+#[tactic(auto, using(crate::proofs::EmptyBefore::empty_more))]
+fn begin_empty(at: &TablesBetween<'_>)
+    requires can { CanRead at.now.base.now at.now.tables.now at.now.lo }
+    requires first { at.now.lo ≡ 0 }
+    ensures { AreEmptyAt at.now.base.now at.now.lo at.now.tables.now }
+{
+    for table in at.tables {
+        at.base.begins_empty(*table);
+    }
 }
 
 /// The parts of a step of a view, cut to the reach of the change: with the near old rows alone, or all of a far alias.
@@ -88,6 +100,10 @@ fn step_parts<L: Ledger>(
     if at.tables.len() == 1 {
         return alone_parts(alloc, changes);
     }
+    if at.lo == 0 {
+        begin_empty(at);
+        return alone_parts(alloc, changes);
+    }
     let links = links(alloc, def)?;
     let reach = reach_of(alloc, links.as_slice(), changes.as_slice(), at, steps)?;
     small_parts(alloc, at, changes, &reach, steps)
@@ -97,7 +113,7 @@ fn step_parts<L: Ledger>(
 /// alias, and of the old rows those that are near, or all of a far alias. The difference of the view over them is that
 /// over whole tables. Cost: the condensing of the entries between the commits for each alias, and where there is more than
 /// one alias that of the reach, which looks each distinct value up once; it ticks at most as often as the step costs, so by
-/// what changed, unless an alias is far.
+/// what changed, unless an alias is far. A step from before the first commit has no reach, since no table had a row there.
 pub fn step_input<L: Ledger>(
     alloc: Global,
     base: &Base,
