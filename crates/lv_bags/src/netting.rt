@@ -14,12 +14,13 @@ use lv_schema::{Signed, SignedRow};
 use lv_values::{NoMemory, Row};
 use std::alloc::Global;
 
-/// Puts entries in the order of their rows. It takes no memory. Cost: n log n comparisons.
-fn sort_by_row(list: &mut Vec<SignedRow>)
+/// Puts entries in the order of their rows. Cost: n log n comparisons, for few runs that ascend about n.
+fn sort_by_row(list: &mut Vec<SignedRow>) -> Result<(), NoMemory>
     ensures moved { IsPermutation list.old.items list.new.items }
-    ensures sorted { IsSortedByKey (λ s. s.row) row_cmp list.new.items }
+    ensures sorted { OnOk result (IsSortedByKey (λ s. s.row) row_cmp list.new.items) }
 {
-    list.sort_unstable_by(|a, b| a.row.cmp(&b.row));
+    list.sort_by(|a, b| a.row.cmp(&b.row))?;
+    Ok(())
 }
 
 /// Whether there is a last entry, and it is of this row.
@@ -82,15 +83,15 @@ fn keep_changes(list: &mut Vec<SignedRow>)
 }
 
 /// For each row the sum of its counts and of its signed sums, modulo 2 ^ 128: each row once, in ascending order, and
-/// none whose numbers are all 0. Cost: a sort of the entries where they lie, n log n comparisons for n entries, and one
-/// pass. No row is copied.
+/// none whose numbers are all 0. Cost: a sort of the entries, n log n comparisons for n entries, and about n where they come
+/// in few runs that ascend; and one pass. No row is copied.
 pub fn net(alloc: Global, signed: Signed) -> Result<Signed, NoMemory>
     requires counts { CountsFit signed }
     requires sums { HaveSums (width signed) signed }
     ensures { IfOk result (λ list. list ≡ netted (width signed) signed) }
 {
     let mut entries = signed.into_vec();
-    sort_by_row(&mut entries);
+    sort_by_row(&mut entries)?;
     let mut out = tally(alloc, entries)?;
     keep_changes(&mut out);
     Ok(Signed::from_vec(out))

@@ -9,4 +9,4 @@ use Rattle.lv_bags.proofs.netting.sort_by_row.Goals as goal
 
 pub returns-clause-sorted : goal.returns-clause-sorted
 returns-clause-sorted c =
-    c.sort_unstable_by.ensures.sorted (λ (x y : SignedRow). is_lt (row_cmp x.row y.row)) (ranks_by row_total (λ (s : SignedRow). s.row)) (always_returns_same _ _ _ (λ a r f k. search rules))
+    c.in_ok-sort_by.ensures.sorted (λ (x y : SignedRow). is_lt (row_cmp x.row y.row)) (ranks_by row_total (λ (s : SignedRow). s.row)) (always_returns_same _ _ _ (λ a r f k. search rules))
