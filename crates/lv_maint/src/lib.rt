@@ -9,3 +9,4 @@ mod summing;
 
 pub use input::JobInput;
 pub use outcome::{JobResult, compute};
+pub use summing::difference;

@@ -124,10 +124,13 @@ module _ (b : BaseRoom) (view : ViewDef) (lo hi : ℕ) where
       reach = subst (IsReachOf own_links whole) (sym (ap (λ (x : Input). x.parts) is)) reach;
     }
 
-    pub same_told : (input : Input) (def : ViewDef) → input ≡ record { def = def; lo = lo; hi = hi; parts = small } → difference view (old_sides input.parts) (new_sides input.parts) ≡ difference view (old_sides whole) (new_sides whole)
-    same_told input def is =
-        ap (λ (ps : List Part). difference view (old_sides ps) (new_sides ps)) (ap (λ (x : Input). x.parts) is ∙ reach.cut_is)
+    pub parts_told : difference view (old_sides small) (new_sides small) ≡ difference view (old_sides whole) (new_sides whole)
+    parts_told =
+        ap (λ (ps : List Part). difference view (old_sides ps) (new_sides ps)) reach.cut_is
         ∙ reach_gives view whole reach.keep (within_view views fit) reach.keeps
+
+    pub same_told : (input : Input) (def : ViewDef) → input ≡ record { def = def; lo = lo; hi = hi; parts = small } → difference view (old_sides input.parts) (new_sides input.parts) ≡ difference view (old_sides whole) (new_sides whole)
+    same_told input def is = ap (λ (x : Input). difference view (old_sides x.parts) (new_sides x.parts)) is ∙ parts_told
 
 -- a bound that holds where a call goes well and where it fails
 pub either_way : {T E : Type 0} (r : Result T E) (m n : ℕ) → OnOk r (m ≡ n) → OnErr r (m ≤ n) → m ≤ n

@@ -15,9 +15,9 @@ use crate::changes::changes_between;
 use crate::picking::old_of;
 use crate::source::TablesBetween;
 use lv_base::Base;
-use lv_maint::JobInput;
+use lv_maint::{JobInput, difference};
 use lv_reach::{Reach, links, reach_of};
-use lv_schema::{Part, Parts, ViewDef};
+use lv_schema::{Part, Parts, Signed, ViewDef};
 use lv_values::{Copying, NoMemory, Rows, Steps};
 use std::alloc::Global;
 use std::sync::ledger::Ledger;
@@ -137,4 +137,31 @@ pub fn step_input<L: Ledger>(
     };
     let parts = step_parts(alloc, &at, def, steps)?;
     Ok(JobInput::new(def.copy(alloc)?, lo, hi, parts))
+}
+
+/// What becomes of the rows or groups of a view by the step from one commit to another: the difference over the input that
+/// `step_input` gives, where nobody needs that input. Cost: as of `step_input`, without a copy of the view, and that of
+/// the difference; it ticks as often.
+pub fn step_difference<L: Ledger>(
+    alloc: Global,
+    base: &Base,
+    def: &ViewDef,
+    lo: u64,
+    hi: u64,
+    steps: &mut Steps<L>,
+) -> Result<Signed, NoMemory>
+    requires can { CanRead base.now def.now.tables lo }
+    requires fit { (views : List AViewDef) × FitOver (defs_of base.now) views def.now (whole_parts base.now def.now.tables lo hi) }
+    ensures changes { IfOk result (λ changes. changes ≡ difference def.now (old_sides (whole_parts base.now def.now.tables lo hi)) (new_sides (whole_parts base.now def.now.tables lo hi))) }
+    ensures most { (near : List ARowOf) (far : ℕ → Bool) → IsReach (links_of def.now.cond) (whole_parts base.now def.now.tables lo hi) near far
+        → steps.new ≤ steps.old + cost (links_of def.now.cond) (whole_parts base.now def.now.tables lo hi) near far }
+{
+    let at = TablesBetween {
+        base,
+        tables: def.tables.as_slice(),
+        lo,
+        hi,
+    };
+    let parts = step_parts(alloc, &at, def, steps)?;
+    difference(alloc, def, parts.as_slice())
 }

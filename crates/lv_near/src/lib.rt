@@ -9,5 +9,5 @@ mod orders;
 mod picking;
 mod source;
 
-pub use input::step_input;
+pub use input::{step_difference, step_input};
 pub use orders::index_links;

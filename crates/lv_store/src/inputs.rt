@@ -2,13 +2,13 @@
 ghost use Rattle.std.specs.Prelude.{◌≡◌, ◌≤◌, ◌+◌, ℕ, IfOk};
 ghost use Rattle.std.specs.List.{AllByRecursion, AllZip};
 ghost use Rattle.lv_store.specs.Inputs.{AreCosts};
-ghost use Rattle.lv_store.specs.Querying.{CanCompute, IsCostIn, IsInputIn};
+ghost use Rattle.lv_store.specs.Querying.{CanCompute, IsCostIn, IsInputIn, changes_in};
 ghost use Rattle.lv_store.specs.Kept.{IsStore};
 
 use crate::store::Store;
 use lv_maint::JobInput;
-use lv_near::step_input;
-use lv_schema::Forced;
+use lv_near::{step_difference, step_input};
+use lv_schema::{Forced, Signed};
 use lv_values::{Items, NoMemory, Steps};
 use std::alloc::Global;
 use std::sync::ledger::Ledger;
@@ -30,6 +30,23 @@ impl Store {
     {
         let def = self.schema.view(step.view);
         step_input(alloc, &self.base, def, step.lo, step.hi, steps)
+    }
+
+    /// The difference that a step gives, computed. Cost: that of the step's input, without a copy of the view, and of the
+    /// difference.
+    pub(crate) fn difference<L: Ledger>(
+        &self,
+        alloc: Global,
+        step: Forced,
+        steps: &mut Steps<L>,
+    ) -> Result<Signed, NoMemory>
+        requires whole { IsStore self.now }
+        requires can { CanCompute self.now step }
+        ensures changes { IfOk result (λ changes. changes ≡ changes_in self.now step) }
+        ensures most { (n : ℕ) → IsCostIn self.now step n → steps.new ≤ steps.old + n }
+    {
+        let def = self.schema.view(step.view);
+        step_difference(alloc, &self.base, def, step.lo, step.hi, steps)
     }
 
     /// What each of these steps is computed from.

@@ -17,13 +17,11 @@ use std::alloc::Global;
 use std::sync::ledger::Ledger;
 
 /// The difference that a step gives: an offer for its very input has it, or else it is computed.
-fn changes_of(alloc: Global, input: JobInput, offer: Option<JobResult>) -> Result<Signed, NoMemory>
+fn changes_of(alloc: Global, input: JobInput, offer: JobResult) -> Result<Signed, NoMemory>
     ensures { IfOk result (λ changes. changes ≡ difference input.def (old_sides input.parts) (new_sides input.parts)) }
 {
-    if let Some(offer) = offer {
-        if offer.input().equals(&input) {
-            return Ok(offer.into_inner().1);
-        }
+    if offer.input().equals(&input) {
+        return Ok(offer.into_inner().1);
     }
     Ok(compute(alloc, input)?.into_inner().1)
 }
@@ -72,6 +70,9 @@ impl Store {
         ensures changes { IfOk result (λ changes. changes ≡ changes_in self.now step) }
         ensures most { (n : ℕ) → IsCostIn self.now step n → steps.new ≤ steps.old + n }
     {
+        let Some(offer) = offer else {
+            return self.difference(alloc, step, steps);
+        };
         let input = self.input(alloc, step, steps)?;
         changes_of(alloc, input, offer)
     }

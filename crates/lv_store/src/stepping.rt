@@ -7,7 +7,7 @@ ghost use Rattle.lv_maint.specs.Inputs.{Outcome};
 ghost use Rattle.lv_schema.specs.Jobs.{new_sides, old_sides};
 ghost use Rattle.lv_store.specs.Inputs.{AreCosts};
 ghost use Rattle.lv_store.specs.Pending.{ArePending, difference_in, with_difference};
-ghost use Rattle.lv_store.specs.Querying.{CanCompute, IsCostIn, upkeep_after};
+ghost use Rattle.lv_store.specs.Querying.{CanCompute, IsCostIn, changes_in, upkeep_after};
 ghost use Rattle.lv_store.specs.Kept.{IsStore};
 
 use crate::pending::{Difference, Pending, add_difference, none_pending};
@@ -50,6 +50,27 @@ fn changes_of(
 }
 
 impl Store {
+    /// The difference that a step gives: an offer for its very input has it, or else it is computed. Cost: that of the step's
+    /// input, and of the difference where it is computed.
+    fn changes<L: Ledger>(
+        &self,
+        alloc: Global,
+        step: Forced,
+        offers: &mut Items<JobResult>,
+        steps: &mut Steps<L>,
+    ) -> Result<Signed, NoMemory>
+        requires whole { IsStore self.now }
+        requires can { CanCompute self.now step }
+        ensures changes { IfOk result (λ changes. changes ≡ changes_in self.now step) }
+        ensures most { (n : ℕ) → IsCostIn self.now step n → steps.new ≤ steps.old + n }
+    {
+        if offers.is_empty() {
+            return self.difference(alloc, step, steps);
+        }
+        let input = self.input(alloc, step, steps)?;
+        changes_of(alloc, input, offers)
+    }
+
     /// Puts the difference that a step gives behind the others of its view. Cost: that of the step's input, and of the
     /// difference where it is computed.
     fn add_step_difference<L: Ledger>(
@@ -66,8 +87,7 @@ impl Store {
         ensures added { OnOk result (pending.new ≡ with_difference step.view (difference_in self.now step) pending.old) }
         ensures most { (n : ℕ) → IsCostIn self.now step n → steps.new ≤ steps.old + n }
     {
-        let input = self.input(alloc, step, steps)?;
-        let changes = changes_of(alloc, input, offers)?;
+        let changes = self.changes(alloc, step, offers, steps)?;
         let difference = Difference {
             hi: step.hi,
             changes,
