@@ -207,8 +207,8 @@ pub fn line_terminals(alloc: Global, line: &Text) -> Result<TerminalScan, NoMemo
     // The piece that is no token stands in the line.
     ensures within { IfOk result (λ scan. IfSome scan.stopped (λ stop. stop < length line.now)) }
 {
-    // Most lines have no more tokens than this.
-    let room = line.as_bytes().len() / 3 + 1;
+    // Most lines have no more tokens than two for each seven bytes.
+    let room = line.as_bytes().len() * 2 / 7 + 1;
     let mut list = Terminals::from_vec(Vec::with_capacity(alloc, room)?);
     let mut at = 0;
     'each: loop {

@@ -20,7 +20,7 @@ use Rattle.lv_reach.specs.Cost.{IsReach, cost}
 use Rattle.lv_reach.specs.Links.{links_of}
 use Rattle.lv_store.specs.declared.store.Store.{Store}
 use Rattle.lv_store.specs.Inputs.{AreCosts}
-use Rattle.lv_store.specs.Querying.{CanCompute, IsCostIn, IsInputIn, parts_in}
+use Rattle.lv_store.specs.Querying.{CanCompute, IsCostIn, IsInputIn, changes_in, parts_in}
 
 as_many_defs : (tables : List Kept) → length (map (λ (k : Kept). k.def) tables) ≡ length tables
 as_many_defs [] = refl
@@ -46,6 +46,9 @@ module _ (p : Store) (f : Forced) (can : CanCompute p f) (def : ViewDef) (is : d
         (subst (λ (d : ViewDef). FitOver p.schema.tables can.views d (parts_in p f)) (sym is) can.fit)),
   )
 
+  pub difference_told : difference def (old_sides (whole_parts p.base def.tables f.lo f.hi)) (new_sides (whole_parts p.base def.tables f.lo f.hi)) ≡ changes_in p f
+  difference_told = λ i. difference (is i) (old_sides (whole_are i)) (new_sides (whole_are i))
+
   pub input_is : (input : Input) → IsSmallInput def f.lo f.hi (whole_parts p.base def.tables f.lo f.hi) input
       → difference def (old_sides input.parts) (new_sides input.parts) ≡ difference def (old_sides (whole_parts p.base def.tables f.lo f.hi)) (new_sides (whole_parts p.base def.tables f.lo f.hi))
       → IsInputIn p f input
@@ -55,7 +58,7 @@ module _ (p : Store) (f : Forced) (can : CanCompute p f) (def : ViewDef) (is : d
         (subst (λ (d : ViewDef). IsSmallInput d f.lo f.hi (whole_parts p.base def.tables f.lo f.hi) input) is small);
     difference_is =
         ap (λ (d : ViewDef). difference d (old_sides input.parts) (new_sides input.parts)) small.def_is ∙ same
-        ∙ (λ i. difference (is i) (old_sides (whole_are i)) (new_sides (whole_are i)));
+        ∙ difference_told;
   }
 
   module _ (n : ℕ) (c : IsCostIn p f n) where
