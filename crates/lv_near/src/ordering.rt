@@ -1,5 +1,5 @@
 //! Rows in the order of their keys, each once.
-ghost use Rattle.std.specs.Prelude.{◌≡◌, List, IfOk};
+ghost use Rattle.std.specs.Prelude.{◌≡◌, List, IfOk, OnOk};
 ghost use Rattle.std.specs.List.Sorted.{IsPermutation, IsSortedByKey};
 ghost use Rattle.lv_values.specs.declared.value.Value.{Value as AValue};
 ghost use Rattle.lv_values.specs.Order.{row_cmp};
@@ -11,12 +11,14 @@ ghost use Rattle.lv_near.specs.Small.{HaveOwnKeys, is_above};
 use lv_values::{NoMemory, Row, Rows, compare_keys};
 use std::alloc::Global;
 
-/// Puts rows in the order of their keys. It takes no memory. Cost: n log n comparisons.
-fn sort_by_key(key: &[u8], rows: &mut Vec<Row>)
+/// Puts rows in the order of their keys. Cost: about n comparisons where they come in few runs that ascend, else
+/// n log n.
+fn sort_by_key(key: &[u8], rows: &mut Vec<Row>) -> Result<(), NoMemory>
     ensures moved { IsPermutation rows.old.items rows.new.items }
-    ensures sorted { IsSortedByKey (values_at key.now) row_cmp rows.new.items }
+    ensures sorted { OnOk result (IsSortedByKey (values_at key.now) row_cmp rows.new.items) }
 {
-    rows.sort_unstable_by(|a, b| compare_keys(key, a, b));
+    rows.sort_by(|a, b| compare_keys(key, a, b))?;
+    Ok(())
 }
 
 /// Whether the key of a row is above that of the last of these, if there is one.
@@ -37,7 +39,7 @@ fn each_once(alloc: Global, key: &[u8], sorted: Vec<Row>) -> Result<Rows, NoMemo
     ensures up { IfOk result (λ out. Ascends (key_cmp key.now) out) }
     ensures same { IfOk result (λ out. (q : List AValue) → has_row q out ≡ has_row q sorted.items) }
 {
-    let mut out = Rows::new(alloc);
+    let mut out = Rows::from_vec(Vec::with_capacity(alloc, sorted.len())?);
     for row in sorted {
         if is_above(key, out.as_slice(), &row) {
             out.push(row)?;
@@ -46,14 +48,14 @@ fn each_once(alloc: Global, key: &[u8], sorted: Vec<Row>) -> Result<Rows, NoMemo
     Ok(out)
 }
 
-/// The rows in the order of their keys, each once, of rows no two others of which have the same key. Cost: n log n
-/// comparisons.
+/// The rows in the order of their keys, each once, of rows no two others of which have the same key. Cost: about n
+/// comparisons where they come in few runs that ascend, else n log n.
 pub(crate) fn in_key_order(alloc: Global, key: &[u8], rows: Rows) -> Result<Rows, NoMemory>
     requires { HaveOwnKeys key.now rows }
     ensures up { IfOk result (λ out. Ascends (key_cmp key.now) out) }
     ensures same { IfOk result (λ out. (q : List AValue) → has_row q out ≡ has_row q rows) }
 {
     let mut sorted = rows.into_vec();
-    sort_by_key(key, &mut sorted);
+    sort_by_key(key, &mut sorted)?;
     each_once(alloc, key, sorted)
 }

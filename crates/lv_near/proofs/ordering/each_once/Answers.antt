@@ -4,8 +4,8 @@ use Rattle.lv_near.specs.Small.{is_above}
 use Rattle.lv_near.proofs.Ordered.{Climbs, climbs_from_sorted, none_above, rises_more, rises_same}
 use Rattle.lv_near.proofs.ordering.each_once.Goals as goal
 
-pub loop-row-preserved-in-Continue-1 : goal.loop-row-preserved-in-Continue-1
-loop-row-preserved-in-Continue-1 c =
+pub loop-row-preserved-in_ok-push : goal.loop-row-preserved-in_ok-push
+loop-row-preserved-in_ok-push c =
     let key = c.args.key.now in
     let all : c.loop-row.yielded ++ c.in-Some.row ∷ c.next.new.self.rest.items ≡ c.args.sorted.items = ap (λ l. c.loop-row.yielded ++ l) (sym c.in-Some.ensures.steps.0) ∙ c.loop-row.invariant.all in
     let climbs = subst (Climbs key) (sym all) (climbs_from_sorted key c.args.sorted.items c.requires.sorted) in

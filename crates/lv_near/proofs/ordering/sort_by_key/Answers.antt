@@ -10,4 +10,4 @@ use Rattle.lv_near.proofs.ordering.sort_by_key.Goals as goal
 
 pub returns-clause-sorted : goal.returns-clause-sorted
 returns-clause-sorted c =
-    c.sort_unstable_by.ensures.sorted (λ (x y : ARow). is_lt (row_cmp (values_at c.args.key.now x) (values_at c.args.key.now y))) (ranks_by row_total (values_at c.args.key.now)) (always_returns_same _ _ _ (λ a r f k. search rules))
+    c.in_ok-sort_by.ensures.sorted (λ (x y : ARow). is_lt (row_cmp (values_at c.args.key.now x) (values_at c.args.key.now y))) (ranks_by row_total (values_at c.args.key.now)) (always_returns_same _ _ _ (λ a r f k. search rules))
