@@ -10,3 +10,4 @@ pub mod Asking
 pub mod Walking
 pub mod Costing
 pub mod Questioning
+pub mod FoundLaws

@@ -4,3 +4,4 @@ pub mod Cost
 pub mod Far
 pub mod Walk
 pub mod Questions
+pub mod Found

@@ -4,6 +4,7 @@
 mod asked;
 mod changed;
 mod far;
+mod found;
 mod laws;
 mod link;
 mod near;

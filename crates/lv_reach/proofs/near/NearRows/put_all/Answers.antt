@@ -6,5 +6,5 @@ use Rattle.lv_reach.proofs.near.NearRows.put_all.Goals as goal
 pub loop-row-preserved : goal.loop-row-preserved
 loop-row-preserved c = (
   append_assoc c.loop-row.yielded (c.in-Some.row ∷ []) c.next.new.self.rest.items ∙ ap (λ l. c.loop-row.yielded ++ l) (sym c.in-Some.ensures.steps.0) ∙ c.loop-row.invariant.0,
-  c.in_ok-put.ensures.put ∙ ap (put_behind c.in-Some.row) c.loop-row.invariant.1 ∙ sym (put_last c.loop-row.yielded c.in-Some.row c.args.self.now),
+  c.in_ok-put.ensures.put ∙ ap (put_behind c.in-Some.row) c.loop-row.invariant.1 ∙ sym (put_last c.loop-row.yielded c.in-Some.row c.reserve.new.self),
 )
