@@ -30,7 +30,8 @@ use Rattle.lv_reach.specs.declared.rows.AliasRow.{AliasRow}
 use Rattle.lv_reach.specs.Cost.{AreFound, IsReach, whole_from}
 use Rattle.lv_reach.specs.Reach.{alike, cut, cut_from, cut_part, has_alias_row, is_changed, IsFar, IsNear, IsReachOf, kept_by, KeepsReach, of_alias, part_at, with_old, with_old_from}
 use Rattle.lv_reach.proofs.Gathering.{among as alias_among}
-use Rattle.lv_near.specs.Small.{IsSplit, change_in, old_at, table_at_commit, whole_parts}
+use Rattle.lv_reach.specs.Found.{rows_of_alias, with_found, with_more}
+use Rattle.lv_near.specs.Small.{IsSplit, change_in, old_at, table_at_commit, whole_parts, with_lost}
 use Rattle.lv_near.proofs.Picked.{any_filter}
 
 pub first_there : (a b : Bool) → a ≡ true → (a || b) ≡ true
@@ -238,21 +239,27 @@ fit_cut tables views def parts small keep fit changed is = (
   ),
 )
 
--- ---- a loop over the changes
-pub change_at : (b : BaseRoom) (lo hi : ℕ) (seen : List Part) (change : Part) (rest : List Part) (tables : List ℕ) (alias : ℕ) → alias ≡ length seen → seen ++ change ∷ rest ≡ map (change_in b lo hi) tables
-    → (t : ℕ) × (slice_get tables alias ≡ Some t) × (change ≡ change_in b lo hi t)
-change_at b lo hi [] change rest [] alias e h = cc
-change_at b lo hi [] change rest (t ∷ tables) zero e h = (t, refl, first h)
+-- ---- a loop over the changes with the near rows
+pub near_at : (b : BaseRoom) (lo hi i : ℕ) (found : List AliasRow) (seen : List Part) (one : Part) (rest : List Part) (tables : List ℕ) (at alias : ℕ) → at ≡ length seen → alias ≡ i + at
+    → seen ++ one ∷ rest ≡ with_found i (map with_lost (map (change_in b lo hi) tables)) found
+    → (t : ℕ) × (slice_get tables at ≡ Some t) × (one ≡ with_more (with_lost (change_in b lo hi t)) (rows_of_alias alias found))
+near_at b lo hi i found [] one rest [] at alias e n h = cc
+near_at b lo hi i found [] one rest (t ∷ tables) zero alias e n h = (t, refl, first h ∙ ap (λ k. with_more (with_lost (change_in b lo hi t)) (rows_of_alias k found)) (omega (arith, n)))
   where
-    first : change ∷ rest ≡ change_in b lo hi t ∷ map (change_in b lo hi) tables → change ≡ change_in b lo hi t
+    first : one ∷ rest ≡ with_more (with_lost (change_in b lo hi t)) (rows_of_alias i found) ∷ with_found (suc i) (map with_lost (map (change_in b lo hi) tables)) found → one ≡ with_more (with_lost (change_in b lo hi t)) (rows_of_alias i found)
     first h = cc
-change_at b lo hi [] change rest (t ∷ tables) (suc alias) e h = absurd (let none = e in omega (arith, none))
-change_at b lo hi (p ∷ seen) change rest [] alias e h = cc
-change_at b lo hi (p ∷ seen) change rest (t ∷ tables) zero e h = absurd (let none = e in omega (arith, none))
-change_at b lo hi (p ∷ seen) change rest (t ∷ tables) (suc alias) e h = change_at b lo hi seen change rest tables alias (omega (arith, e)) (others h)
+near_at b lo hi i found [] one rest (t ∷ tables) (suc at) alias e n h = absurd (let none = e in omega (arith, none))
+near_at b lo hi i found (p ∷ seen) one rest [] at alias e n h = cc
+near_at b lo hi i found (p ∷ seen) one rest (t ∷ tables) zero alias e n h = absurd (let none = e in omega (arith, none))
+near_at b lo hi i found (p ∷ seen) one rest (t ∷ tables) (suc at) alias e n h = near_at b lo hi (suc i) found seen one rest tables at alias (omega (arith, e)) (omega (arith, n)) (others h)
   where
-    others : p ∷ (seen ++ change ∷ rest) ≡ change_in b lo hi t ∷ map (change_in b lo hi) tables → seen ++ change ∷ rest ≡ map (change_in b lo hi) tables
+    others : p ∷ (seen ++ one ∷ rest) ≡ with_more (with_lost (change_in b lo hi t)) (rows_of_alias i found) ∷ with_found (suc i) (map with_lost (map (change_in b lo hi) tables)) found
+        → seen ++ one ∷ rest ≡ with_found (suc i) (map with_lost (map (change_in b lo hi) tables)) found
     others h = cc
+
+pub as_many_near : (b : BaseRoom) (lo hi i : ℕ) (found : List AliasRow) (tables : List ℕ) → length (with_found i (map with_lost (map (change_in b lo hi) tables)) found) ≡ length tables
+as_many_near b lo hi i found [] = refl
+as_many_near b lo hi i found (t ∷ tables) = omega (arith, as_many_near b lo hi (suc i) found tables)
 
 pub at_of : (tables : List ℕ) (alias t d : ℕ) → slice_get tables alias ≡ Some t → get_or tables alias d ≡ t
 at_of [] alias t d h = cc

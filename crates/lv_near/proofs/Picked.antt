@@ -1,9 +1,7 @@
 -- The old rows of an alias that are near, picked from those that go and those that were found.
-use Rattle.std.proofs.Common.{◌≡◌, ℕ, zero, suc, ◌+◌, ◌<◌, ◌≤◌, Bool, true, false, cond, ◌&&◌, ◌||◌, ◌==◌, List, [], ◌∷◌, ◌++◌, length, drop, get_or, refl, sym, ap, ◌∙◌, append_assoc, arith}
-use Rattle.std.proofs.lemmas.List.{drop_more}
+use Rattle.std.proofs.Common.{◌≡◌, ℕ, Bool, true, false, cond, ◌&&◌, ◌||◌, ◌==◌, List, [], ◌∷◌, ◌++◌, drop, get_or, refl, sym, ap, ◌∙◌}
 use Rattle.std.proofs.lemmas.List.Folds.{list_any-append}
 use Rattle.std.specs.List.{filter}
-use Rattle.std.specs.Prelude.{Result, Ok, Err, IfOk}
 use Rattle.lv_values.specs.Order.{row_eq}
 use Rattle.lv_values.specs.Rows.{key_cmp}
 use Rattle.lv_schema.specs.Nets.{has_row}
@@ -13,27 +11,8 @@ use Rattle.lv_schema.proofs.NetsLead.{key_total, one_of_key, only_rows, same_row
 use Rattle.lv_schema.proofs.Replay.{ascends_filter}
 use Rattle.lv_reach.specs.declared.rows.AliasRow.{AliasRow}
 use Rattle.lv_reach.specs.Reach.{has_alias_row, kept_by, of_alias}
-use Rattle.lv_near.specs.Small.{HaveOwnKeys, IsSplit, rows_of_alias}
-
--- ---- a loop over the near rows
-pub alias_step : (alias : ℕ) (out all : List ARow) (i : ℕ) (rows : List AliasRow) (row : AliasRow) → i < length rows → row ≡ get_or rows i row
-    → out ++ rows_of_alias alias (drop i rows) ≡ all → (out ++ rows_of_alias alias (row ∷ [])) ++ rows_of_alias alias (drop (i + 1) rows) ≡ all
-alias_step alias out all i rows row lt is h =
-    let next : suc i ≡ i + 1 = omega arith in
-    append_assoc out (rows_of_alias alias (row ∷ [])) (rows_of_alias alias (drop (i + 1) rows))
-    ∙ ap (λ l. out ++ l) (one (alias == row.alias))
-    ∙ ap (λ l. out ++ rows_of_alias alias l) (ap (λ q. q ∷ drop (i + 1) rows) is ∙ sym (drop_more rows i row lt))
-    ∙ h
-  where
-    one : (b : Bool) → cond b (row.row ∷ []) [] ++ rows_of_alias alias (drop (i + 1) rows) ≡ cond b (row.row ∷ rows_of_alias alias (drop (i + 1) rows)) (rows_of_alias alias (drop (i + 1) rows))
-    one true = refl
-    one false = refl
-
-pub past_all : (alias n : ℕ) (rows : List AliasRow) → length rows ≤ n → rows_of_alias alias (drop n rows) ≡ []
-past_all alias zero [] le = refl
-past_all alias (suc n) [] le = refl
-past_all alias zero (row ∷ rows) le = absurd (let none = le in omega (arith, none))
-past_all alias (suc n) (row ∷ rows) le = past_all alias n rows (omega arith)
+use Rattle.lv_reach.specs.Found.{rows_of_alias}
+use Rattle.lv_near.specs.Small.{HaveOwnKeys, IsPicked, IsSplit}
 
 -- ---- rows among others
 has_of_alias : (alias : ℕ) (q : ARow) (rows : List AliasRow) → has_row q (rows_of_alias alias rows) ≡ has_alias_row (of_alias alias q) rows
@@ -98,6 +77,10 @@ kept_where_far near far alias old e = filter_same (λ row. kept_by near far (of_
 pub kept_where_near : (near : List AliasRow) (far : List Bool) (alias : ℕ) (old : List ARow) → get_or far alias true ≡ false → filter (λ row. kept_by near far (of_alias alias row)) old ≡ filter (λ row. has_alias_row (of_alias alias row) near) old
 kept_where_near near far alias old e = filter_same (λ row. kept_by near far (of_alias alias row)) (λ row. has_alias_row (of_alias alias row) near) (λ row. ap (λ b. b || has_alias_row (of_alias alias row) near) e) old
 
-pub ok_both : {T E : Type 0} (r : Result T E) (P Q R : T → Type 0) → ((a : T) → P a → Q a → R a) → IfOk r P → IfOk r Q → IfOk r R
-ok_both (Ok a) P Q R f p q = f a p q
-ok_both (Err e) P Q R f p q = tt
+pub picked_kept : (key : List ℕ) (near : List AliasRow) (changed alias : ℕ) (minus : List ARow) (far : List Bool) (old rows out : List ARow) → IsSplit key near changed alias minus old
+    → rows ≡ minus ++ rows_of_alias alias (drop changed near) → IsPicked key (get_or far alias true) old rows out → out ≡ filter (λ row. kept_by near far (of_alias alias row)) old
+picked_kept key near changed alias minus far old rows out s is p = by (get_or far alias true) refl
+  where
+    by : (b : Bool) → get_or far alias true ≡ b → out ≡ filter (λ row. kept_by near far (of_alias alias row)) old
+    by true e = p.all e ∙ sym (kept_where_far near far alias old e)
+    by false e = picked_is key near changed alias minus old rows out s is (p.up e) (p.same e) ∙ sym (kept_where_near near far alias old e)

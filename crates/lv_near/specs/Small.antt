@@ -1,5 +1,5 @@
 -- What a step of a view is computed from, told from the committed states as they are kept.
-use Rattle.std.specs.Prelude.{◌≡◌, ℕ, ◌≤◌, ◌==◌, ◌&&◌, ◌||◌, Bool, true, cond, nat_lt, List, [], ◌∷◌, map, length, drop, slice_index_or}
+use Rattle.std.specs.Prelude.{◌≡◌, ℕ, ◌≤◌, ◌&&◌, ◌||◌, Bool, true, false, nat_lt, List, [], ◌∷◌, map, length, drop, slice_index_or}
 use Rattle.std.specs.List.{AllByRecursion, list_all}
 use Rattle.std.specs.Ordering.{is_lt}
 use Rattle.std.specs.declared.cmp.Ordering.TheVariants.{Equal}
@@ -52,11 +52,6 @@ pub record IsSmallInput (def : ViewDef) (lo hi : ℕ) (whole : List Part) (input
   pub reach : IsReachOf (links_of def.cond) whole input.parts
 
 -- ---- the old rows of one alias
--- the rows of an alias among others
-abbrev pub rows_of_alias : ℕ → List AliasRow → List (List Value)
-rows_of_alias alias [] = []
-rows_of_alias alias (a ∷ rows) = cond (alias == a.alias) (a.row ∷ rows_of_alias alias rows) (rows_of_alias alias rows)
-
 -- no two of some rows have the same key
 abbrev pub HaveOwnKeys : List ℕ → List (List Value) → Type 0
 HaveOwnKeys key rows = (q r : List Value) → has_row q rows ≡ true → has_row r rows ≡ true → key_cmp key q r ≡ Equal → q ≡ r
@@ -65,6 +60,12 @@ HaveOwnKeys key rows = (q r : List Value) → has_row q rows ≡ true → has_ro
 pub record IsSplit (key : List ℕ) (near : List AliasRow) (changed alias : ℕ) (minus old : List (List Value)) : Type 0 where
   pub up : Ascends (key_cmp key) old
   pub old_near : (q : List Value) → (has_row q minus || has_alias_row (of_alias alias q) (drop changed near)) ≡ (has_row q old && has_alias_row (of_alias alias q) near)
+
+-- the old rows of an alias that a step needs: all of them where it is far, else these, in the order of their keys
+pub record IsPicked (key : List ℕ) (far : Bool) (whole picked old : List (List Value)) : Type 0 where
+  pub all : far ≡ true → old ≡ whole
+  pub up : far ≡ false → Ascends (key_cmp key) old
+  pub same : far ≡ false → (q : List Value) → has_row q old ≡ has_row q picked
 
 -- whether the key of a row is above that of the last of these
 abbrev pub is_above : List ℕ → List (List Value) → List Value → Bool
