@@ -54,7 +54,7 @@ alone n s e =
     fill_by_all f s.sums n (pos 0) e.wide (λ j h. sym (ap (int_wrap w128) (zero_more (get_or s.sums j (pos 0))) ∙ fit_at s.sums j (omega (arith, e.wide)) e.sums)) in
     λ i. record { row = s.row; count = count i; sums = sym sums i }
 
-length-sums_added : (xs ys : List ℤ) → length xs ≡ length ys → length (sums_added xs ys) ≡ length xs
+pub length-sums_added : (xs ys : List ℤ) → length xs ≡ length ys → length (sums_added xs ys) ≡ length xs
 length-sums_added [] [] e = refl
 length-sums_added [] (y ∷ ys) e = absurd (omega arith)
 length-sums_added (x ∷ xs) [] e = refl

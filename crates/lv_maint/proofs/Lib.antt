@@ -1,3 +1,5 @@
+pub mod Rounding
+pub mod Runs
 pub mod DeltaRule
 pub mod Balance
 pub mod Terms

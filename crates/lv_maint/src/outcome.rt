@@ -66,9 +66,10 @@ impl JobResult {
 /// The result of a step. One term is added up for each alias that has a change: its rows that come and those that go,
 /// beside the new rows of the aliases before it and the old rows of those behind it.
 ///
-/// Cost: for each term a join of the changed rows of one alias with the rows of the others; a sort of the tuples that
-/// they give; and for each alias a reference to each of its rows, for those that change two but for the last. No row
-/// is copied but for the values that the entries list.
+/// Cost: for each term a join of the changed rows of one alias with the rows of the others; a sort of the entries that
+/// they give, one for each run of tuples of one row or group, so that a tuple of the row or group before it takes no
+/// memory and is not sorted; and for each alias a reference to each of its rows, for those that change two but for the
+/// last. No row is copied but for the values that the entries list.
 pub fn compute(alloc: Global, input: JobInput) -> Result<JobResult, NoMemory>
     ensures input { IfOk result (λ r. r.input ≡ input) }
     ensures difference { IfOk result (λ r. r.signed ≡ difference input.def (old_sides input.parts) (new_sides input.parts)) }
