@@ -19,10 +19,13 @@ VIEWS = {
     "wanted": "select k.shop, k.item, s.no, s.qty from stock k, sale s where k.item = s.item and (s.qty > k.n or not k.shop = 1)",
     "names": "select name, count(*) as n, sum(price) as prices from item group by name",
     "three": "select i.id, s.no, k.shop, k.item from item i, sale s, stock k where i.id = s.item and k.item = i.id",
+    "near": "select x.item, sum(y.qty) as total, count(*) as n from sale x, sale y where x.item = y.item group by x.item",
+    "apart": "select s.no, s.qty, i.id from sale s, item i where s.qty > i.price",
 }
 # a column of each view by which queries ask for some of its rows
 COLUMNS = {
     "lines": "qty", "per_item": "total", "cheap": "price", "pairs": "qty", "per_shop": "pieces", "wanted": "qty", "names": "n", "three": "no",
+    "near": "total", "apart": "qty",
     "item": "price", "sale": "qty", "stock": "n",
 }
 ODD = [
