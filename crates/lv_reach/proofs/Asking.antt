@@ -49,7 +49,7 @@ row_eq_cons x y xs ys = by (value_cmp x y)
     by Equal = refl
     by Greater = refl
 
-same_value : (x y : Value) → value_eq x y ≡ true → x ≡ y
+pub same_value : (x y : Value) → value_eq x y ≡ true → x ≡ y
 same_value x y h = value_exact x y (by (value_cmp x y) h)
   where
     by : (o : Ordering) → is_eq o ≡ true → o ≡ Equal
@@ -79,7 +79,7 @@ and_assoc true b c = refl
 and_assoc false b c = refl
 
 -- a row that has these values agrees in each link
-asked : (links : List Link) (a : AliasRow) (j : ℕ) (row : ARow) → row_eq (values_at (columns_to links a.alias j) row) (values_to links a j) ≡ all_fit links a (of_alias j row)
+pub asked : (links : List Link) (a : AliasRow) (j : ℕ) (row : ARow) → row_eq (values_at (columns_to links a.alias j) row) (values_to links a j) ≡ all_fit links a (of_alias j row)
 asked [] a j row = refl
 asked (link ∷ links) a j row =
     let there = goes link a.alias j in
@@ -133,3 +133,16 @@ none_linked links a j (row ∷ rows) linked =
 pub on_err : {T E P : Type 0} (r : Result T E) → P → OnErr r P
 on_err (Ok a) p = tt
 on_err (Err e) p = p
+
+-- ---- values that are compared with those of a row, link by link
+module _ (link : Link) (i j : ℕ) (v : Value) where
+  -- the first one is the one in the column, or another, or there is none
+  pub behind_first : (first : Value) (values rest : List Value) → goes link i j ≡ true → values ≡ first ∷ rest → value_eq first v ≡ true → values ≡ if_goes link i j v ++ rest
+  behind_first first values rest g is same = is ∙ ap (λ x. x ∷ rest) (same_value first v same) ∙ sym (ap (λ b. cond b (v ∷ []) [] ++ rest) g)
+
+  pub behind_other : (first : Value) (values left : List Value) → goes link i j ≡ true → values ≡ first ∷ left → value_eq first v ≡ false → (rest : List Value) → values ≡ if_goes link i j v ++ rest → ⊥
+  behind_other first values left g is other rest h =
+      let both : first ∷ left ≡ v ∷ rest = sym is ∙ h ∙ ap (λ b. cond b (v ∷ []) [] ++ rest) g in
+      let same : first ≡ v = cc in
+      let no : true ≡ false = sym (value_itself v) ∙ ap (λ x. value_eq x v) (sym same) ∙ other in
+      cc

@@ -11,3 +11,6 @@ pub mod Walking
 pub mod Costing
 pub mod Questioning
 pub mod FoundLaws
+pub mod Reaches
+pub mod Within
+pub mod OneAlias

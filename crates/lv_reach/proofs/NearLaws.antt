@@ -53,7 +53,7 @@ module _ (tuple : Tuple) where
       value_itself (value_in (row_at tuple i) link.left.column) (value_in (row_at tuple j) link.right.column)
       (ap (λ k. value_in (row_at tuple k) link.left.column) (sym left) ∙ h ∙ ap (λ k. value_in (row_at tuple k) link.right.column) right))
 
-  all_fit : (links : List Link) (i j : ℕ) → AgreesIn links tuple → list_all (λ link. fit link (in_tuple tuple i) (in_tuple tuple j) && fit link (in_tuple tuple j) (in_tuple tuple i)) links ≡ true
+  pub all_fit : (links : List Link) (i j : ℕ) → AgreesIn links tuple → list_all (λ link. fit link (in_tuple tuple i) (in_tuple tuple j) && fit link (in_tuple tuple j) (in_tuple tuple i)) links ≡ true
   all_fit [] i j h = refl
   all_fit (link ∷ links) i j h = both_true _ _ (both_true _ _ (fits link i j h.0) (fits link j i h.0)) (all_fit links i j h.1)
 

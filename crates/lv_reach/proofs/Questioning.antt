@@ -1,6 +1,6 @@
 -- Questions: those that were asked find nothing new, and what the distinct ones find is what the steps count.
 use Rattle.std.proofs.Common.{◌≡◌, ℕ, zero, suc, ◌+◌, Bool, true, false, cond, not, ◌&&◌, ◌||◌, ◌==◌, List, [], ◌∷◌, ◌++◌, map, length, take, slice_get, get_or, Some, refl, sym, ap, ◌∙◌, subst, arith}
-use Rattle.std.proofs.lemmas.Bool.{and_parts, eqb-true}
+use Rattle.std.proofs.lemmas.Bool.{and_parts, eqb-true, eq-eqb}
 use Rattle.std.proofs.lemmas.List.Sums.{sum_by_push}
 use Rattle.std.specs.List.{filter, AllByRecursion, list_any}
 use Rattle.std.specs.Cmp.Lexicographic.{pointwise, lists_ties}
@@ -8,7 +8,7 @@ use Rattle.indexmap.specs.IndexSet.{insert_key}
 use Rattle.lv_values.specs.Order.{row_eq, value_cmp, value_eq}
 use Rattle.lv_schema.proofs.Apart.{all_append, all_true, all_weaker}
 use Rattle.lv_schema.proofs.ChangeLists.{ARow}
-use Rattle.lv_schema.proofs.NetsLead.{same_row}
+use Rattle.lv_schema.proofs.NetsLead.{row_itself, same_row}
 use Rattle.lv_reach.specs.declared.link.Link.{Link}
 use Rattle.lv_reach.specs.declared.questions.Question.{Question}
 use Rattle.lv_reach.specs.declared.rows.AliasRow.{AliasRow}
@@ -16,7 +16,7 @@ use Rattle.lv_reach.specs.Questions.{answered, AreAnswered, ask, ask_all, ask_ro
 use Rattle.lv_reach.specs.Reach.{agree, are_linked, has_alias_row, of_alias}
 use Rattle.lv_reach.specs.Walk.{columns_to, put_all, put_behind, values_to}
 use Rattle.lv_reach.proofs.Asking.{looked_up_long, looked_up_rows}
-use Rattle.lv_reach.proofs.Gathering.{each_there}
+use Rattle.lv_reach.proofs.Gathering.{each_there, first_there, second_there}
 use Rattle.lv_reach.proofs.Walking.{put_tail, put_there, stays, take_one}
 
 -- ---- one question
@@ -28,6 +28,15 @@ one_question q r h =
     let to : q.to ≡ r.to = eqb-true q.to r.to rest.0 in
     let values : q.values ≡ r.values = same_row q.values r.values rest.1 in
     λ i. record { from = from i; to = to i; values = values i }
+
+same_itself : (q : Question) → same_question q q ≡ true
+same_itself q = λ i. eq-eqb q.from q.from refl i && (eq-eqb q.to q.to refl i && row_itself q.values i)
+
+-- one that stands at a place is among them
+pub question_at : (q : Question) (asked : List Question) (n : ℕ) → slice_get asked n ≡ Some q → has_question q asked ≡ true
+question_at q [] n h = cc
+question_at q (p ∷ asked) zero h = let same : p ≡ q = cc in first_there _ _ (ap (same_question q) same ∙ same_itself q)
+question_at q (p ∷ asked) (suc n) h = second_there _ _ (question_at q asked n h)
 
 -- ---- a set of them keeps the questions so
 by_eq : (eq : Question → Question → Bool) → ((q r : Question) → eq q r ≡ same_question q r) → (q : Question) (asked : List Question) → list_any (eq q) asked ≡ has_question q asked
@@ -134,6 +143,9 @@ ask_again q asked is_new h old = by (has_question q asked) refl (sym h ∙ old)
     by true d e = (d, refl)
     by false d e = cc
 
+pub asked_stays : (q : Question) (asked : List Question) → has_question q asked ≡ true → ask q asked ≡ asked
+asked_stays q asked h = ap (λ b. cond b asked (asked ++ q ∷ [])) h
+
 -- ---- what a question of a row finds
 module _ (links : List Link) (rows : ℕ → List ARow) (a : AliasRow) (j : ℕ) (q : Question) (linked : are_linked links a.alias j ≡ true) (is : q ≡ question_of links a j) where
   pub question_finds : map (of_alias q.to) (answered links rows q) ≡ filter (agree links a) (map (of_alias j) (rows j))
@@ -154,3 +166,14 @@ read_there rows all n a r same is h = is ∙ at rows n r a (ap (λ l. slice_get 
     at [] n r a h = cc
     at (b ∷ rows) zero r a h = cc
     at (b ∷ rows) (suc n) r a h = at rows n r a h
+
+-- what is told of that row holds of the one at the place
+module _ (links : List Link) (j : ℕ) (a r : AliasRow) (is : r ≡ a) where
+  pub linked_there : (linked b : Bool) → linked ≡ are_linked links r.alias j → linked ≡ b → are_linked links a.alias j ≡ b
+  linked_there linked b e h = ap (λ (x : AliasRow). are_linked links x.alias j) (sym is) ∙ sym e ∙ h
+
+  pub question_there : (q : Question) → q ≡ question_of links r j → q ≡ question_of links a j
+  question_there q e = e ∙ ap (λ (x : AliasRow). question_of links x j) is
+
+  pub asked_there : (asked : List Question) → has_question (question_of links r j) asked ≡ true → has_question (question_of links a j) asked ≡ true
+  asked_there asked h = ap (λ (x : AliasRow). has_question (question_of links x j) asked) (sym is) ∙ h

@@ -68,7 +68,7 @@ first_of : (a b : Bool) → a ≡ true → (a || b) ≡ true
 first_of true b e = refl
 first_of false b e = cc
 
-second_of : (a b : Bool) → b ≡ true → (a || b) ≡ true
+pub second_of : (a b : Bool) → b ≡ true → (a || b) ≡ true
 second_of true b e = refl
 second_of false b e = e
 
@@ -90,7 +90,7 @@ new_over [] = tt
 new_over (p ∷ parts) = (new_present p, new_over parts)
 
 -- ---- a changed tuple has a changed row
-change_in : (parts : List Part) (tuple : Tuple) → has_change parts tuple ≡ true → (i : ℕ) × (is_changed (part_at parts i) (row_at tuple i) ≡ true)
+pub change_in : (parts : List Part) (tuple : Tuple) → has_change parts tuple ≡ true → (i : ℕ) × (is_changed (part_at parts i) (row_at tuple i) ≡ true)
 change_in [] tuple h = cc
 change_in (p ∷ parts) [] h = cc
 change_in (p ∷ parts) (row ∷ tuple) h = by (is_changed p row) refl h (change_in parts tuple)
@@ -102,7 +102,7 @@ change_in (p ∷ parts) (row ∷ tuple) h = by (is_changed p row) refl h (change
 
 -- ---- what is kept
 module _ (keep : AliasRow → Bool) where
-  abbrev all_kept : ℕ → Tuple → Bool
+  abbrev pub all_kept : ℕ → Tuple → Bool
   all_kept i [] = true
   all_kept i (row ∷ tuple) = keep (of_alias i row) && all_kept (suc i) tuple
 
@@ -113,7 +113,7 @@ module _ (keep : AliasRow → Bool) where
   both_true : (a b : Bool) → a ≡ true → b ≡ true → (a && b) ≡ true
   both_true a b h k = (λ i. h i && b) ∙ k
 
-  each_kept : (i : ℕ) (tuple : Tuple) → ((j : ℕ) → keep (of_alias (i + j) (row_at tuple j)) ≡ true) → all_kept i tuple ≡ true
+  pub each_kept : (i : ℕ) (tuple : Tuple) → ((j : ℕ) → keep (of_alias (i + j) (row_at tuple j)) ≡ true) → all_kept i tuple ≡ true
   each_kept i [] h = refl
   each_kept i (row ∷ tuple) h =
       let here : i + 0 ≡ i = omega arith in
@@ -198,60 +198,42 @@ guarded false k b n f = same_zero k
 cancels : (a b a' b' ga gb ga' gb' ua ub ua' ub' : ℤ) → a ≡ ga +ℤ ua → b ≡ gb +ℤ ub → a' ≡ ga' +ℤ ua' → b' ≡ gb' +ℤ ub' → ga' ≡ ga → gb' ≡ gb → ub ≡ ua → ub' ≡ ua' → a' -ℤ b' ≡ a -ℤ b
 cancels a b a' b' ga gb ga' gb' ua ub ua' ub' ha hb ha' hb' g h u v = omega (arith, ints)
 
-module _ (c : Cond) (parts : List Part) (keep : AliasRow → Bool) (within : AreWithin (length parts) (links_of c)) (reach : KeepsReach (links_of c) parts keep) where
-  row_kept : (tuple : Tuple) (i j : ℕ) → IsOver parts tuple → holds c tuple ≡ true → is_changed (part_at parts i) (row_at tuple i) ≡ true → keep (in_tuple tuple j) ≡ true
-  row_kept tuple i j over kept changed = by (keep (in_tuple tuple j)) refl
-    where
-      by : (b : Bool) → keep (in_tuple tuple j) ≡ b → keep (in_tuple tuple j) ≡ true
-      by true e = e
-      by false e =
-          let links = links_of c in
-          let far : IsFar links parts j = record {
-            from = in_tuple tuple i;
-            changed = changed;
-            apart = λ path p. not_both (sym (reach.near (in_tuple tuple j) (near_along links parts tuple within over (links_agree c tuple kept) i path j (changed_near links parts (in_tuple tuple i) changed) p)) ∙ e);
-          } in
-          reach.far (in_tuple tuple j) far
+module _ (c : Cond) (parts : List Part) (keep : AliasRow → Bool)
+    (whole : (tuple : Tuple) → IsOver parts tuple → has_change parts tuple ≡ true → holds c tuple ≡ true → all_kept keep 0 tuple ≡ true)
+    (coming : (j : ℕ) (row : ARow) → has_row row (part_at parts j).plus ≡ true → keep (of_alias j row) ≡ true)
+    (f : Tuple → ℤ) where
+  -- of the tuples that the condition keeps, and of those with a change
+  abbrev chosen : Tuple → ℤ
+  chosen t = cond (holds c t) (f t) (pos 0)
 
-  tuple_kept : (tuple : Tuple) → IsOver parts tuple → has_change parts tuple ≡ true → holds c tuple ≡ true → all_kept keep 0 tuple ≡ true
-  tuple_kept tuple over changed kept =
-      let at = change_in parts tuple changed in
-      each_kept keep 0 tuple (λ j. let e : j ≡ 0 + j = omega arith in subst (λ n. keep (of_alias n (row_at tuple j)) ≡ true) e (row_kept tuple at.0 j over kept at.1))
+  abbrev changed : Tuple → ℤ
+  changed t = cond (has_change parts t) (chosen t) (pos 0)
 
-  module _ (f : Tuple → ℤ) where
-    -- of the tuples that the condition keeps, and of those with a change
-    abbrev chosen : Tuple → ℤ
-    chosen t = cond (holds c t) (f t) (pos 0)
+  total_changed : (sides : List (List ARow)) → AllByRecursion (IsOver parts) (tuples sides) → total changed (tuples (kept_sides keep 0 sides)) ≡ total changed (tuples sides)
+  total_changed sides over =
+      total_kept keep 0 sides changed
+      ∙ sym (total_on changed (λ t. cond (all_kept keep 0 t) (changed t) (pos 0)) (tuples sides)
+      (all_weaker (IsOver parts) (λ t. changed t ≡ cond (all_kept keep 0 t) (changed t) (pos 0)) (λ t o. guarded (has_change parts t) (all_kept keep 0 t) (holds c t) (f t) (whole t o)) (tuples sides) over))
 
-    abbrev changed : Tuple → ℤ
-    changed t = cond (has_change parts t) (chosen t) (pos 0)
+  new_kept : new_sides (cut keep parts) ≡ kept_sides keep 0 (new_sides parts)
+  new_kept = new_cut keep 0 parts (plus_kept keep 0 parts (λ j row e.
+      let same : j ≡ 0 + j = omega arith in
+      subst (λ n. keep (of_alias n row) ≡ true) same (coming j row e)))
 
-    total_changed : (sides : List (List ARow)) → AllByRecursion (IsOver parts) (tuples sides) → total changed (tuples (kept_sides keep 0 sides)) ≡ total changed (tuples sides)
-    total_changed sides over =
-        total_kept keep 0 sides changed
-        ∙ sym (total_on changed (λ t. cond (all_kept keep 0 t) (changed t) (pos 0)) (tuples sides)
-        (all_weaker (IsOver parts) (λ t. changed t ≡ cond (all_kept keep 0 t) (changed t) (pos 0)) (λ t o. guarded (has_change parts t) (all_kept keep 0 t) (holds c t) (f t) (tuple_kept t o)) (tuples sides) over))
-
-    new_kept : new_sides (cut keep parts) ≡ kept_sides keep 0 (new_sides parts)
-    new_kept = new_cut keep 0 parts (plus_kept keep 0 parts (λ j row e.
-        let same : j ≡ 0 + j = omega arith in
-        subst (λ n. keep (of_alias n row) ≡ true) same
-        (reach.near (of_alias j row) (changed_near (links_of c) parts (of_alias j row) (second_of (has_row row (part_at parts j).minus) (has_row row (part_at parts j).plus) e)))))
-
-    total_cut : total chosen (tuples (new_sides (cut keep parts))) -ℤ total chosen (tuples (old_sides (cut keep parts))) ≡ total chosen (tuples (new_sides parts)) -ℤ total chosen (tuples (old_sides parts))
-    total_cut =
-        let old = tuples (old_sides parts) in
-        let new = tuples (new_sides parts) in
-        let old' = tuples (old_sides (cut keep parts)) in
-        let new' = tuples (new_sides (cut keep parts)) in
-        cancels (total chosen new) (total chosen old) (total chosen new') (total chosen old')
-        (total changed new) (total changed old) (total changed new') (total changed old')
-        (total chosen (unchanged parts new)) (total chosen (unchanged parts old)) (total chosen (unchanged parts new')) (total chosen (unchanged parts old'))
-        (split (has_change parts) chosen new) (split (has_change parts) chosen old) (split (has_change parts) chosen new') (split (has_change parts) chosen old')
-        (ap (λ sides. total changed (tuples sides)) new_kept ∙ total_changed (new_sides parts) (all_over parts (new_sides parts) (new_over parts)))
-        (ap (λ sides. total changed (tuples sides)) (old_cut keep 0 parts) ∙ total_changed (old_sides parts) (all_over parts (old_sides parts) (old_over parts)))
-        (ap (total chosen) (tuples_stay parts))
-        (ap (total chosen) (sym (unchanged_cut keep parts old') ∙ tuples_stay (cut keep parts) ∙ unchanged_cut keep parts new'))
+  total_cut : total chosen (tuples (new_sides (cut keep parts))) -ℤ total chosen (tuples (old_sides (cut keep parts))) ≡ total chosen (tuples (new_sides parts)) -ℤ total chosen (tuples (old_sides parts))
+  total_cut =
+      let old = tuples (old_sides parts) in
+      let new = tuples (new_sides parts) in
+      let old' = tuples (old_sides (cut keep parts)) in
+      let new' = tuples (new_sides (cut keep parts)) in
+      cancels (total chosen new) (total chosen old) (total chosen new') (total chosen old')
+      (total changed new) (total changed old) (total changed new') (total changed old')
+      (total chosen (unchanged parts new)) (total chosen (unchanged parts old)) (total chosen (unchanged parts new')) (total chosen (unchanged parts old'))
+      (split (has_change parts) chosen new) (split (has_change parts) chosen old) (split (has_change parts) chosen new') (split (has_change parts) chosen old')
+      (ap (λ sides. total changed (tuples sides)) new_kept ∙ total_changed (new_sides parts) (all_over parts (new_sides parts) (new_over parts)))
+      (ap (λ sides. total changed (tuples sides)) (old_cut keep 0 parts) ∙ total_changed (old_sides parts) (all_over parts (old_sides parts) (old_over parts)))
+      (ap (total chosen) (tuples_stay parts))
+      (ap (total chosen) (sym (unchanged_cut keep parts old') ∙ tuples_stay (cut keep parts) ∙ unchanged_cut keep parts new'))
 
 -- ---- equal differences of totals give equal differences of views
 module _ (view : ViewDef) (was is was' is' : List Tuple) (same : (f : Tuple → ℤ) → total f is' -ℤ total f was' ≡ total f is -ℤ total f was) where
@@ -279,16 +261,48 @@ module _ (view : ViewDef) (was is was' is' : List Tuple) (same : (f : Tuple → 
   changes_same = same_changes (change_of view was' is') (change_of view was is) (map (key_of view) (was' ++ is')) (map (key_of view) (was ++ is))
       (change_covers view was' is') (change_covers view was is) (λ q. ap (λ s. cond (is_change s) (Some s) None) (change_same q))
 
-pub reach_gives : (view : ViewDef) (parts : List Part) (keep : AliasRow → Bool) → AreWithin (length parts) (links_of view.cond) → KeepsReach (links_of view.cond) parts keep
+-- where each tuple that matters is kept whole, and each row that comes
+pub kept_gives : (view : ViewDef) (parts : List Part) (keep : AliasRow → Bool)
+    → ((tuple : Tuple) → IsOver parts tuple → has_change parts tuple ≡ true → holds view.cond tuple ≡ true → all_kept keep 0 tuple ≡ true)
+    → ((j : ℕ) (row : ARow) → has_row row (part_at parts j).plus ≡ true → keep (of_alias j row) ≡ true)
     → difference view (old_sides (cut keep parts)) (new_sides (cut keep parts)) ≡ difference view (old_sides parts) (new_sides parts)
-reach_gives view parts keep within reach =
+kept_gives view parts keep whole coming =
     let c = view.cond in
     let smaller = cut keep parts in
     changes_same view (selected c (old_sides parts)) (selected c (new_sides parts)) (selected c (old_sides smaller)) (selected c (new_sides smaller))
     (λ f.
     (λ i. total-filter f (holds c) (tuples (new_sides smaller)) i -ℤ total-filter f (holds c) (tuples (old_sides smaller)) i)
-    ∙ total_cut c parts keep within reach f
+    ∙ total_cut c parts keep whole coming f
     ∙ sym (λ i. total-filter f (holds c) (tuples (new_sides parts)) i -ℤ total-filter f (holds c) (tuples (old_sides parts)) i))
+
+-- ---- what keeps the reach keeps them
+module _ (c : Cond) (parts : List Part) (keep : AliasRow → Bool) (within : AreWithin (length parts) (links_of c)) (reach : KeepsReach (links_of c) parts keep) where
+  row_kept : (tuple : Tuple) (i j : ℕ) → IsOver parts tuple → holds c tuple ≡ true → is_changed (part_at parts i) (row_at tuple i) ≡ true → keep (in_tuple tuple j) ≡ true
+  row_kept tuple i j over kept changed = by (keep (in_tuple tuple j)) refl
+    where
+      by : (b : Bool) → keep (in_tuple tuple j) ≡ b → keep (in_tuple tuple j) ≡ true
+      by true e = e
+      by false e =
+          let links = links_of c in
+          let far : IsFar links parts j = record {
+            from = in_tuple tuple i;
+            changed = changed;
+            apart = λ path p. not_both (sym (reach.near (in_tuple tuple j) (near_along links parts tuple within over (links_agree c tuple kept) i path j (changed_near links parts (in_tuple tuple i) changed) p)) ∙ e);
+          } in
+          reach.far (in_tuple tuple j) far
+
+  tuple_kept : (tuple : Tuple) → IsOver parts tuple → has_change parts tuple ≡ true → holds c tuple ≡ true → all_kept keep 0 tuple ≡ true
+  tuple_kept tuple over changed kept =
+      let at = change_in parts tuple changed in
+      each_kept keep 0 tuple (λ j. let e : j ≡ 0 + j = omega arith in subst (λ n. keep (of_alias n (row_at tuple j)) ≡ true) e (row_kept tuple at.0 j over kept at.1))
+
+  coming_kept : (j : ℕ) (row : ARow) → has_row row (part_at parts j).plus ≡ true → keep (of_alias j row) ≡ true
+  coming_kept j row e = reach.near (of_alias j row) (changed_near (links_of c) parts (of_alias j row) (second_of (has_row row (part_at parts j).minus) (has_row row (part_at parts j).plus) e))
+
+pub reach_gives : (view : ViewDef) (parts : List Part) (keep : AliasRow → Bool) → AreWithin (length parts) (links_of view.cond) → KeepsReach (links_of view.cond) parts keep
+    → difference view (old_sides (cut keep parts)) (new_sides (cut keep parts)) ≡ difference view (old_sides parts) (new_sides parts)
+reach_gives view parts keep within reach =
+    kept_gives view parts keep (tuple_kept view.cond parts keep within reach) (coming_kept view.cond parts keep within reach)
 
 -- of a bound view
 as_many : (tables : List TableDef) (ts : List ℕ) → length (alias_columns tables ts) ≡ length ts

@@ -21,7 +21,7 @@ filter_behind f g h (x ∷ xs) = by (g x) refl (filter_behind f g h xs)
     by true e r = λ i. cond (f x) (x ∷ r i) (r i)
     by false e r = r ∙ sym (λ i. cond (h x e i) (x ∷ filter f xs) (filter f xs))
 
-none_pass : {X : Type 0} (f : X → Bool) (xs : List X) → AllByRecursion (λ x. f x ≡ false) xs → filter f xs ≡ []
+pub none_pass : {X : Type 0} (f : X → Bool) (xs : List X) → AllByRecursion (λ x. f x ≡ false) xs → filter f xs ≡ []
 none_pass f [] a = refl
 none_pass f (x ∷ xs) a = (λ i. cond (a.0 i) (x ∷ filter f xs) (filter f xs)) ∙ none_pass f xs a.1
 
@@ -57,7 +57,7 @@ staying [] sides = sides
 staying (p ∷ parts) [] = []
 staying (p ∷ parts) (rows ∷ sides) = filter (stays p) rows ∷ staying parts sides
 
-all_there : {X : Type 0} (xs : List X) → filter (λ _. true) xs ≡ xs
+pub all_there : {X : Type 0} (xs : List X) → filter (λ _. true) xs ≡ xs
 all_there [] = refl
 all_there (x ∷ xs) = ap (λ l. x ∷ l) (all_there xs)
 

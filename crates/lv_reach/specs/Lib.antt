@@ -5,3 +5,4 @@ pub mod Far
 pub mod Walk
 pub mod Questions
 pub mod Found
+pub mod Within

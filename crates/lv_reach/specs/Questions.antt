@@ -1,10 +1,11 @@
 -- The questions of a walk: what near rows ask of the old rows of the aliases that are linked to their own. Rows of one
 -- alias with the same values in the linked columns ask the same, and each question is looked up once.
-use Rattle.std.specs.Prelude.{◌≡◌, ℕ, zero, suc, ◌==◌, Bool, true, ◌&&◌, cond, List, [], ◌∷◌, ◌++◌, map, filter, length}
-use Rattle.std.specs.List.{list_any, sum_by, AllByRecursion}
+use Rattle.std.specs.Prelude.{◌≡◌, ℕ, zero, suc, ◌==◌, Bool, true, ◌&&◌, cond, List, [], ◌∷◌, ◌++◌, map, filter, length, Option, option_map}
+use Rattle.std.specs.List.{find, list_any, sum_by, AllByRecursion}
 use Rattle.lv_values.specs.declared.value.Value.{Value}
 use Rattle.lv_values.specs.Order.{row_eq}
 use Rattle.lv_values.specs.Rows.{values_at}
+use Rattle.lv_reach.specs.declared.latest.Latest.{Latest}
 use Rattle.lv_reach.specs.declared.link.Link.{Link}
 use Rattle.lv_reach.specs.declared.questions.Question.{Question}
 use Rattle.lv_reach.specs.declared.rows.AliasRow.{AliasRow}
@@ -26,6 +27,13 @@ same_question q r = (q.from == r.from) && ((q.to == r.to) && row_eq q.values r.v
 
 abbrev pub has_question : Question → List Question → Bool
 has_question q asked = list_any (same_question q) asked
+
+-- whether a place is that of the last question from an alias of another, and that place
+abbrev pub is_between : ℕ → ℕ → Latest → Bool
+is_between from to latest = (latest.from == from) && (latest.to == to)
+
+abbrev pub place_of : ℕ → ℕ → List Latest → Option ℕ
+place_of from to places = option_map (λ latest. latest.at) (find (is_between from to) places)
 
 -- a question behind the others, if it is not among them; and questions so
 abbrev pub ask : Question → List Question → List Question

@@ -1,5 +1,6 @@
 //! Laws about the definitions: each is the contract of a function that does nothing.
-ghost use Rattle.std.specs.Prelude.{◌≡◌, ℕ, Bool, true, List, length};
+ghost use Rattle.std.specs.Prelude.{◌≡◌, ◌≤◌, ◌+◌, ℕ, Bool, true, false, List, filter, length};
+ghost use Rattle.std.specs.List.{AllByRecursion};
 ghost use Rattle.lv_schema.specs.declared.cond.Cond.{Cond};
 ghost use Rattle.lv_schema.specs.declared.part.Part.{Part};
 ghost use Rattle.lv_schema.specs.declared.table.Column.{Column};
@@ -16,6 +17,7 @@ ghost use Rattle.lv_reach.specs.declared.rows.AliasRow.{AliasRow};
 ghost use Rattle.lv_reach.specs.Cost.{IsReach, cost};
 ghost use Rattle.lv_reach.specs.Links.{links_of};
 ghost use Rattle.lv_reach.specs.Reach.{in_tuple, row_at, part_at, agree, IsPath, AreWithin, AgreesIn, is_changed, IsOver, unchanged, IsNear, KeepsReach, cut};
+ghost use Rattle.lv_reach.specs.Within.{ChangesNoMore, OnlyChanges, with_lost_at, without_old};
 
 /// A tuple that a condition keeps has equal values in both columns of each of its links.
 pub fn kept_tuples_agree_in_links()
@@ -61,4 +63,32 @@ pub fn the_reach_gives_the_difference()
 /// However the near rows are listed, the cost of a step is the same number.
 pub fn the_cost_is_one_number()
     ensures { (links : List Link) (parts : List Part) (some all : List AliasRow) (f g : ℕ → Bool) → IsReach links parts some f → IsReach links parts all g → cost links parts some f ≡ cost links parts all g }
+{}
+
+/// A change costs no more than one that it lies within, and a bound that follows from its cost follows from the other's.
+pub fn a_smaller_change_costs_no_more()
+    ensures cost { (links : List Link) (small parts : List Part) (near near_small : List AliasRow) (far far_small : ℕ → Bool)
+        → ChangesNoMore small parts → IsReach links small near_small far_small → IsReach links parts near far
+        → cost links small near_small far_small ≤ cost links parts near far }
+    ensures bound { (links : List Link) (small parts : List Part) (start end : ℕ) → ChangesNoMore small parts
+        → ((near : List AliasRow) (far : ℕ → Bool) → IsReach links small near far → end ≤ start + cost links small near far)
+        → (near : List AliasRow) (far : ℕ → Bool) → IsReach links parts near far → end ≤ start + cost links parts near far }
+{}
+
+/// A change lies within itself, and within what one lies within that it lies within; and it has less where an alias has
+/// no rows before the step.
+pub fn smaller_changes_add_up()
+    ensures none { (parts : List Part) → ChangesNoMore parts parts }
+    ensures both { (small middle parts : List Part) → ChangesNoMore small middle → ChangesNoMore middle parts → ChangesNoMore small parts }
+    ensures without { (i : ℕ) (parts : List Part) → ChangesNoMore (without_old i parts) parts }
+{}
+
+/// Where one alias alone changes, the reach is that of the parts without its old rows: with those of its rows that go, it
+/// gives the difference over whole tables. The rows that go are there, and those that come are not.
+pub fn one_alias_that_changes_needs_no_rows_of_its_own()
+    ensures { (view : ViewDef) (parts : List Part) (i : ℕ) (keep : AliasRow → Bool) → AreWithin (length parts) (links_of view.cond) → OnlyChanges i parts
+        → filter (λ row. has_row row (part_at parts i).minus) (part_at parts i).old ≡ (part_at parts i).minus
+        → AllByRecursion (λ row. has_row row (part_at parts i).old ≡ false) (part_at parts i).plus
+        → KeepsReach (links_of view.cond) (without_old i parts) keep
+        → difference view (old_sides (cut keep (with_lost_at i parts))) (new_sides (cut keep (with_lost_at i parts))) ≡ difference view (old_sides parts) (new_sides parts) }
 {}

@@ -1,14 +1,15 @@
 //! Questions of a walk: what is looked up of another alias for a row, each once.
-ghost use Rattle.std.specs.Prelude.{◌≡◌, ◌<◌, ◌+◌, ◌≤◌, ◌++◌, ◌∷◌, [], List, not, length, IfOk, OnOk, OnErr};
+ghost use Rattle.std.specs.Prelude.{◌≡◌, ◌↔◌, ◌<◌, ◌+◌, ◌≤◌, ◌++◌, ◌∷◌, [], List, true, not, length, Some, slice_get, IsTrue, IfOk, OnOk, OnErr};
 ghost use Rattle.lv_reach.specs.declared.questions.Question.{Question as AQuestion};
 ghost use Rattle.lv_reach.specs.Questions.{answered, ask, has_question, question_of};
 
-use crate::asked::{columns_to, values_to};
+use crate::asked::{are_values_to, columns_to, values_to};
+use crate::latest::{Latest, note, place_of};
 use crate::link::Link;
 use crate::rows::AliasRow;
 use crate::source::OldRows;
 use indexmap::IndexSet;
-use lv_values::{NoMemory, Row, Rows, Steps};
+use lv_values::{Items, NoMemory, Row, Rows, Steps};
 use std::alloc::Global;
 use std::marker::Model;
 use std::sync::ledger::Ledger;
@@ -38,6 +39,15 @@ pub(crate) fn question_of(
     })
 }
 
+/// Whether a question is what a row asks of an alias. The values are compared where they lie.
+fn is_asked_by(question: &Question, links: &[Link], a: &AliasRow, to: u8) -> bool
+    ensures { IsTrue result ↔ (question.now ≡ question_of links.now a.now to) }
+{
+    question.from == a.alias
+        && question.to == to
+        && are_values_to(question.values.as_slice(), links, a, to)
+}
+
 /// Looks up the old rows that a question finds.
 pub(crate) fn look_up<S: OldRows, L: Ledger>(
     alloc: Global,
@@ -61,10 +71,12 @@ pub(crate) fn look_up<S: OldRows, L: Ledger>(
     )
 }
 
-/// Questions, each once, in the order in which they were asked first. Contracts see the list.
+/// Questions, each once, in the order in which they were asked first, and the places of those that were asked last.
+/// Contracts see the list.
 #[derive(Drop)]
 pub(crate) struct Questions {
     asked: IndexSet<Question>,
+    latest: Items<Latest>,
 }
 
 impl Model for Questions {
@@ -83,17 +95,45 @@ impl Questions {
     {
         Questions {
             asked: IndexSet::new(alloc),
+            latest: Items::new(alloc),
         }
     }
 
-    /// Puts a question behind the others, if it is not among them, and tells whether it is new. Cost: that of hashing it,
-    /// on average.
+    /// Puts a question behind the others, if it is not among them, and tells whether it is new. It is the last one between
+    /// its aliases then. Cost: that of hashing it, on average, and linear in the pairs of aliases between which questions
+    /// were asked.
     pub(crate) fn ask(&mut self, question: Question) -> Result<bool, NoMemory>
         ensures asked { OnOk result (self.new ≡ ask question self.old) }
         ensures is_new { IfOk result (λ is_new. is_new ≡ not (has_question question self.old)) }
     {
-        let is_new = self.asked.insert(question)?;
+        let from = question.from;
+        let to = question.to;
+        let (at, is_new) = self.asked.insert_full(question)?;
+        note(&mut self.latest, Latest { from, to, at })?;
         Ok(is_new)
+    }
+
+    /// Whether the question at a place is what a row asks of an alias.
+    fn is_asked_at(&self, at: usize, links: &[Link], a: &AliasRow, to: u8) -> bool
+        ensures { IsTrue result ↔ (slice_get self.now at ≡ Some (question_of links.now a.now to)) }
+    {
+        match self.asked.get_index(at) {
+            Some(question) => is_asked_by(question, links, a, to),
+            None => false,
+        }
+    }
+
+    /// Whether the last question from a row's alias of another one is what the row asks. Rows that were found together have
+    /// mostly the same values in the linked columns. Cost: linear in the links, and in the pairs of aliases between which
+    /// questions were asked.
+    #[tactic(auto, using(crate::proofs::Questioning::question_at))]
+    pub(crate) fn was_asked_last(&self, links: &[Link], a: &AliasRow, to: u8) -> bool
+        ensures { result ≡ true → has_question (question_of links.now a.now to) self.now ≡ true }
+    {
+        match place_of(self.latest.as_slice(), a.alias, to) {
+            Some(at) => self.is_asked_at(at, links, a, to),
+            None => false,
+        }
     }
 
     /// The last question.

@@ -63,7 +63,8 @@ fn ask<S: OldRows, L: Ledger>(
     Ok(())
 }
 
-/// Asks from the near row at a place for the rows of an alias that agree with it, where the two aliases are linked.
+/// Asks from the near row at a place for the rows of an alias that agree with it, where the two aliases are linked. A
+/// question that is the last one between the two is not built again.
 fn ask_alias<S: OldRows, L: Ledger>(
     alloc: Global,
     links: &[Link],
@@ -84,11 +85,14 @@ fn ask_alias<S: OldRows, L: Ledger>(
     ensures most { (a : ARowOf) → slice_get near.old at ≡ Some a → steps.new ≤ steps.old + length (filter (agree links.now a) (map (of_alias alias) (S.rows source.now alias))) }
 {
     let a = &near.as_slice()[at];
-    if are_linked(links, a.alias, alias) {
-        let question = question_of(alloc, links, a, alias)?;
-        return ask(alloc, links, source, question, asked, near, steps);
+    if !are_linked(links, a.alias, alias) {
+        return Ok(());
     }
-    Ok(())
+    if asked.was_asked_last(links, a, alias) {
+        return Ok(());
+    }
+    let question = question_of(alloc, links, a, alias)?;
+    ask(alloc, links, source, question, asked, near, steps)
 }
 
 /// Asks from the near row at a place for the rows of so many aliases that agree with it, and puts them behind the near
