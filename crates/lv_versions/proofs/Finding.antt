@@ -1,13 +1,14 @@
 -- What a search of a key finds, and what a clean-up leaves.
-use Rattle.std.proofs.Common.{◌≡◌, ℕ, zero, suc, ◌+◌, ◌<◌, ◌≤◌, Bool, true, false, cond, List, [], ◌∷◌, ◌++◌, append_assoc, drop, length, map, filter, get_or, Option, Some, None, refl, sym, ap, ap₂, ◌∙◌, subst, arith}
+use Rattle.std.proofs.Common.{◌≡◌, ℕ, zero, suc, ◌+◌, ◌<◌, ◌≤◌, Bool, true, false, cond, List, [], ◌∷◌, ◌++◌, append_assoc, drop, length, length-append, map, filter, get_or, Option, Some, None, refl, sym, ap, ap₂, ◌∙◌, subst, arith}
 use Rattle.std.specs.Prelude.{◌&&◌, nat_lt, nat_le, slice_get}
 use Rattle.std.specs.List.{AllByRecursion}
 use Rattle.std.specs.Ordering.{is_eq, ordering_reverse}
 use Rattle.std.specs.declared.cmp.Ordering.{Ordering}
 use Rattle.std.specs.declared.cmp.Ordering.TheVariants.{Less, Equal, Greater}
 use Rattle.std.proofs.lemmas.Bool.Decides.{nat_tests}
-use Rattle.std.proofs.lemmas.List.{drop_more}
+use Rattle.std.proofs.lemmas.List.{drop_more, length-map}
 use Rattle.std.proofs.lemmas.List.Elements.{filter-append}
+use denote.Ref.{Bor}
 use Rattle.lv_values.specs.declared.value.Value.{Value}
 use Rattle.lv_values.specs.Order.{row_cmp, row_eq}
 use Rattle.lv_values.specs.OrderLaws.{row_total}
@@ -246,3 +247,13 @@ pub hit_step : (ps : List ℕ) (key : List Value) (n i : ℕ) (rows : List (List
 hit_step ps key n i rows v vs lt e =
     append_assoc rows (rows_hit ps key n (v ∷ [])) (rows_hit ps key n (drop (i + 1) vs))
     ∙ ap (λ l. rows ++ l) (hit_cons ps key n v (drop (i + 1) vs) ∙ ap (λ x. rows_hit ps key n (x ∷ drop (i + 1) vs)) (sym (got vs i v v e)) ∙ ap (rows_hit ps key n) (sym (drop_more vs i v lt)))
+
+-- ---- rows where they lie
+abbrev pub seen : List (Bor (List Value)) → List (List Value)
+seen rows = map (λ row. row.now) rows
+
+pub long_seen : (rows : List (Bor (List Value))) → length (seen rows) ≡ length rows
+long_seen rows = length-map rows (λ (row : Bor (List Value)). row.now)
+
+pub longer_seen : (rows more : List (Bor (List Value))) (found : List (List Value)) → seen more ≡ seen rows ++ found → length more ≡ length rows + length found
+longer_seen rows more found e = omega (arith, long_seen rows, long_seen more, ap length e, length-append (seen rows) found)

@@ -144,8 +144,7 @@ impl Versions {
     }
 
     /// The rows after commit n that have these values in these columns, in the order of their keys.
-    /// Cost: a copy of each row, and with an index by these columns two binary searches and the versions of all commits
-    /// that have these values, or else one pass over the versions.
+    /// Cost: as of `probe_in_place`, and a copy of each row.
     pub fn probe<L: Ledger>(
         &self,
         alloc: Global,
@@ -156,6 +155,27 @@ impl Versions {
     ) -> Result<Rows, NoMemory>
         requires { self.now.floor ≤ n }
         ensures rows { IfOk result (λ rows. rows ≡ rows_with columns.now values.now (state_at n self.now.versions)) }
+        ensures keyed { Ascends (key_cmp self.now.def.key) (rows_with columns.now values.now (state_at n self.now.versions)) }
+        ensures cost { OnOk result (steps.new ≡ steps.old + length (rows_with columns.now values.now (state_at n self.now.versions))) }
+        ensures most { OnErr result (steps.new ≤ steps.old + length (rows_with columns.now values.now (state_at n self.now.versions))) }
+    {
+        let found = self.probe_in_place(alloc, n, columns, values, steps)?;
+        copies(alloc, &found)
+    }
+
+    /// References to the rows that `probe` copies, where they lie. Cost: a reference to each row, and with an index by
+    /// these columns two binary searches and the versions of all commits that have these values, or else one pass over
+    /// the versions.
+    pub fn probe_in_place<'b, L: Ledger>(
+        &'b self,
+        alloc: Global,
+        n: u64,
+        columns: &[u8],
+        values: &Row,
+        steps: &mut Steps<L>,
+    ) -> Result<Vec<&'b Row>, NoMemory>
+        requires { self.now.floor ≤ n }
+        ensures rows { IfOk result (λ rows. map (λ row. row.now) rows.items ≡ rows_with columns.now values.now (state_at n self.now.versions)) }
         ensures keyed { Ascends (key_cmp self.now.def.key) (rows_with columns.now values.now (state_at n self.now.versions)) }
         ensures cost { OnOk result (steps.new ≡ steps.old + length (rows_with columns.now values.now (state_at n self.now.versions))) }
         ensures most { OnErr result (steps.new ≤ steps.old + length (rows_with columns.now values.now (state_at n self.now.versions))) }
@@ -404,69 +424,71 @@ fn rows_in<L: Ledger, T: Test<Row>>(
     Ok(rows)
 }
 
-/// Appends a copy of the version's row, and takes one step, if the row is there after commit n and has these values.
-fn push_hit<L: Ledger>(
-    alloc: Global,
+/// Copies of the rows that references see.
+fn copies(alloc: Global, found: &[&Row]) -> Result<Rows, NoMemory>
+    ensures { IfOk result (λ rows. rows ≡ map (λ row. row.now) found.now) }
+{
+    let mut rows = Rows::new(alloc);
+    for row in found {
+        rows.push(row.copy(alloc)?)?;
+    }
+    Ok(rows)
+}
+
+/// Appends a reference to the version's row, and takes one step, if the row is there after commit n and has these values.
+fn push_hit<'b, L: Ledger>(
     n: u64,
     columns: &[u8],
     values: &Row,
-    version: &RowVersion,
-    rows: &mut Rows,
+    version: &'b RowVersion,
+    rows: &mut Vec<&'b Row>,
     steps: &mut Steps<L>,
 ) -> Result<(), NoMemory>
-    ensures pushed { OnOk result (rows.new ≡ rows.old ++ rows_hit columns.now values.now n (version.now ∷ [])) }
+    ensures pushed { OnOk result (map (λ row. row.now) rows.new.items ≡ map (λ row. row.now) rows.old.items ++ rows_hit columns.now values.now n (version.now ∷ [])) }
     ensures cost { OnOk result (steps.new ≡ steps.old + length (rows_hit columns.now values.now n (version.now ∷ []))) }
     ensures refused { OnErr result (steps.new ≡ steps.old) }
 {
     if hits(version, columns, values, n) {
-        rows.push(version.row.copy(alloc)?)?;
+        rows.push(&version.row)?;
         steps.tick();
     }
     Ok(())
 }
 
-/// Copies of the rows after commit n that have these values, and one step for each.
-fn rows_with<L: Ledger>(
+/// References to the rows after commit n that have these values, and one step for each.
+fn rows_with<'b, L: Ledger>(
     alloc: Global,
     n: u64,
     columns: &[u8],
     values: &Row,
-    versions: &Shelf<RowVersion>,
+    versions: &'b Shelf<RowVersion>,
     steps: &mut Steps<L>,
-) -> Result<Rows, NoMemory>
-    ensures rows { IfOk result (λ rows. rows ≡ rows_with columns.now values.now (state_at n versions.now.list)) }
+) -> Result<Vec<&'b Row>, NoMemory>
+    ensures rows { IfOk result (λ rows. map (λ row. row.now) rows.items ≡ rows_with columns.now values.now (state_at n versions.now.list)) }
     ensures cost { OnOk result (steps.new ≡ steps.old + length (rows_with columns.now values.now (state_at n versions.now.list))) }
     ensures most { OnErr result (steps.new ≤ steps.old + length (rows_with columns.now values.now (state_at n versions.now.list))) }
 {
-    let mut rows = Rows::new(alloc);
+    let mut rows = Vec::new(alloc);
     for at in 0..versions.len() {
-        push_hit(
-            alloc,
-            n,
-            columns,
-            values,
-            versions.get(at),
-            &mut rows,
-            steps,
-        )?;
+        push_hit(n, columns, values, versions.get(at), &mut rows, steps)?;
     }
     Ok(rows)
 }
 
-/// Copies of the rows after commit n that have these values, from an index by these columns, and one step for each.
+/// References to the rows after commit n that have these values, from an index by these columns, and one step for each.
 /// Cost: two binary searches, and the versions between.
-fn rows_between<L: Ledger>(
+fn rows_between<'b, L: Ledger>(
     alloc: Global,
     n: u64,
     columns: &[u8],
     values: &Row,
     order: usize,
-    versions: &Shelf<RowVersion>,
+    versions: &'b Shelf<RowVersion>,
     steps: &mut Steps<L>,
-) -> Result<Rows, NoMemory>
+) -> Result<Vec<&'b Row>, NoMemory>
     requires order { order < length versions.now.others }
     requires falls { (b : Bool) → Falls (is_upto columns.now values.now b) (other_at versions.now.others order) }
-    ensures rows { IfOk result (λ rows. rows ≡ rows_hit columns.now values.now n (other_at versions.now.others order)) }
+    ensures rows { IfOk result (λ rows. map (λ row. row.now) rows.items ≡ rows_hit columns.now values.now n (other_at versions.now.others order)) }
     ensures cost { OnOk result (steps.new ≡ steps.old + length (rows_hit columns.now values.now n (other_at versions.now.others order))) }
     ensures most { OnErr result (steps.new ≤ steps.old + length (rows_hit columns.now values.now n (other_at versions.now.others order))) }
 {
@@ -483,10 +505,9 @@ fn rows_between<L: Ledger>(
         themselves: true,
     };
     let end = versions.cut_in_near(order, rank, &upto);
-    let mut rows = Rows::new(alloc);
+    let mut rows = Vec::new(alloc);
     for at in first..end {
         push_hit(
-            alloc,
             n,
             columns,
             values,

@@ -1,9 +1,9 @@
-use Rattle.std.proofs.Common.{false, true, ◌+◌, ◌++◌, ◌∷◌, [], length, length-append, drop, ap, sym, ◌∙◌, arith}
+use Rattle.std.proofs.Common.{false, true, ◌+◌, ◌++◌, ◌∷◌, [], length, drop, ap, sym, ◌∙◌, arith}
 use Rattle.std.proofs.lemmas.List.{append-nil}
 use Rattle.lv_shelf.specs.Shelves.{other_at}
 use Rattle.lv_shelf.proofs.Cutting.{got_within}
 use Rattle.lv_versions.specs.Versions.{rows_hit}
-use Rattle.lv_versions.proofs.Finding.{hit_step}
+use Rattle.lv_versions.proofs.Finding.{hit_step, long_seen, longer_seen, seen}
 use Rattle.lv_versions.proofs.Indexing.{hits_from, no_more_hits}
 use Rattle.lv_versions.proofs.versions.rows_between.Goals as goal
 
@@ -19,8 +19,8 @@ loop-at-init g c =
     let values = c.args.values.now in
     let order = other_at c.args.versions.now.others c.args.order in
     record {
-      rows = ap (λ l. l ++ rows_hit columns values c.args.n (drop c.cut_in_near-first.result order)) c.new-rows.ensures ∙ hits_from columns values c.args.n c.cut_in_near-first.result order c.cut_in_near-first.ensures.cut;
-      cost = omega (arith, ap length c.new-rows.ensures);
+      rows = ap (λ l. seen l ++ rows_hit columns values c.args.n (drop c.cut_in_near-first.result order)) c.new-rows.ensures.items ∙ hits_from columns values c.args.n c.cut_in_near-first.result order c.cut_in_near-first.ensures.cut;
+      cost = omega (arith, ap length c.new-rows.ensures.items);
     }
 
 pub get_in-requires-clause-place : goal.get_in-requires-clause-place
@@ -34,21 +34,23 @@ loop-at-preserved g c =
     let i = c.loop-at.at in
     let order = other_at c.args.versions.now.others c.args.order in
     let v = c.get_in.result.now in
-    let more = hit_step columns values n i c.loop-at.rows v order (got_within order i v c.get_in.ensures) c.get_in.ensures in
-    let long = ap length c.in_ok-push_hit.ensures.pushed ∙ length-append c.loop-at.rows (rows_hit columns values n (v ∷ [])) in
+    let more = hit_step columns values n i (seen c.loop-at.rows.items) v order (got_within order i v c.get_in.ensures) c.get_in.ensures in
     record {
       rows = ap (λ l. l ++ rows_hit columns values n (drop (i + 1) order)) c.in_ok-push_hit.ensures.pushed ∙ more ∙ c.loop-at.invariant.rows;
-      cost = omega (arith, c.in_ok-push_hit.ensures.cost, c.loop-at.invariant.cost, long);
+      cost = omega (arith, c.in_ok-push_hit.ensures.cost, c.loop-at.invariant.cost, longer_seen c.loop-at.rows.items c.push_hit.new.rows.items (rows_hit columns values n (v ∷ [])) c.in_ok-push_hit.ensures.pushed);
     }
 
 pub returns-clause-rows : goal.returns-clause-rows
 returns-clause-rows g c =
     let order = other_at c.args.versions.now.others c.args.order in
+    let rows = seen c.loop-at.rows.items in
     let none = no_more_hits c.args.columns.now c.args.values.now c.args.n c.cut_in_near-end.result c.loop-at.at order c.loop-at-test.false c.cut_in_near-end.ensures.cut in
-    sym (append-nil c.loop-at.rows) ∙ sym (ap (λ l. c.loop-at.rows ++ l) none) ∙ c.loop-at.invariant.rows
+    sym (append-nil rows) ∙ sym (ap (λ l. rows ++ l) none) ∙ c.loop-at.invariant.rows
 
 pub returns-clause-cost : goal.returns-clause-cost
 returns-clause-cost g c =
     let order = other_at c.args.versions.now.others c.args.order in
+    let rows = seen c.loop-at.rows.items in
     let none = no_more_hits c.args.columns.now c.args.values.now c.args.n c.cut_in_near-end.result c.loop-at.at order c.loop-at-test.false c.cut_in_near-end.ensures.cut in
-    c.loop-at.invariant.cost ∙ ap (λ l. c.args.steps.now + length l) (sym (append-nil c.loop-at.rows) ∙ sym (ap (λ l. c.loop-at.rows ++ l) none) ∙ c.loop-at.invariant.rows)
+    let all = sym (append-nil rows) ∙ sym (ap (λ l. rows ++ l) none) ∙ c.loop-at.invariant.rows in
+    omega (arith, c.loop-at.invariant.cost, long_seen c.loop-at.rows.items, ap length all)

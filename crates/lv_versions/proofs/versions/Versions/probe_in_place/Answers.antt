@@ -1,4 +1,4 @@
-use Rattle.std.proofs.Common.{◌≡◌, ◌+◌, ◌≤◌, length, ap, subst, ◌∙◌}
+use Rattle.std.proofs.Common.{◌≡◌, ◌+◌, ◌≤◌, length, map, ap, subst, ◌∙◌}
 use Rattle.std.specs.Prelude.{IfOk, OnErr, OnOk}
 use Rattle.lv_values.specs.Rows.{key_cmp}
 use Rattle.lv_schema.specs.Once.{Ascends}
@@ -7,7 +7,7 @@ use Rattle.lv_versions.specs.Versions.{rows_hit, rows_with, state_at}
 use Rattle.lv_versions.proofs.Finding.{hit_rows, with_ascends}
 use Rattle.lv_versions.proofs.Indexing.{indexed_hits, upto_falls}
 use Rattle.lv_versions.proofs.Keeping.{index_at}
-use Rattle.lv_versions.proofs.versions.Versions.probe.Goals as goal
+use Rattle.lv_versions.proofs.versions.Versions.probe_in_place.Goals as goal
 
 pub rows_between-requires : goal.rows_between-requires
 rows_between-requires g c =
@@ -31,7 +31,7 @@ returns-in-Some g c =
     let same : rows_hit columns values n order ≡ rows_with columns values (state_at n c.args.self.now.versions) =
     indexed_hits columns s.def.key values n order s.versions.list c.self.invariant.are.order index.1 ∙ hit_rows columns values n s.versions.list ∙ ap (λ v. rows_with columns values (state_at n v.versions)) c.self.view_is in
     record {
-      rows = subst (λ l. IfOk c.rows_between.result (λ rows. rows ≡ l)) same c.rows_between.ensures.rows;
+      rows = subst (λ l. IfOk c.rows_between.result (λ rows. map (λ row. row.now) rows.items ≡ l)) same c.rows_between.ensures.rows;
       keyed = subst (λ v. Ascends (key_cmp v.def.key) (rows_with columns values (state_at n v.versions))) c.self.view_is (with_ascends s.def.key columns values n s.versions.list c.self.invariant.are.order);
       cost = subst (λ l. OnOk c.rows_between.result (c.rows_between.new.steps ≡ c.args.steps.now + length l)) same c.rows_between.ensures.cost;
       most = subst (λ l. OnErr c.rows_between.result (c.rows_between.new.steps ≤ c.args.steps.now + length l)) same c.rows_between.ensures.most;
