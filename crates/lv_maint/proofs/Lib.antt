@@ -5,3 +5,4 @@ pub mod Balance
 pub mod Terms
 pub mod NetOfTerms
 pub mod Turns
+pub mod AddedPairs

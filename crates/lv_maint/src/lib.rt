@@ -4,9 +4,11 @@
 mod entries;
 mod input;
 mod outcome;
+mod pairs;
 mod sides;
 mod summing;
 
 pub use input::JobInput;
 pub use outcome::{JobResult, compute};
+pub use pairs::PairSums;
 pub use summing::difference;
