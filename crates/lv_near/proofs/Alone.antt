@@ -30,8 +30,8 @@ use Rattle.lv_reach.specs.Reach.{all_fit, are_linked, goes, is_changed, IsFar, I
 use Rattle.lv_reach.proofs.LinkLaws.{found_rolled}
 use Rattle.lv_reach.proofs.NearLaws.{changed_near}
 use Rattle.lv_base.specs.Bases.{BaseRoom, defs_of}
-use Rattle.lv_near.specs.Small.{change_in, whole_parts, with_lost}
-use Rattle.lv_near.proofs.Parts.{among, part}
+use Rattle.lv_near.specs.Small.{old_at, with_lost, with_tables}
+use Rattle.lv_near.proofs.Parts.{among}
 use Rattle.lv_near.proofs.Picked.{any_filter}
 
 -- ---- a link is between two different aliases
@@ -176,9 +176,12 @@ module _ (links : List Link) (apart : AreApart links) (p : Part) where
   }
 
 -- ---- the parts of a view of one alias
-pub one_alias : (b : BaseRoom) (lo hi : ℕ) (cond : Cond) (tables : List ℕ) (small : List Part) → length tables ≡ 1 → AllZip (λ t p. IsPart (table_at (defs_of b) t) p) tables (whole_parts b tables lo hi)
-    → small ≡ map with_lost (map (change_in b lo hi) tables) → IsReachOf (links_of cond) (whole_parts b tables lo hi) small
-one_alias b lo hi cond [] small e each is = absurd (let none = e in omega (arith, none))
-one_alias b lo hi cond (t ∷ []) small e each is =
-    subst (IsReachOf (links_of cond) (part b lo hi t ∷ [])) (sym is) (alone (links_of cond) (links_apart cond) (part b lo hi t) (table_at (defs_of b) t) each.0)
-one_alias b lo hi cond (t ∷ u ∷ tables) small e each is = absurd (let more = e in omega (arith, more))
+pub one_alias : (b : BaseRoom) (lo : ℕ) (cond : Cond) (tables : List ℕ) (changes small : List Part) → length tables ≡ 1 → AllZip (λ t p. IsPart (table_at (defs_of b) t) p) tables (with_tables b tables lo changes)
+    → small ≡ map with_lost changes → IsReachOf (links_of cond) (with_tables b tables lo changes) small
+one_alias b lo cond [] changes small e each is = absurd (let none = e in omega (arith, none))
+one_alias b lo cond (t ∷ []) [] small e each is = absurd each
+one_alias b lo cond (t ∷ []) (p ∷ []) small e each is =
+    let one : Part = record { old = old_at b (t ∷ []) lo 0; minus = p.minus; plus = p.plus } in
+    subst (IsReachOf (links_of cond) (one ∷ [])) (sym is) (alone (links_of cond) (links_apart cond) one (table_at (defs_of b) t) each.0)
+one_alias b lo cond (t ∷ []) (p ∷ q ∷ changes) small e each is = absurd each.1
+one_alias b lo cond (t ∷ u ∷ tables) changes small e each is = absurd (let more = e in omega (arith, more))

@@ -5,6 +5,7 @@ use mathlib.Core.Logic.{inl, inr}
 use Rattle.std.proofs.lemmas.List.{take_more}
 use Rattle.std.specs.List.{filter, AllByRecursion, AllZip}
 use Rattle.lv_schema.specs.declared.part.Part.{Part}
+use Rattle.lv_schema.specs.declared.table.TableDef.{TableDef}
 use Rattle.lv_schema.specs.Jobs.{IsPart}
 use Rattle.lv_schema.specs.Nets.{has_row}
 use Rattle.lv_schema.specs.World.{table_at}
@@ -12,12 +13,12 @@ use Rattle.lv_schema.proofs.Apart.{all_append}
 use Rattle.lv_schema.proofs.ChangeLists.{ARow}
 use Rattle.lv_reach.specs.declared.link.Link.{Link}
 use Rattle.lv_reach.specs.declared.rows.AliasRow.{AliasRow}
-use Rattle.lv_reach.specs.Reach.{AreWithin, IsFar, IsNear, IsReachOf, KeepsReach, Leads, cut_from, is_changed, of_alias, part_at}
+use Rattle.lv_reach.specs.Reach.{AreWithin, IsFar, IsNear, IsReachOf, KeepsReach, Leads, cut_from, is_changed, of_alias, part_at, with_old_from}
 use Rattle.lv_reach.proofs.NearLaws.{changed_near}
 use Rattle.lv_base.specs.Bases.{BaseRoom, defs_of}
-use Rattle.lv_near.specs.Small.{AreEmptyAt, change_in, table_at_commit, whole_parts, with_lost}
+use Rattle.lv_near.specs.Small.{AreEmptyAt, old_at, table_at_commit, with_lost, with_tables}
 use Rattle.lv_near.proofs.FarTold.{far_flag}
-use Rattle.lv_near.proofs.Parts.{first_there, old_is, part, second_there}
+use Rattle.lv_near.proofs.Parts.{first_there, second_there}
 
 -- ---- one more table
 pub empty_more : (b : BaseRoom) (lo : ℕ) (tables : List ℕ) (i d : ℕ) → i < length tables → AreEmptyAt b lo (take i tables) → table_at_commit b lo (get_or tables i d) ≡ [] → AreEmptyAt b lo (take (i + 1) tables)
@@ -56,29 +57,34 @@ module _ (links : List Link) (parts : List Part) (within : AreWithin (length par
       by false e k = inl (changed_near links parts a k)
 
 -- ---- the parts of tables that are empty
-module _ (b : BaseRoom) (lo hi : ℕ) where
-  empty_parts : (tables : List ℕ) → AreEmptyAt b lo tables → AllByRecursion (λ p. p.old ≡ []) (whole_parts b tables lo hi)
-  empty_parts [] empty = tt
-  empty_parts (t ∷ tables) empty = (old_is b lo hi t ∙ empty.0, empty_parts tables empty.1)
+empty_at : (b : BaseRoom) (lo : ℕ) (tables : List ℕ) → AreEmptyAt b lo tables → (alias : ℕ) → old_at b tables lo alias ≡ []
+empty_at b lo [] empty alias = refl
+empty_at b lo (t ∷ tables) empty zero = empty.0
+empty_at b lo (t ∷ tables) empty (suc alias) = empty_at b lo tables empty.1 alias
 
-  lost_cut : (kept : AliasRow → Bool) (i : ℕ) (tables : List ℕ) → AreEmptyAt b lo tables → AllZip (λ t p. IsPart (table_at (defs_of b) t) p) tables (whole_parts b tables lo hi)
-      → map with_lost (map (change_in b lo hi) tables) ≡ cut_from kept i (whole_parts b tables lo hi)
-  lost_cut kept i [] empty each = refl
-  lost_cut kept i (t ∷ tables) empty each =
-      let p = part b lo hi t in
-      let none : p.old ≡ [] = old_is b lo hi t ∙ empty.0 in
-      let old : p.minus ≡ filter (λ row. kept (of_alias i row)) p.old = no_lost p.old p.minus none each.0.there ∙ ap (filter (λ row. kept (of_alias i row))) (sym none) in
-      let rest = lost_cut kept (suc i) tables empty.1 each.1 in
+module _ (rows : ℕ → List ARow) (none : (alias : ℕ) → rows alias ≡ []) where
+  empty_parts : (i : ℕ) (changes : List Part) → AllByRecursion (λ p. p.old ≡ []) (with_old_from rows i changes)
+  empty_parts i [] = tt
+  empty_parts i (p ∷ changes) = (none i, empty_parts (suc i) changes)
+
+  lost_cut : (defs : List TableDef) (kept : AliasRow → Bool) (i : ℕ) (tables : List ℕ) (changes : List Part) → AllZip (λ t p. IsPart (table_at defs t) p) tables (with_old_from rows i changes)
+      → map with_lost changes ≡ cut_from kept i (with_old_from rows i changes)
+  lost_cut defs kept i tables [] each = refl
+  lost_cut defs kept i [] (p ∷ changes) each = absurd each
+  lost_cut defs kept i (t ∷ tables) (p ∷ changes) each =
+      let old : p.minus ≡ filter (λ row. kept (of_alias i row)) (rows i) = no_lost (rows i) p.minus (none i) each.0.there ∙ ap (filter (λ row. kept (of_alias i row))) (sym (none i)) in
+      let rest = lost_cut defs kept (suc i) tables changes each.1 in
       λ x. record { old = old x; minus = p.minus; plus = p.plus } ∷ rest x
 
-  pub empty_before : (links : List Link) (tables : List ℕ) (small : List Part) → AreWithin (length (whole_parts b tables lo hi)) links → AreEmptyAt b lo tables
-      → AllZip (λ t p. IsPart (table_at (defs_of b) t) p) tables (whole_parts b tables lo hi) → small ≡ map with_lost (map (change_in b lo hi) tables) → IsReachOf links (whole_parts b tables lo hi) small
-  empty_before links tables small within empty each is =
-      let whole = whole_parts b tables lo hi in
-      let none = empty_parts tables empty in
-      record {
-        keep = keep links whole within none;
-        keeps = keeps links whole within none;
-        only = only links whole within none;
-        cut_is = is ∙ lost_cut (keep links whole within none) 0 tables empty each;
-      }
+pub empty_before : (b : BaseRoom) (lo : ℕ) (links : List Link) (tables : List ℕ) (changes small : List Part) → AreWithin (length (with_tables b tables lo changes)) links → AreEmptyAt b lo tables
+    → AllZip (λ t p. IsPart (table_at (defs_of b) t) p) tables (with_tables b tables lo changes) → small ≡ map with_lost changes → IsReachOf links (with_tables b tables lo changes) small
+empty_before b lo links tables changes small within empty each is =
+    let whole = with_tables b tables lo changes in
+    let none = empty_at b lo tables empty in
+    let no_rows = empty_parts (λ alias. old_at b tables lo alias) none 0 changes in
+    record {
+      keep = keep links whole within no_rows;
+      keeps = keeps links whole within no_rows;
+      only = only links whole within no_rows;
+      cut_is = is ∙ lost_cut (λ alias. old_at b tables lo alias) none (defs_of b) (keep links whole within no_rows) 0 tables changes each;
+    }

@@ -1,8 +1,12 @@
 pub mod Ordered
 pub mod Picked
 pub mod Parts
+pub mod OnlyOne
 pub mod Inputs
+pub mod Told
 pub mod LinkIndexes
 pub mod Alone
 pub mod FarTold
 pub mod EmptyBefore
+pub mod NoChange
+pub mod PairSteps

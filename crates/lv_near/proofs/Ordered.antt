@@ -1,6 +1,7 @@
 -- Rows in the order of their keys.
-use Rattle.std.proofs.Common.{◌≡◌, ℕ, zero, suc, ◌+◌, ◌-◌, Bool, true, false, ◌||◌, List, [], ◌∷◌, ◌++◌, length, slice_get, Some, refl, sym, ap, ◌∙◌, subst, arith, add-one}
+use Rattle.std.proofs.Common.{◌≡◌, ℕ, zero, suc, ◌+◌, ◌-◌, ◌<◌, Bool, true, false, ◌||◌, List, [], ◌∷◌, ◌++◌, length, take, slice_get, Some, get_or, refl, sym, ap, ◌∙◌, subst, arith, add-one}
 use Rattle.std.proofs.lemmas.Cmp.{upto}
+use Rattle.std.proofs.lemmas.List.{take_more}
 use Rattle.std.proofs.lemmas.List.Folds.{list_any-append}
 use Rattle.std.specs.List.{AllByRecursion}
 use Rattle.std.specs.List.Sorted.{IsSortedByKey}
@@ -77,6 +78,10 @@ module _ (key : List ℕ) where
       last : (rows : List ARow) → AllByRecursion (λ s. key_cmp key r s ≡ Less) rows → key_cmp key r row ≡ Less → AllByRecursion (λ s. key_cmp key r s ≡ Less) (rows ++ row ∷ [])
       last [] a l = (l, tt)
       last (s ∷ rows) a l = (a.0, last rows a.1 l)
+
+  -- one more of some rows, of which those before it ascend
+  pub ascends_more : (rows : List ARow) (i : ℕ) (d : ARow) → i < length rows → Ascends (key_cmp key) (take i rows) → is_above key (take i rows) (get_or rows i d) ≡ true → Ascends (key_cmp key) (take (i + 1) rows)
+  ascends_more rows i d lt up above = subst (Ascends (key_cmp key)) (sym (take_more rows i d lt)) (ascends_behind (get_or rows i d) (take i rows) up (all_below (get_or rows i d) (take i rows) up above))
 
   -- where the last is not below a row, and not above, they have the same key
   ties : (o : Ordering) → is_lt o ≡ false → is_gt o ≡ false → o ≡ Equal

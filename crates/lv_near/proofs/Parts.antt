@@ -31,7 +31,7 @@ use Rattle.lv_reach.specs.Cost.{AreFound, IsReach, whole_from}
 use Rattle.lv_reach.specs.Reach.{alike, cut, cut_from, cut_part, has_alias_row, is_changed, IsFar, IsNear, IsReachOf, kept_by, KeepsReach, of_alias, part_at, with_old, with_old_from}
 use Rattle.lv_reach.proofs.Gathering.{among as alias_among}
 use Rattle.lv_reach.specs.Found.{rows_of_alias, with_found, with_more}
-use Rattle.lv_near.specs.Small.{IsSplit, change_in, old_at, table_at_commit, whole_parts, with_lost}
+use Rattle.lv_near.specs.Small.{IsSplit, change_in, old_at, table_at_commit, whole_parts, with_lost, with_tables}
 use Rattle.lv_near.proofs.Picked.{any_filter}
 
 pub first_there : (a b : Bool) → a ≡ true → (a || b) ≡ true
@@ -63,16 +63,21 @@ among P (r ∷ rows) q a h = by (row_eq q r) refl h (among P rows q a.1)
     by true e k rest = subst P (sym (same_row q r e)) a.0
     by false e k rest = rest k
 
+-- a flag that counts rows, by what they are where it is set
+pub flagged : (flag : Bool) (xs ys : List ARow) → (flag ≡ true → xs ≡ ys) → cond flag (length xs) 0 ≡ cond flag (length ys) 0
+flagged true xs ys same = ap (λ (l : List ARow). length l) (same refl)
+flagged false xs ys same = refl
+
 -- ---- what is kept of a table
+pub key_is : (b : BaseRoom) (t : ℕ) → (table_at (defs_of b) t).key ≡ (table_in b.tables t).def.key
+key_is b t = ap (λ (d : TableDef). d.key) (get_or-map (λ (k : Kept). k.def) b.tables t no_versions)
+
 module _ (b : BaseRoom) (lo hi : ℕ) where
   abbrev pub part : ℕ → Part
   part t = part_in (defs_of b) (base_of b) lo hi t
 
   pub old_is : (t : ℕ) → (part t).old ≡ table_at_commit b lo t
   old_is t = ap (λ versions. map (λ v. v.row) (filter (is_at lo) versions)) (ap (λ k. k.versions) (get_or-map kept_of b.tables t no_versions))
-
-  pub key_is : (t : ℕ) → (table_at (defs_of b) t).key ≡ (table_in b.tables t).def.key
-  key_is t = ap (λ (d : TableDef). d.key) (get_or-map (λ (k : Kept). k.def) b.tables t no_versions)
 
   -- ---- the whole parts are the changes with the old rows
   whole_from_changes : (rows : ℕ → List ARow) (i : ℕ) (tables : List ℕ) → ((k : ℕ) → k < length tables → rows (i + k) ≡ get_or (map (table_at_commit b lo) tables) k [])
@@ -84,62 +89,96 @@ module _ (b : BaseRoom) (lo hi : ℕ) where
       let rest = whole_from_changes rows (suc i) tables (λ k lt. let next : i + suc k ≡ suc i + k = omega arith in subst (λ n. rows n ≡ get_or (map (table_at_commit b lo) tables) k []) next (h (suc k) (omega arith))) in
       λ x. record { old = old x; minus = (part t).minus; plus = (part t).plus } ∷ rest x
 
-  pub changes_with_old : (tables : List ℕ) → with_old (λ alias. old_at b tables lo alias) (map (change_in b lo hi) tables) ≡ whole_parts b tables lo hi
+  pub changes_with_old : (tables : List ℕ) → with_tables b tables lo (map (change_in b lo hi) tables) ≡ whole_parts b tables lo hi
   changes_with_old tables = whole_from_changes (λ alias. old_at b tables lo alias) 0 tables (λ k lt. let same : 0 + k ≡ k = omega arith in ap (λ n. get_or (map (table_at_commit b lo) tables) n []) same)
 
-  part_at_table : (tables : List ℕ) (n t : ℕ) → slice_get tables n ≡ Some t → part_at (map part tables) n ≡ part t
-  part_at_table [] n t h = cc
-  part_at_table (u ∷ tables) zero t h = by h
+-- ---- changes with other rows before them
+module _ (rows : ℕ → List ARow) where
+  part_there : (i : ℕ) (changes : List Part) (j : ℕ) → j < length changes → part_at (with_old_from rows i changes) j ≡ record { old = rows (i + j); minus = (part_at changes j).minus; plus = (part_at changes j).plus }
+  part_there i [] j lt = absurd (let none = lt in omega (arith, none))
+  part_there i (p ∷ changes) zero lt = let e : i ≡ i + 0 = omega arith in λ x. record { old = rows (e x); minus = p.minus; plus = p.plus }
+  part_there i (p ∷ changes) (suc j) lt =
+      let e : suc i + j ≡ i + suc j = omega arith in
+      part_there (suc i) changes j (omega (arith, lt)) ∙ (λ x. record { old = rows (e x); minus = (part_at changes j).minus; plus = (part_at changes j).plus })
+
+  pub part_first : (changes : List Part) (j : ℕ) → j < length changes → part_at (with_old rows changes) j ≡ record { old = rows j; minus = (part_at changes j).minus; plus = (part_at changes j).plus }
+  part_first changes j lt =
+      let e : 0 + j ≡ j = omega arith in
+      part_there 0 changes j lt ∙ (λ x. record { old = rows (e x); minus = (part_at changes j).minus; plus = (part_at changes j).plus })
+
+  pub minus_there : (i : ℕ) (changes : List Part) (j : ℕ) → (part_at (with_old_from rows i changes) j).minus ≡ (part_at changes j).minus
+  minus_there i [] j = refl
+  minus_there i (p ∷ changes) zero = refl
+  minus_there i (p ∷ changes) (suc j) = minus_there (suc i) changes j
+
+  pub plus_there : (i : ℕ) (changes : List Part) (j : ℕ) → (part_at (with_old_from rows i changes) j).plus ≡ (part_at changes j).plus
+  plus_there i [] j = refl
+  plus_there i (p ∷ changes) zero = refl
+  plus_there i (p ∷ changes) (suc j) = plus_there (suc i) changes j
+
+  pub as_long : (i : ℕ) (changes : List Part) → length (with_old_from rows i changes) ≡ length changes
+  as_long i [] = refl
+  as_long i (p ∷ changes) = ap suc (as_long (suc i) changes)
+
+-- ---- parts of the tables of the aliases
+pub table_here : (tables : List ℕ) (alias : ℕ) → alias < length tables → (t : ℕ) × (slice_get tables alias ≡ Some t)
+table_here [] alias lt = absurd (let none = lt in omega (arith, none))
+table_here (t ∷ tables) zero lt = (t, refl)
+table_here (t ∷ tables) (suc alias) lt = table_here tables alias (omega (arith, lt))
+
+pub part_here : (defs : List TableDef) (tables : List ℕ) (parts : List Part) (alias t : ℕ) → AllZip (λ t p. IsPart (table_at defs t) p) tables parts → slice_get tables alias ≡ Some t → IsPart (table_at defs t) (part_at parts alias)
+part_here defs [] parts alias t all h = cc
+part_here defs (u ∷ tables) [] alias t all h = absurd all
+part_here defs (u ∷ tables) (p ∷ parts) zero t all h = by h
+  where
+    by : Some u ≡ Some t → IsPart (table_at defs t) p
+    by e = let same : u ≡ t = cc in subst (λ x. IsPart (table_at defs x) p) same all.0
+part_here defs (u ∷ tables) (p ∷ parts) (suc alias) t all h = part_here defs tables parts alias t all.1 h
+
+pub as_many_parts : (defs : List TableDef) (tables : List ℕ) (parts : List Part) → AllZip (λ t p. IsPart (table_at defs t) p) tables parts → length parts ≡ length tables
+as_many_parts defs [] [] all = refl
+as_many_parts defs [] (p ∷ parts) all = absurd all
+as_many_parts defs (t ∷ tables) [] all = absurd all
+as_many_parts defs (t ∷ tables) (p ∷ parts) all = ap suc (as_many_parts defs tables parts all.1)
+
+pub old_of_table : (b : BaseRoom) (lo : ℕ) (tables : List ℕ) (alias t : ℕ) → slice_get tables alias ≡ Some t → old_at b tables lo alias ≡ table_at_commit b lo t
+old_of_table b lo [] alias t h = cc
+old_of_table b lo (u ∷ tables) zero t h = by h
+  where
+    by : Some u ≡ Some t → table_at_commit b lo u ≡ table_at_commit b lo t
+    by e = let same : u ≡ t = cc in ap (table_at_commit b lo) same
+old_of_table b lo (u ∷ tables) (suc alias) t h = old_of_table b lo tables alias t h
+
+-- ---- the near rows of an alias that are old
+module _ (parts : List Part) (near : List AliasRow) (changed : ℕ) (found : AreFound parts (take changed near) (drop changed near)) where
+  near_split : (q : AliasRow) → has_alias_row q near ≡ (has_alias_row q (take changed near) || has_alias_row q (drop changed near))
+  near_split q = ap (has_alias_row q) (sym (take-append-drop changed near)) ∙ list_any-append (alike q) (take changed near) (drop changed near)
+
+  -- the rows that were looked up are among these old ones, and so are those that go
+  pub is_split : (key : List ℕ) (n : ℕ) (p : Part) (old : List ARow) → part_at parts n ≡ p → Ascends (key_cmp key) old → AllByRecursion (λ row. has_row row old ≡ true) p.minus
+      → AllByRecursion (λ row. has_row row old ≡ false) p.plus → ((q : ARow) → has_row q p.old ≡ true → has_row q old ≡ true) → IsSplit key near changed n p.minus old
+  is_split key n p old here up there absent within = record { up = up; old_near = λ q. same_flag _ _ (forth q (has_row q p.minus) refl) (back q) }
     where
-      by : Some u ≡ Some t → part u ≡ part t
-      by e = let same : u ≡ t = cc in ap part same
-  part_at_table (u ∷ tables) (suc n) t h = part_at_table tables n t h
+      forth : (q : ARow) (s : Bool) → has_row q p.minus ≡ s → (s || has_alias_row (of_alias n q) (drop changed near)) ≡ true → (has_row q old && has_alias_row (of_alias n q) near) ≡ true
+      forth q true e h =
+          both_there _ _ (among (λ r. has_row r old ≡ true) p.minus q there e)
+          (near_split (of_alias n q) ∙ first_there _ _ (found.all (of_alias n q) (ap (λ x. is_changed x q) here ∙ first_there _ (has_row q p.plus) e)))
+      forth q false e h =
+          both_there _ _ (within q (ap (λ x. has_row q x.old) (sym here) ∙ alias_among (λ a. has_row a.row (part_at parts a.alias).old ≡ true) (drop changed near) (of_alias n q) found.old h))
+          (near_split (of_alias n q) ∙ second_there _ _ h)
 
-  is_part_at : (defs : List TableDef) (tables : List ℕ) (n t : ℕ) → AllZip (λ t p. IsPart (table_at defs t) p) tables (map part tables) → slice_get tables n ≡ Some t → IsPart (table_at defs t) (part t)
-  is_part_at defs [] n t all h = cc
-  is_part_at defs (u ∷ tables) zero t all h = by h
-    where
-      by : Some u ≡ Some t → IsPart (table_at defs t) (part t)
-      by e = let same : u ≡ t = cc in subst (λ x. IsPart (table_at defs x) (part x)) same all.0
-  is_part_at defs (u ∷ tables) (suc n) t all h = is_part_at defs tables n t all.1 h
-
-  -- ---- the near rows of an alias that are old
-  module _ (links : List Link) (tables : List ℕ) (near : List AliasRow) (far : ℕ → Bool) (changed : ℕ)
-      (each : AllZip (λ t p. IsPart (table_at (defs_of b) t) p) tables (whole_parts b tables lo hi))
-      (found : AreFound (whole_parts b tables lo hi) (take changed near) (drop changed near)) where
-    near_split : (q : AliasRow) → has_alias_row q near ≡ (has_alias_row q (take changed near) || has_alias_row q (drop changed near))
-    near_split q = ap (has_alias_row q) (sym (take-append-drop changed near)) ∙ list_any-append (alike q) (take changed near) (drop changed near)
-
-    pub is_split : (n t : ℕ) → slice_get tables n ≡ Some t → IsSplit (table_in b.tables t).def.key near changed n (change_in b lo hi t).minus (table_at_commit b lo t)
-    is_split n t at =
-        let p = part t in
-        let here : part_at (whole_parts b tables lo hi) n ≡ p = part_at_table tables n t at in
-        let is : IsPart (table_at (defs_of b) t) p = is_part_at (defs_of b) tables n t each at in
-        record {
-          up = subst (λ key. Ascends (key_cmp key) (table_at_commit b lo t)) (key_is t) (subst (Ascends (key_cmp (table_at (defs_of b) t).key)) (old_is t) is.old_keyed);
-          old_near = λ q. same_flag _ _ (forth p here (old_is t) is q (has_row q p.minus) refl) (back p here (old_is t) is q);
-        }
-      where
-        forth : (p : Part) → part_at (whole_parts b tables lo hi) n ≡ p → p.old ≡ table_at_commit b lo t → IsPart (table_at (defs_of b) t) p → (q : ARow) (s : Bool) → has_row q p.minus ≡ s → (s || has_alias_row (of_alias n q) (drop changed near)) ≡ true → (has_row q (table_at_commit b lo t) && has_alias_row (of_alias n q) near) ≡ true
-        forth p here old is q true e h =
-            both_there _ _ (ap (has_row q) (sym old) ∙ among (λ r. has_row r p.old ≡ true) p.minus q is.there e)
-            (near_split (of_alias n q) ∙ first_there _ _ (found.all (of_alias n q) (ap (λ x. is_changed x q) here ∙ first_there _ (has_row q p.plus) e)))
-        forth p here old is q false e h =
-            both_there _ _ (ap (has_row q) (sym old) ∙ ap (λ x. has_row q x.old) (sym here) ∙ alias_among (λ a. has_row a.row (part_at (whole_parts b tables lo hi) a.alias).old ≡ true) (drop changed near) (of_alias n q) found.old h)
-            (near_split (of_alias n q) ∙ second_there _ _ h)
-
-        back : (p : Part) → part_at (whole_parts b tables lo hi) n ≡ p → p.old ≡ table_at_commit b lo t → IsPart (table_at (defs_of b) t) p → (q : ARow) → (has_row q (table_at_commit b lo t) && has_alias_row (of_alias n q) near) ≡ true → (has_row q p.minus || has_alias_row (of_alias n q) (drop changed near)) ≡ true
-        back p here old is q h =
-            let both = and_parts (has_row q (table_at_commit b lo t)) (has_alias_row (of_alias n q) near) h in
-            by (has_alias_row (of_alias n q) (drop changed near)) refl (has_row q p.minus) (has_row q p.plus) refl refl (ap (has_row q) old ∙ both.0)
-            (λ e. ap (λ x. is_changed x q) (sym here) ∙ found.changed (of_alias n q) (other_there (has_alias_row (of_alias n q) (take changed near)) _ e (sym (near_split (of_alias n q)) ∙ both.1)))
-          where
-            by : (t : Bool) → has_alias_row (of_alias n q) (drop changed near) ≡ t → (u v : Bool) → has_row q p.minus ≡ u → has_row q p.plus ≡ v → has_row q p.old ≡ true
-                → (has_alias_row (of_alias n q) (drop changed near) ≡ false → is_changed p q ≡ true) → (has_row q p.minus || has_alias_row (of_alias n q) (drop changed near)) ≡ true
-            by true e u v f g o k = second_there _ _ e
-            by false e true v f g o k = first_there _ _ f
-            by false e false true f g o k = let no : true ≡ false = sym o ∙ among (λ r. has_row r p.old ≡ false) p.plus q is.absent g in cc
-            by false e false false f g o k = let no : true ≡ false = sym (k e) ∙ (λ x. f x || g x) in cc
+      back : (q : ARow) → (has_row q old && has_alias_row (of_alias n q) near) ≡ true → (has_row q p.minus || has_alias_row (of_alias n q) (drop changed near)) ≡ true
+      back q h =
+          let both = and_parts (has_row q old) (has_alias_row (of_alias n q) near) h in
+          by (has_alias_row (of_alias n q) (drop changed near)) refl (has_row q p.minus) (has_row q p.plus) refl refl both.0
+          (λ e. ap (λ x. is_changed x q) (sym here) ∙ found.changed (of_alias n q) (other_there (has_alias_row (of_alias n q) (take changed near)) _ e (sym (near_split (of_alias n q)) ∙ both.1)))
+        where
+          by : (t : Bool) → has_alias_row (of_alias n q) (drop changed near) ≡ t → (u v : Bool) → has_row q p.minus ≡ u → has_row q p.plus ≡ v → has_row q old ≡ true
+              → (has_alias_row (of_alias n q) (drop changed near) ≡ false → is_changed p q ≡ true) → (has_row q p.minus || has_alias_row (of_alias n q) (drop changed near)) ≡ true
+          by true e u v f g o k = second_there _ _ e
+          by false e true v f g o k = first_there _ _ f
+          by false e false true f g o k = let no : true ≡ false = sym o ∙ among (λ r. has_row r old ≡ false) p.plus q absent g in cc
+          by false e false false f g o k = let no : true ≡ false = sym (k e) ∙ (λ x. f x || g x) in cc
 
 -- ---- the reach is kept
 past_end : (flags : List Bool) (j : ℕ) → length flags ≤ j → get_or flags j true ≡ true
@@ -194,7 +233,7 @@ long_both : (xs ys : List ARow) → length (xs ++ ys) ≡ length xs + length ys
 long_both [] ys = omega arith
 long_both (x ∷ xs) ys = omega (arith, long_both xs ys)
 
-part_cut : (def : TableDef) (p : Part) (keep : AliasRow → Bool) (i : ℕ) → IsPart def p → ((row : ARow) → has_row row p.minus ≡ true → keep (of_alias i row) ≡ true) → IsPart def (cut_part keep i p)
+pub part_cut : (def : TableDef) (p : Part) (keep : AliasRow → Bool) (i : ℕ) → IsPart def p → ((row : ARow) → has_row row p.minus ≡ true → keep (of_alias i row) ≡ true) → IsPart def (cut_part keep i p)
 part_cut def p keep i is minus_kept =
     let f : ARow → Bool = λ row. keep (of_alias i row) in
     record {
@@ -212,7 +251,7 @@ part_cut def p keep i is minus_kept =
           omega (arith, few, most, long_both (lacking (filter f p.old) p.minus) p.plus, long_both (lacking p.old p.minus) p.plus);
     }
 
-zip_cut : (defs : List TableDef) (keep : AliasRow → Bool) (i : ℕ) (ts : List ℕ) (ps : List Part) → AllZip (λ t p. IsPart (table_at defs t) p) ts ps
+pub zip_cut : (defs : List TableDef) (keep : AliasRow → Bool) (i : ℕ) (ts : List ℕ) (ps : List Part) → AllZip (λ t p. IsPart (table_at defs t) p) ts ps
     → ((j : ℕ) (row : ARow) → has_row row (part_at ps j).minus ≡ true → keep (of_alias (i + j) row) ≡ true) → AllZip (λ t p. IsPart (table_at defs t) p) ts (cut_from keep i ps)
 zip_cut defs keep i [] [] all h = tt
 zip_cut defs keep i [] (p ∷ ps) all h = absurd all
@@ -240,26 +279,25 @@ fit_cut tables views def parts small keep fit changed is = (
 )
 
 -- ---- a loop over the changes with the near rows
-pub near_at : (b : BaseRoom) (lo hi i : ℕ) (found : List AliasRow) (seen : List Part) (one : Part) (rest : List Part) (tables : List ℕ) (at alias : ℕ) → at ≡ length seen → alias ≡ i + at
-    → seen ++ one ∷ rest ≡ with_found i (map with_lost (map (change_in b lo hi) tables)) found
-    → (t : ℕ) × (slice_get tables at ≡ Some t) × (one ≡ with_more (with_lost (change_in b lo hi t)) (rows_of_alias alias found))
-near_at b lo hi i found [] one rest [] at alias e n h = cc
-near_at b lo hi i found [] one rest (t ∷ tables) zero alias e n h = (t, refl, first h ∙ ap (λ k. with_more (with_lost (change_in b lo hi t)) (rows_of_alias k found)) (omega (arith, n)))
+pub near_at : (i : ℕ) (found : List AliasRow) (seen : List Part) (one : Part) (rest : List Part) (changes : List Part) (at alias : ℕ) → at ≡ length seen → alias ≡ i + at
+    → seen ++ one ∷ rest ≡ with_found i (map with_lost changes) found → one ≡ with_more (with_lost (part_at changes at)) (rows_of_alias alias found)
+near_at i found [] one rest [] at alias e n h = cc
+near_at i found [] one rest (p ∷ changes) zero alias e n h = first h ∙ ap (λ k. with_more (with_lost p) (rows_of_alias k found)) (omega (arith, n))
   where
-    first : one ∷ rest ≡ with_more (with_lost (change_in b lo hi t)) (rows_of_alias i found) ∷ with_found (suc i) (map with_lost (map (change_in b lo hi) tables)) found → one ≡ with_more (with_lost (change_in b lo hi t)) (rows_of_alias i found)
+    first : one ∷ rest ≡ with_more (with_lost p) (rows_of_alias i found) ∷ with_found (suc i) (map with_lost changes) found → one ≡ with_more (with_lost p) (rows_of_alias i found)
     first h = cc
-near_at b lo hi i found [] one rest (t ∷ tables) (suc at) alias e n h = absurd (let none = e in omega (arith, none))
-near_at b lo hi i found (p ∷ seen) one rest [] at alias e n h = cc
-near_at b lo hi i found (p ∷ seen) one rest (t ∷ tables) zero alias e n h = absurd (let none = e in omega (arith, none))
-near_at b lo hi i found (p ∷ seen) one rest (t ∷ tables) (suc at) alias e n h = near_at b lo hi (suc i) found seen one rest tables at alias (omega (arith, e)) (omega (arith, n)) (others h)
+near_at i found [] one rest (p ∷ changes) (suc at) alias e n h = absurd (let none = e in omega (arith, none))
+near_at i found (q ∷ seen) one rest [] at alias e n h = cc
+near_at i found (q ∷ seen) one rest (p ∷ changes) zero alias e n h = absurd (let none = e in omega (arith, none))
+near_at i found (q ∷ seen) one rest (p ∷ changes) (suc at) alias e n h = near_at (suc i) found seen one rest changes at alias (omega (arith, e)) (omega (arith, n)) (others h)
   where
-    others : p ∷ (seen ++ one ∷ rest) ≡ with_more (with_lost (change_in b lo hi t)) (rows_of_alias i found) ∷ with_found (suc i) (map with_lost (map (change_in b lo hi) tables)) found
-        → seen ++ one ∷ rest ≡ with_found (suc i) (map with_lost (map (change_in b lo hi) tables)) found
+    others : q ∷ (seen ++ one ∷ rest) ≡ with_more (with_lost p) (rows_of_alias i found) ∷ with_found (suc i) (map with_lost changes) found
+        → seen ++ one ∷ rest ≡ with_found (suc i) (map with_lost changes) found
     others h = cc
 
-pub as_many_near : (b : BaseRoom) (lo hi i : ℕ) (found : List AliasRow) (tables : List ℕ) → length (with_found i (map with_lost (map (change_in b lo hi) tables)) found) ≡ length tables
-as_many_near b lo hi i found [] = refl
-as_many_near b lo hi i found (t ∷ tables) = omega (arith, as_many_near b lo hi (suc i) found tables)
+pub as_many_near : (i : ℕ) (found : List AliasRow) (changes : List Part) → length (with_found i (map with_lost changes) found) ≡ length changes
+as_many_near i found [] = refl
+as_many_near i found (p ∷ changes) = omega (arith, as_many_near (suc i) found changes)
 
 pub at_of : (tables : List ℕ) (alias t d : ℕ) → slice_get tables alias ≡ Some t → get_or tables alias d ≡ t
 at_of [] alias t d h = cc
@@ -271,48 +309,47 @@ below_of [] alias t h = cc
 below_of (u ∷ tables) zero t h = omega arith
 below_of (u ∷ tables) (suc alias) t h = let rest = below_of tables alias t h in omega (arith, rest)
 
-drop_table : (f : ℕ → Part) (tables : List ℕ) (alias t : ℕ) → slice_get tables alias ≡ Some t → drop alias (map f tables) ≡ f t ∷ drop (suc alias) (map f tables)
-drop_table f [] alias t h = cc
-drop_table f (u ∷ tables) zero t h = by h
-  where
-    by : Some u ≡ Some t → f u ∷ map f tables ≡ f t ∷ map f tables
-    by e = let same : u ≡ t = cc in ap (λ x. f x ∷ map f tables) same
-drop_table f (u ∷ tables) (suc alias) t h = drop_table f tables alias t h
+drop_part : (changes : List Part) (alias : ℕ) → alias < length changes → drop alias changes ≡ part_at changes alias ∷ drop (suc alias) changes
+drop_part [] alias lt = absurd (let none = lt in omega (arith, none))
+drop_part (p ∷ changes) zero lt = refl
+drop_part (p ∷ changes) (suc alias) lt = drop_part changes alias (omega (arith, lt))
 
-module _ (b : BaseRoom) (lo hi : ℕ) (tables : List ℕ) (near : List AliasRow) (flags : List Bool) where
-  pub small_step : (out all new : List Part) (alias t : ℕ) (old : List ARow) → slice_get tables alias ≡ Some t → out ++ cut_from (kept_by near flags) alias (drop alias (whole_parts b tables lo hi)) ≡ all
-      → old ≡ filter (λ row. kept_by near flags (of_alias alias row)) (table_at_commit b lo t)
-      → new ≡ out ++ record { old = old; minus = (change_in b lo hi t).minus; plus = (change_in b lo hi t).plus } ∷ []
-      → new ++ cut_from (kept_by near flags) (alias + 1) (drop (alias + 1) (whole_parts b tables lo hi)) ≡ all
-  small_step out all new alias t old at h old_is_kept is =
+module _ (rows : ℕ → List ARow) (changes : List Part) (near : List AliasRow) (flags : List Bool) where
+  -- the parts from an alias on
+  abbrev from_on : ℕ → List Part
+  from_on alias = with_old_from rows alias (drop alias changes)
+
+  next_on : (alias : ℕ) → alias < length changes → from_on alias ≡ record { old = rows alias; minus = (part_at changes alias).minus; plus = (part_at changes alias).plus } ∷ from_on (suc alias)
+  next_on alias lt = ap (with_old_from rows alias) (drop_part changes alias lt) ∙ next alias (drop (suc alias) changes)
+    where
+      next : (alias : ℕ) (rest : List Part)
+          → with_old_from rows alias (part_at changes alias ∷ rest) ≡ record { old = rows alias; minus = (part_at changes alias).minus; plus = (part_at changes alias).plus } ∷ with_old_from rows (suc alias) rest
+      next alias rest = refl
+
+  pub small_step : (out all new : List Part) (alias : ℕ) (old : List ARow) → alias < length changes → out ++ cut_from (kept_by near flags) alias (with_old_from rows alias (drop alias changes)) ≡ all
+      → old ≡ filter (λ row. kept_by near flags (of_alias alias row)) (rows alias)
+      → new ≡ out ++ record { old = old; minus = (part_at changes alias).minus; plus = (part_at changes alias).plus } ∷ []
+      → new ++ cut_from (kept_by near flags) (alias + 1) (with_old_from rows (alias + 1) (drop (alias + 1) changes)) ≡ all
+  small_step out all new alias old lt h old_is_kept is =
       let keep = kept_by near flags in
-      let rest = cut_from keep (alias + 1) (drop (alias + 1) (whole_parts b tables lo hi)) in
+      let p = part_at changes alias in
+      let rest = cut_from keep (alias + 1) (from_on (alias + 1)) in
       let next : alias + 1 ≡ suc alias = omega arith in
-      let one : record { old = old; minus = (change_in b lo hi t).minus; plus = (change_in b lo hi t).plus } ≡ cut_part keep alias (part b lo hi t) =
-      λ i. record { old = (old_is_kept ∙ ap (filter (λ row. keep (of_alias alias row))) (sym (old_is b lo hi t))) i; minus = (change_in b lo hi t).minus; plus = (change_in b lo hi t).plus } in
+      let one : record { old = old; minus = p.minus; plus = p.plus } ≡ cut_part keep alias (record { old = rows alias; minus = p.minus; plus = p.plus }) =
+      λ i. record { old = old_is_kept i; minus = p.minus; plus = p.plus } in
       ap (λ l. l ++ rest) is
-      ∙ append_assoc out (record { old = old; minus = (change_in b lo hi t).minus; plus = (change_in b lo hi t).plus } ∷ []) rest
-      ∙ ap (λ p. out ++ p ∷ rest) one
-      ∙ ap (λ n. out ++ cut_part keep alias (part b lo hi t) ∷ cut_from keep n (drop n (whole_parts b tables lo hi))) next
-      ∙ ap (λ l. out ++ cut_from keep alias l) (sym (drop_table (part b lo hi) tables alias t at))
+      ∙ append_assoc out (record { old = old; minus = p.minus; plus = p.plus } ∷ []) rest
+      ∙ ap (λ q. out ++ q ∷ rest) one
+      ∙ ap (λ n. out ++ cut_part keep alias (record { old = rows alias; minus = p.minus; plus = p.plus }) ∷ cut_from keep n (from_on n)) next
+      ∙ ap (λ l. out ++ cut_from keep alias l) (sym (next_on alias lt))
       ∙ h
 
   abbrev far : ℕ → Bool
   far j = get_or flags j true
 
-  pub whole_step : (alias t : ℕ) → slice_get tables alias ≡ Some t
-      → whole_from far alias (drop alias (whole_parts b tables lo hi)) ≡ cond (far alias) (length (table_at_commit b lo t)) 0 + whole_from far (alias + 1) (drop (alias + 1) (whole_parts b tables lo hi))
-  whole_step alias t at =
+  pub whole_step : (alias : ℕ) → alias < length changes
+      → whole_from far alias (with_old_from rows alias (drop alias changes)) ≡ cond (far alias) (length (rows alias)) 0 + whole_from far (alias + 1) (with_old_from rows (alias + 1) (drop (alias + 1) changes))
+  whole_step alias lt =
       let next : suc alias ≡ alias + 1 = omega arith in
-      ap (whole_from far alias) (drop_table (part b lo hi) tables alias t at)
-      ∙ ap (λ (l : List ARow). cond (far alias) (length l) 0 + whole_from far (suc alias) (drop (suc alias) (whole_parts b tables lo hi))) (old_is b lo hi t)
-      ∙ ap (λ n. cond (far alias) (length (table_at_commit b lo t)) 0 + whole_from far n (drop n (whole_parts b tables lo hi))) next
-
-  pub past_parts : (alias : ℕ) → length tables ≤ alias → (drop alias (whole_parts b tables lo hi)) ≡ []
-  past_parts alias le = none tables alias le
-    where
-      none : (ts : List ℕ) (n : ℕ) → length ts ≤ n → drop n (map (part b lo hi) ts) ≡ []
-      none [] zero le = refl
-      none [] (suc n) le = refl
-      none (t ∷ ts) zero le = absurd (let no = le in omega (arith, no))
-      none (t ∷ ts) (suc n) le = none ts n (omega arith)
+      ap (whole_from far alias) (next_on alias lt)
+      ∙ ap (λ n. cond (far alias) (length (rows alias)) 0 + whole_from far n (from_on n)) next

@@ -1,5 +1,5 @@
 -- What a step of a view is computed from, told from the committed states as they are kept.
-use Rattle.std.specs.Prelude.{◌≡◌, ℕ, ◌≤◌, ◌&&◌, ◌||◌, Bool, true, false, nat_lt, List, [], ◌∷◌, map, length, drop, slice_index_or}
+use Rattle.std.specs.Prelude.{◌≡◌, ℕ, ◌≤◌, ◌&&◌, ◌||◌, ◌==◌, Bool, true, false, cond, nat_lt, List, [], ◌∷◌, map, length, drop, slice_index_or, Option, Some, None}
 use Rattle.std.specs.List.{AllByRecursion, list_all}
 use Rattle.std.specs.Ordering.{is_lt}
 use Rattle.std.specs.declared.cmp.Ordering.TheVariants.{Equal}
@@ -15,7 +15,7 @@ use Rattle.lv_base.specs.Bases.{BaseRoom, base_of, defs_of, table_in}
 use Rattle.lv_maint.specs.Inputs.{Input}
 use Rattle.lv_reach.specs.declared.rows.AliasRow.{AliasRow}
 use Rattle.lv_reach.specs.Links.{links_of}
-use Rattle.lv_reach.specs.Reach.{IsReachOf, has_alias_row, of_alias}
+use Rattle.lv_reach.specs.Reach.{IsReachOf, has_alias_row, of_alias, part_at, with_old}
 
 -- the rows of a table at a commit, and of an alias
 abbrev pub table_at_commit : BaseRoom → ℕ → ℕ → List (List Value)
@@ -23,6 +23,27 @@ table_at_commit b lo t = shown lo (table_in b.tables t).versions
 
 abbrev pub old_at : BaseRoom → List ℕ → ℕ → ℕ → List (List Value)
 old_at b tables lo alias = slice_index_or (map (table_at_commit b lo) tables) alias []
+
+-- changes with the whole tables before them
+abbrev pub with_tables : BaseRoom → List ℕ → ℕ → List Part → List Part
+with_tables b tables lo changes = with_old (λ alias. old_at b tables lo alias) changes
+
+-- whether an alias is the one that alone changes, if there is one
+abbrev pub is_alone : Option ℕ → ℕ → Bool
+is_alone None alias = false
+is_alone (Some i) alias = alias == i
+
+-- the rows of an alias that can be looked up: none of the one that alone changes
+abbrev pub looked_at : BaseRoom → List ℕ → ℕ → Option ℕ → ℕ → List (List Value)
+looked_at b tables lo changing alias = cond (is_alone changing alias) [] (old_at b tables lo alias)
+
+-- the rows of an alias that a step needs some of: of the one that alone changes those that go
+abbrev pub needed_of : BaseRoom → List ℕ → ℕ → Option ℕ → List Part → ℕ → List (List Value)
+needed_of b tables lo changing changes alias = cond (is_alone changing alias) (part_at changes alias).minus (old_at b tables lo alias)
+
+-- no row of a part changes
+abbrev pub StaysSame : Part → Type 0
+StaysSame p = (p.minus ≡ []) × (p.plus ≡ [])
 
 -- tables that can be read at a commit
 pub record CanRead (b : BaseRoom) (tables : List ℕ) (lo : ℕ) : Type 0 where

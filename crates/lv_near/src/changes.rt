@@ -1,7 +1,8 @@
 //! What changes of the tables of a view between two commits.
-ghost use Rattle.std.specs.Prelude.{◌≡◌, ◌<◌, true, length, map, nat_lt, IfOk};
-ghost use Rattle.std.specs.List.{list_all};
-ghost use Rattle.lv_near.specs.Small.{change_in};
+ghost use Rattle.std.specs.Prelude.{◌≡◌, ◌<◌, ◌≤◌, ℕ, true, Some, None, length, map, nat_lt, IfOk};
+ghost use Rattle.std.specs.List.{list_all, AllByRecursion};
+ghost use Rattle.lv_near.specs.Small.{StaysSame, change_in};
+ghost use Rattle.lv_reach.specs.Within.{OnlyChanges};
 
 use crate::source::TablesBetween;
 use lv_condense::condense;
@@ -33,4 +34,48 @@ pub(crate) fn changes_between(alloc: Global, at: &TablesBetween<'_>) -> Result<P
         changes.push(change_of(alloc, at, *table)?)?;
     }
     Ok(changes)
+}
+
+/// Whether no row of a part changes.
+fn stays_same(part: &Part) -> bool
+    ensures is { result ≡ true → StaysSame part.now }
+    ensures all { StaysSame part.now → result ≡ true }
+{
+    part.minus.is_empty() && part.plus.is_empty()
+}
+
+/// Whether no row of these parts changes.
+#[tactic(auto, using(crate::proofs::OnlyOne::stay_more, crate::proofs::OnlyOne::stay_at))]
+pub(crate) fn all_stay_same(parts: &[Part]) -> bool
+    ensures is { result ≡ true → AllByRecursion StaysSame parts.now }
+    ensures all { AllByRecursion StaysSame parts.now → result ≡ true }
+{
+    for part in parts {
+        if !stays_same(part) {
+            return false;
+        }
+    }
+    true
+}
+
+/// The alias that alone changes, if there is one. Cost: constant for each alias.
+#[tactic(auto, using(crate::proofs::OnlyOne::stay_more))]
+pub(crate) fn only_changing(parts: &[Part]) -> Option<u8>
+    requires { length parts.now ≤ 255 }
+    ensures one { (i : ℕ) → result ≡ Some i → OnlyChanges i parts.now × (i < length parts.now) }
+    ensures it { (i j : ℕ) → result ≡ Some i → OnlyChanges j parts.now → i ≡ j }
+    ensures none { (j : ℕ) → result ≡ None → OnlyChanges j parts.now → AllByRecursion StaysSame parts.now }
+{
+    let mut at = 0;
+    while at < parts.len() {
+        if !stays_same(&parts[at]) {
+            return if all_stay_same(&parts[at + 1..]) {
+                Some(at as u8)
+            } else {
+                None
+            };
+        }
+        at += 1;
+    }
+    None
 }

@@ -3,9 +3,11 @@
 #![tactic(auto)]
 
 mod changes;
+mod differing;
 mod input;
 mod ordering;
 mod orders;
+mod pairs;
 mod picking;
 mod source;
 

@@ -1,99 +1,122 @@
-use Rattle.std.proofs.Common.{◌≡◌, ◌++◌, ◌∷◌, [], List, true, cond, drop, map, length, slice_index_or, rules, refl, sym, ap, ◌∙◌, subst, append_assoc, length-append, arith}
+use Rattle.std.proofs.Common.{◌≡◌, ◌<◌, ◌++◌, ◌∷◌, [], List, true, cond, drop, map, length, slice_index_or, rules, refl, sym, ap, ◌∙◌, subst, append_assoc, length-append, arith}
 use Rattle.lv_schema.specs.declared.part.Part.{Part}
 use Rattle.lv_base.specs.Bases.{table_in}
 use Rattle.lv_reach.specs.Found.{rows_of_alias, with_found}
+use Rattle.lv_reach.specs.Reach.{part_at}
 use Rattle.lv_reach.proofs.Asking.{on_err}
-use Rattle.lv_near.specs.Small.{HaveOwnKeys, IsPicked, change_in, table_at_commit, with_lost}
-use Rattle.lv_near.proofs.Parts.{as_many_near, at_of, near_at, small_step, whole_step}
+use Rattle.lv_near.specs.Small.{HaveOwnKeys, IsPicked, needed_of, table_at_commit, with_lost}
+use Rattle.lv_near.proofs.Parts.{as_many_near, at_of, flagged, near_at, small_step, table_here, whole_step}
 use Rattle.lv_near.proofs.Picked.{picked_kept, picked_own}
 use Rattle.lv_near.proofs.input.small_parts.Goals as goal
 
 pub loop-part-init : goal.loop-part-init
 loop-part-init g c =
-    let at = c.args.at.now in
     let behind = drop c.args.reach.changed c.args.reach.near in
     let all : c.into_iter-part-iterator.result.rest.items ≡ with_found 0 (map with_lost c.args.changes) behind = search rules in
-    let long : length c.into_iter-part-iterator.result.rest.items ≡ length at.tables.now =
-    ap (λ (l : List Part). length l) (all ∙ ap (λ cs. with_found 0 (map with_lost cs) behind) c.requires.changes) ∙ as_many_near at.base.now at.lo at.hi 0 behind at.tables.now in
+    let long : length c.into_iter-part-iterator.result.rest.items ≡ length c.args.at.now.tables.now = ap (λ (l : List Part). length l) all ∙ as_many_near 0 behind c.args.changes ∙ c.requires.each in
     record { all = all; alias = refl; within = omega (arith, long); small = search rules; cost = search rules }
 
 pub old_of-requires-clause-own : goal.old_of-requires-clause-own
 old_of-requires-clause-own g c =
     let at = c.args.at.now in
     let base = at.base.now in
-    let reach = c.args.reach in
     let tables = at.tables.now in
+    let changes = c.args.changes in
+    let reach = c.args.reach in
     let alias = c.loop-part.alias in
     let behind = drop reach.changed reach.near in
-    let all : c.loop-part.yielded ++ c.in-Some.part ∷ c.next.new.self.rest.items ≡ with_found 0 (map with_lost c.args.changes) behind = ap (λ l. c.loop-part.yielded ++ l) (sym c.in-Some.ensures.steps.0) ∙ c.loop-part.invariant.all in
-    let one = near_at base at.lo at.hi 0 behind c.loop-part.yielded c.in-Some.part c.next.new.self.rest.items tables alias alias c.loop-part.invariant.alias (omega arith) (all ∙ ap (λ cs. with_found 0 (map with_lost cs) behind) c.requires.changes) in
-    let minus = (change_in base at.lo at.hi one.0).minus in
-    let split = c.requires.split alias one.0 one.1 in
-    let picked : c.in-Some.part.old ≡ minus ++ rows_of_alias alias behind = ap (λ (p : Part). p.old) one.2 in
-    subst (λ t. HaveOwnKeys (table_in base.tables t).def.key c.in-Some.part.old) (sym (at_of tables alias one.0 _ one.1))
-    (picked_own (table_in base.tables one.0).def.key reach.near reach.changed alias minus (table_at_commit base at.lo one.0) c.in-Some.part.old split picked)
+    let left = ap (λ (l : List Part). length l) c.in-Some.ensures.steps.0 in
+    let here : alias < length tables = omega (arith, left, c.loop-part.invariant.within) in
+    let t = table_here tables alias here in
+    let minus = (part_at changes alias).minus in
+    let needed = needed_of base tables at.lo at.changing changes alias in
+    let all : c.loop-part.yielded ++ c.in-Some.part ∷ c.next.new.self.rest.items ≡ with_found 0 (map with_lost changes) behind = ap (λ l. c.loop-part.yielded ++ l) (sym c.in-Some.ensures.steps.0) ∙ c.loop-part.invariant.all in
+    let one = near_at 0 behind c.loop-part.yielded c.in-Some.part c.next.new.self.rest.items changes alias alias c.loop-part.invariant.alias (omega arith) all in
+    let picked : c.in-Some.part.old ≡ minus ++ rows_of_alias alias behind = ap (λ (p : Part). p.old) one in
+    let split = c.requires.split alias t.0 t.1 in
+    subst (λ u. HaveOwnKeys (table_in base.tables u).def.key c.in-Some.part.old) (sym (at_of tables alias t.0 _ t.1))
+    (picked_own (table_in base.tables t.0).def.key reach.near reach.changed alias minus needed c.in-Some.part.old split picked)
 
 pub returns-in_err-old-clause-most : goal.returns-in_err-old-clause-most
 returns-in_err-old-clause-most g c =
     let at = c.args.at.now in
     let base = at.base.now in
-    let reach = c.args.reach in
     let tables = at.tables.now in
+    let changes = c.args.changes in
+    let reach = c.args.reach in
     let alias = c.loop-part.alias in
     let behind = drop reach.changed reach.near in
-    let all : c.loop-part.yielded ++ c.in-Some.part ∷ c.next.new.self.rest.items ≡ with_found 0 (map with_lost c.args.changes) behind = ap (λ l. c.loop-part.yielded ++ l) (sym c.in-Some.ensures.steps.0) ∙ c.loop-part.invariant.all in
-    let one = near_at base at.lo at.hi 0 behind c.loop-part.yielded c.in-Some.part c.next.new.self.rest.items tables alias alias c.loop-part.invariant.alias (omega arith) (all ∙ ap (λ cs. with_found 0 (map with_lost cs) behind) c.requires.changes) in
+    let left = ap (λ (l : List Part). length l) c.in-Some.ensures.steps.0 in
+    let here : alias < length tables = omega (arith, left, c.loop-part.invariant.within) in
+    let t = table_here tables alias here in
     let flag = c.flag_at-is_far.ensures ∙ ap (λ l. slice_index_or l alias true) c.as_slice.ensures in
-    let here = at_of tables alias one.0 _ one.1 in
-    let same : cond c.flag_at-is_far.result (length (table_at_commit base at.lo (slice_index_or tables alias 0))) 0 ≡ cond (slice_index_or reach.far alias true) (length (table_at_commit base at.lo one.0)) 0 = λ i. cond (flag i) (length (table_at_commit base at.lo (here i))) 0 in
-    let step = whole_step base at.lo at.hi tables reach.near reach.far alias one.0 one.1 in
-    on_err c.from_residual-in_err-old.result (omega (arith, c.in_err-old.ensures.most, same, step, c.loop-part.invariant.cost))
+    let table = at_of tables alias t.0 _ t.1 in
+    let rows = needed_of base tables at.lo at.changing changes in
+    let scanned : cond c.flag_at-is_far.result (length (table_at_commit base at.lo (slice_index_or tables alias 0))) 0 ≡ cond (slice_index_or reach.far alias true) (length (table_at_commit base at.lo t.0)) 0
+    = λ i. cond (flag i) (length (table_at_commit base at.lo (table i))) 0 in
+    let ticks = flagged (slice_index_or reach.far alias true) (rows alias) (table_at_commit base at.lo t.0) (c.requires.whole alias t.0 t.1) in
+    let step = whole_step rows changes reach.near reach.far alias (omega (arith, here, c.requires.each)) in
+    on_err c.from_residual-in_err-old.result (omega (arith, c.in_err-old.ensures.most, scanned, ticks, step, c.loop-part.invariant.cost))
 
 pub returns-in_err-push-clause-most : goal.returns-in_err-push-clause-most
 returns-in_err-push-clause-most g c =
     let at = c.args.at.now in
     let base = at.base.now in
-    let reach = c.args.reach in
     let tables = at.tables.now in
+    let changes = c.args.changes in
+    let reach = c.args.reach in
     let alias = c.loop-part.alias in
     let behind = drop reach.changed reach.near in
-    let all : c.loop-part.yielded ++ c.in-Some.part ∷ c.next.new.self.rest.items ≡ with_found 0 (map with_lost c.args.changes) behind = ap (λ l. c.loop-part.yielded ++ l) (sym c.in-Some.ensures.steps.0) ∙ c.loop-part.invariant.all in
-    let one = near_at base at.lo at.hi 0 behind c.loop-part.yielded c.in-Some.part c.next.new.self.rest.items tables alias alias c.loop-part.invariant.alias (omega arith) (all ∙ ap (λ cs. with_found 0 (map with_lost cs) behind) c.requires.changes) in
+    let left = ap (λ (l : List Part). length l) c.in-Some.ensures.steps.0 in
+    let here : alias < length tables = omega (arith, left, c.loop-part.invariant.within) in
+    let t = table_here tables alias here in
     let flag = c.flag_at-is_far.ensures ∙ ap (λ l. slice_index_or l alias true) c.as_slice.ensures in
-    let here = at_of tables alias one.0 _ one.1 in
-    let same : cond c.flag_at-is_far.result (length (table_at_commit base at.lo (slice_index_or tables alias 0))) 0 ≡ cond (slice_index_or reach.far alias true) (length (table_at_commit base at.lo one.0)) 0 = λ i. cond (flag i) (length (table_at_commit base at.lo (here i))) 0 in
-    let step = whole_step base at.lo at.hi tables reach.near reach.far alias one.0 one.1 in
-    on_err c.from_residual-in_err-push.result (omega (arith, c.in_ok-old.ensures.cost, same, step, c.loop-part.invariant.cost))
+    let table = at_of tables alias t.0 _ t.1 in
+    let rows = needed_of base tables at.lo at.changing changes in
+    let scanned : cond c.flag_at-is_far.result (length (table_at_commit base at.lo (slice_index_or tables alias 0))) 0 ≡ cond (slice_index_or reach.far alias true) (length (table_at_commit base at.lo t.0)) 0
+    = λ i. cond (flag i) (length (table_at_commit base at.lo (table i))) 0 in
+    let ticks = flagged (slice_index_or reach.far alias true) (rows alias) (table_at_commit base at.lo t.0) (c.requires.whole alias t.0 t.1) in
+    let step = whole_step rows changes reach.near reach.far alias (omega (arith, here, c.requires.each)) in
+    on_err c.from_residual-in_err-push.result (omega (arith, c.in_ok-old.ensures.cost, scanned, ticks, step, c.loop-part.invariant.cost))
 
 pub loop-part-preserved : goal.loop-part-preserved
 loop-part-preserved g c =
     let at = c.args.at.now in
     let base = at.base.now in
-    let reach = c.args.reach in
     let tables = at.tables.now in
+    let changes = c.args.changes in
+    let reach = c.args.reach in
     let alias = c.loop-part.alias in
     let behind = drop reach.changed reach.near in
-    let all : c.loop-part.yielded ++ c.in-Some.part ∷ c.next.new.self.rest.items ≡ with_found 0 (map with_lost c.args.changes) behind = ap (λ l. c.loop-part.yielded ++ l) (sym c.in-Some.ensures.steps.0) ∙ c.loop-part.invariant.all in
-    let one = near_at base at.lo at.hi 0 behind c.loop-part.yielded c.in-Some.part c.next.new.self.rest.items tables alias alias c.loop-part.invariant.alias (omega arith) (all ∙ ap (λ cs. with_found 0 (map with_lost cs) behind) c.requires.changes) in
-    let flag = c.flag_at-is_far.ensures ∙ ap (λ l. slice_index_or l alias true) c.as_slice.ensures in
-    let here = at_of tables alias one.0 _ one.1 in
-    let same : cond c.flag_at-is_far.result (length (table_at_commit base at.lo (slice_index_or tables alias 0))) 0 ≡ cond (slice_index_or reach.far alias true) (length (table_at_commit base at.lo one.0)) 0 = λ i. cond (flag i) (length (table_at_commit base at.lo (here i))) 0 in
-    let step = whole_step base at.lo at.hi tables reach.near reach.far alias one.0 one.1 in
-    let minus = (change_in base at.lo at.hi one.0).minus in
-    let split = c.requires.split alias one.0 one.1 in
-    let picked : c.in-Some.part.old ≡ minus ++ rows_of_alias alias behind = ap (λ (p : Part). p.old) one.2 in
-    let long = length-append c.loop-part.yielded (c.in-Some.part ∷ []) in
     let left = ap (λ (l : List Part). length l) c.in-Some.ensures.steps.0 in
+    let here : alias < length tables = omega (arith, left, c.loop-part.invariant.within) in
+    let t = table_here tables alias here in
+    let minus = (part_at changes alias).minus in
+    let needed = needed_of base tables at.lo at.changing changes alias in
+    let all : c.loop-part.yielded ++ c.in-Some.part ∷ c.next.new.self.rest.items ≡ with_found 0 (map with_lost changes) behind = ap (λ l. c.loop-part.yielded ++ l) (sym c.in-Some.ensures.steps.0) ∙ c.loop-part.invariant.all in
+    let one = near_at 0 behind c.loop-part.yielded c.in-Some.part c.next.new.self.rest.items changes alias alias c.loop-part.invariant.alias (omega arith) all in
+    let picked : c.in-Some.part.old ≡ minus ++ rows_of_alias alias behind = ap (λ (p : Part). p.old) one in
+    let split = c.requires.split alias t.0 t.1 in
+    let flag = c.flag_at-is_far.ensures ∙ ap (λ l. slice_index_or l alias true) c.as_slice.ensures in
+    let table = at_of tables alias t.0 _ t.1 in
+    let rows = needed_of base tables at.lo at.changing changes in
+    let scanned : cond c.flag_at-is_far.result (length (table_at_commit base at.lo (slice_index_or tables alias 0))) 0 ≡ cond (slice_index_or reach.far alias true) (length (table_at_commit base at.lo t.0)) 0
+    = λ i. cond (flag i) (length (table_at_commit base at.lo (table i))) 0 in
+    let ticks = flagged (slice_index_or reach.far alias true) (rows alias) (table_at_commit base at.lo t.0) (c.requires.whole alias t.0 t.1) in
+    let step = whole_step rows changes reach.near reach.far alias (omega (arith, here, c.requires.each)) in
+    let key = (table_in base.tables t.0).def.key in
+    let long = length-append c.loop-part.yielded (c.in-Some.part ∷ []) in
     let old = c.in_ok-old.old in
-    let is : IsPicked (table_in base.tables one.0).def.key (slice_index_or reach.far alias true) (table_at_commit base at.lo one.0) c.in-Some.part.old old =
-    subst (λ t. IsPicked (table_in base.tables t).def.key (slice_index_or reach.far alias true) (table_at_commit base at.lo t) c.in-Some.part.old old) here
+    let is : IsPicked key (slice_index_or reach.far alias true) (table_at_commit base at.lo t.0) c.in-Some.part.old old =
+    subst (λ u. IsPicked (table_in base.tables u).def.key (slice_index_or reach.far alias true) (table_at_commit base at.lo u) c.in-Some.part.old old) table
     (subst (λ f. IsPicked (table_in base.tables (slice_index_or tables alias 0)).def.key f (table_at_commit base at.lo (slice_index_or tables alias 0)) c.in-Some.part.old old) flag c.in_ok-old.ensures.old) in
-    let kept = picked_kept (table_in base.tables one.0).def.key reach.near reach.changed alias minus reach.far (table_at_commit base at.lo one.0) c.in-Some.part.old old split picked is in
+    let is_needed : IsPicked key (slice_index_or reach.far alias true) needed c.in-Some.part.old old = record { all = λ f. is.all f ∙ sym (c.requires.whole alias t.0 t.1 f); up = is.up; same = is.same } in
+    let kept = picked_kept key reach.near reach.changed alias minus reach.far needed c.in-Some.part.old old split picked is_needed in
     record {
       all = append_assoc c.loop-part.yielded (c.in-Some.part ∷ []) c.next.new.self.rest.items ∙ all;
       alias = omega (arith, long, c.loop-part.invariant.alias);
       within = omega (arith, left, c.loop-part.invariant.within);
-      small = small_step base at.lo at.hi tables reach.near reach.far c.loop-part.small _ c.push.new.self alias one.0 old one.1 c.loop-part.invariant.small kept
-          (c.in_ok-push.ensures.added ∙ ap (λ (p : Part). c.loop-part.small ++ record { old = old; minus = p.minus; plus = p.plus } ∷ []) one.2);
-      cost = omega (arith, c.in_ok-old.ensures.cost, same, step, c.loop-part.invariant.cost);
+      small = small_step rows changes reach.near reach.far c.loop-part.small _ c.push.new.self alias old (omega (arith, here, c.requires.each)) c.loop-part.invariant.small kept
+          (c.in_ok-push.ensures.added ∙ ap (λ (p : Part). c.loop-part.small ++ record { old = old; minus = p.minus; plus = p.plus } ∷ []) one);
+      cost = omega (arith, c.in_ok-old.ensures.cost, scanned, ticks, step, c.loop-part.invariant.cost);
     }
