@@ -6,12 +6,12 @@ ghost use Rattle.lv_stands.specs.Moves.{BaseCleaned, BaseCommits, table_new, ver
 ghost use Rattle.lv_versions.specs.Versions.{with_index};
 
 use crate::cleaning::Kept;
-use crate::preparing::{reserve_all, work_out};
+use crate::preparing::{copy_actions, reserve_all, work_out};
 use crate::ready::Ready;
 use crate::table::Table;
 use crate::tables::{commit_each, count_all, prune_each};
 use lv_delta::Deltas;
-use lv_schema::{Action, TableDef};
+use lv_schema::{Action, Actions, TableDef};
 use lv_values::NoMemory;
 use lv_versions::Versions;
 use std::alloc::Global;
@@ -139,10 +139,26 @@ impl Base {
         self.tables[table as usize].rows()
     }
 
-    /// Prepares a commit of actions that the last state can take in their order: copies them, works out the net change
-    /// that they make of each table, and makes room for all of it. What is kept stays as it was, and no room shrinks.
+    /// Prepares a commit of actions that the last state can take in their order: works out the net change that they make
+    /// of each table, and makes room for all of it. What is kept stays as it was, and no room shrinks.
     /// It also answers `NoMemory` where 64 bits could not count the versions with these. Cost: for each table one
-    /// comparison of numbers for each action, n log n comparisons of keys for the n actions on it, and the copies.
+    /// comparison of numbers for each action, and n log n comparisons of keys for the n actions on it.
+    pub fn prepare_moved(&mut self, alloc: Global, actions: Actions) -> Result<Ready, NoMemory>
+        requires { CanCommit self.old actions }
+        ensures kept { base_of self.new ≡ base_of self.old }
+        ensures actions { IfOk result (λ ready. ready.actions ≡ actions) }
+        ensures ready { IfOk result (λ ready. IsReady self.new ready.actions ready.nets) }
+        ensures tables_room { self.new.free ≡ self.old.free }
+        ensures rows_room { (t : ℕ) → (table_in self.old.tables t).spare ≤ (table_in self.new.tables t).spare }
+        ensures entries_room { self.old.deltas.spare ≤ self.new.deltas.spare }
+        ensures indexes { indexes_in self.new.tables ≡ indexes_in self.old.tables }
+    {
+        let ready = work_out(alloc, &self.tables, actions)?;
+        reserve_all(&mut self.tables, &mut self.deltas, &ready)?;
+        Ok(ready)
+    }
+
+    /// The same of copies of the actions.
     pub fn prepare(&mut self, alloc: Global, actions: &[Action]) -> Result<Ready, NoMemory>
         requires { CanCommit self.old actions.now }
         ensures kept { base_of self.new ≡ base_of self.old }
@@ -153,9 +169,8 @@ impl Base {
         ensures entries_room { self.old.deltas.spare ≤ self.new.deltas.spare }
         ensures indexes { indexes_in self.new.tables ≡ indexes_in self.old.tables }
     {
-        let ready = work_out(alloc, &self.tables, actions)?;
-        reserve_all(&mut self.tables, &mut self.deltas, &ready)?;
-        Ok(ready)
+        let copies = copy_actions(alloc, actions)?;
+        self.prepare_moved(alloc, copies)
     }
 
     /// Commits what was prepared for this state, as the next commit. It takes no memory. Cost: for each table constant,

@@ -43,7 +43,7 @@ fn check_count(tables: &[Table], nets: &[Net]) -> Result<(), NoMemory>
 }
 
 /// Copies of actions, in their order.
-fn copy_actions(alloc: Global, actions: &[Action]) -> Result<Actions, NoMemory>
+pub(crate) fn copy_actions(alloc: Global, actions: &[Action]) -> Result<Actions, NoMemory>
     ensures { IfOk result (λ copies. copies ≡ actions.now) }
 {
     let mut copies = Actions::new(alloc);
@@ -53,22 +53,17 @@ fn copy_actions(alloc: Global, actions: &[Action]) -> Result<Actions, NoMemory>
     Ok(copies)
 }
 
-/// Copies of actions, and the net change that they make of each table.
-pub(crate) fn work_out(
-    alloc: Global,
-    tables: &[Table],
-    actions: &[Action],
-) -> Result<Ready, NoMemory>
+/// Actions, and the net change that they make of each table.
+pub(crate) fn work_out(alloc: Global, tables: &[Table], actions: Actions) -> Result<Ready, NoMemory>
     requires places { (t : ℕ) → t < length tables.now → (table_in tables.now t).def.no ≡ t }
     requires counted { versions_in tables.now < 2 ^ 64 }
-    ensures actions { IfOk result (λ ready. ready.actions ≡ actions.now) }
+    ensures actions { IfOk result (λ ready. ready.actions ≡ actions) }
     ensures all { IfOk result (λ ready. length ready.nets ≡ length tables.now) }
-    ensures each { IfOk result (λ ready. (t : ℕ) → t < length tables.now → net_in ready.nets t ≡ condensed (map (λ k. k.def) tables.now) actions.now t) }
+    ensures each { IfOk result (λ ready. (t : ℕ) → t < length tables.now → net_in ready.nets t ≡ condensed (map (λ k. k.def) tables.now) actions t) }
     ensures counted { IfOk result (λ ready. versions_in tables.now + brought_in ready.nets < 2 ^ 64) }
 {
-    let nets = condense_each(alloc, tables, actions)?;
+    let nets = condense_each(alloc, tables, actions.as_slice())?;
     check_count(tables, nets.as_slice())?;
-    let actions = copy_actions(alloc, actions)?;
     Ok(Ready { actions, nets })
 }
 

@@ -1,6 +1,6 @@
 -- What the engine's calls answer is what the plain machine's turn answers.
-use Rattle.std.proofs.Common.{◌≡◌, ℕ, zero, suc, ◌≤◌, Bool, true, false, cond, List, [], ◌∷◌, length, Option, Some, None, refl, sym, ap, ◌∙◌, subst, arith}
-use Rattle.std.specs.Prelude.{◌+◌, ◌==◌, if◌then◌else◌, is_some, OnErr, Result, Ok, Err, slice_index_or, slice_set}
+use Rattle.std.proofs.Common.{◌≡◌, ℕ, ◌≤◌, Bool, true, false, List, [], Option, Some, None, refl, sym, ap, ◌∙◌, subst, arith}
+use Rattle.std.specs.Prelude.{if◌then◌else◌, OnErr, Result, Ok, Err, slice_index_or}
 use Rattle.std.specs.List.{list_all}
 use Rattle.lv_outside.specs.Causes.{Rose}
 use Rattle.lv_schema.specs.declared.bound.Bound.TheVariants as bound
@@ -10,24 +10,24 @@ use Rattle.lv_schema.specs.declared.forced.Forced.{Forced}
 use Rattle.lv_schema.specs.declared.open.Open.{Open}
 use Rattle.lv_schema.specs.declared.query.Query.{Query}
 use Rattle.lv_schema.specs.declared.rec.Rec.{Rec}
-use Rattle.lv_schema.specs.Cases.{Case, Outcome, good, failed, full, alone, alone_committed, answered, began, changed, changed_by, closed, committed, committed_unless, if_written, queried, rolled_back, with_commit, with_count}
-use Rattle.lv_schema.specs.Commits.{conflict_of, merged_full}
+use Rattle.lv_schema.specs.Cases.{Case, Outcome, alone, began, changed, changed_by, queried, rolled_back}
 use Rattle.lv_schema.specs.Keys.{write_none}
-use Rattle.lv_schema.specs.Records.{commit_record}
 use Rattle.lv_schema.specs.Tasks.{AreFresh}
-use Rattle.lv_schema.specs.Effects.{Effect, effect_of, first_fault}
-use Rattle.lv_schema.specs.UpkeepCases.{forced_by, views_of, with_record}
+use Rattle.lv_schema.specs.Effects.{Effect, effect_of}
+use Rattle.lv_schema.specs.UpkeepCases.{forced_by, views_of}
 use Rattle.lv_schema.specs.WholeWorld.{querying, world_after}
-use Rattle.lv_schema.specs.World.{Settings, Visible, World, last, opened, transaction, view_at}
+use Rattle.lv_schema.specs.World.{Settings, Visible, World, transaction, view_at}
 use Rattle.lv_journal.specs.declared.writer.Writer.{Writer}
 use Rattle.lv_plain.specs.declared.entry.Reply.{Reply}
 use Rattle.lv_plain.specs.declared.entry.Reply.TheVariants as reply
 use Rattle.lv_plain.specs.Turns.{Turn, bound_turn, is_open, reply_or, shown, turn_by}
-use Rattle.lv_plain.proofs.Outside.{begun_reads, queried_outside, rolled_back_at_once, set_none, set_twice}
+use Rattle.lv_plain.proofs.Outside.{begun_reads, queried_outside}
 use Rattle.lv_store.specs.declared.answer.Answer.{Answer}
 use Rattle.lv_store.specs.Answering.{IsCostBetween, ReadsNoTable, ReadsViews}
 use Rattle.lv_store.specs.Inputs.{AreCosts}
-use Rattle.lv_store.specs.Kept.{StoreKept}
+use Rattle.lv_engine.specs.declared.fault.AloneFault.{AloneFault}
+use Rattle.lv_engine.specs.declared.fault.AloneFault.TheVariants as alone_fault
+use Rattle.lv_engine.specs.Alone.{blames_disk, alone_fault as told_fault}
 use Rattle.lv_engine.specs.declared.fault.CommitFault.{CommitFault}
 use Rattle.lv_engine.specs.declared.fault.CommitFault.TheVariants as commit
 use Rattle.lv_engine.specs.declared.fault.CreateFault.{CreateFault}
@@ -35,10 +35,9 @@ use Rattle.lv_engine.specs.declared.fault.CreateFault.TheVariants as create
 use Rattle.lv_engine.proofs.Logged.{unchanged_logs}
 use Rattle.lv_engine.specs.Answering.{GivesQuery, LogsUnless, Refuses, commit_fault, create_fault, shows_store}
 use Rattle.lv_engine.specs.Kept.{EngineView, Stands, length_of}
-use Rattle.lv_engine.specs.Records.{Logs}
 use Rattle.lv_engine.specs.Writing.{IsUntouched}
 use Rattle.lv_core.specs.declared.answered.Answered.{Answered}
-use Rattle.lv_core.specs.Answering.{Answers, CommitsAlone, GivesAlone, GivesTurn, IsRefusal, IsUndone, Journals, alone_after, turned, with_transaction}
+use Rattle.lv_core.specs.Answering.{Answers, GivesTurn, IsRefusal, IsUndone, Journals}
 
 -- ---- which errors blame the disk
 pub create_store : (e : CreateFault) → shows_store (create_fault e) ≡ true → e ≡ create.Store
@@ -66,55 +65,20 @@ commit_other (commit.Full need limit) none is = cc
 commit_other (commit.Store) none is = cc
 commit_other (commit.NoMemory) none is = cc
 
+pub alone_store : (e : AloneFault) → blames_disk e ≡ true → e ≡ alone_fault.Record create.Store
+alone_store (alone_fault.Change f) is = absurd cc
+alone_store (alone_fault.Record f) is = ap alone_fault.Record (create_store f is)
+
+pub alone_other : {A : Type 0} (e : AloneFault) → told_fault e ≡ None → ◌≡◌ {A = Result A AloneFault} (Err e) (Err (alone_fault.Record create.Store)) → ⊥
+alone_other (alone_fault.Change f) none is = cc
+alone_other (alone_fault.Record create.Store) none is = cc
+alone_other (alone_fault.Record (create.Full need limit)) none is = cc
+alone_other (alone_fault.Record create.NoMemory) none is = cc
+
 pub errs : {A E : Type 0} (a b : E) → a ≡ b → ◌≡◌ {A = Result A E} (Err a) (Err b)
 errs a b is = λ i. Err (is i)
 
--- ---- a commit that is refused ends, once its transaction is given up, where that was given up before
-abbrev Ends : ℕ → Visible → Fault → Case (Option ℕ) → Type 0
-Ends session s fault c = c.answer ≡ Err fault → (closed session c.next ≡ closed session s) × (c.written ≡ None)
-
-commit_ends : (outcome : Rec → Outcome) (session : ℕ) (s : Visible) (fault : Fault) → Ends session s fault (committed outcome session s)
-commit_ends outcome session s fault = by (length o.actions == 0)
-  where
-    o : Open
-    o = transaction session s
-
-    writes : (out : Outcome) → Ends session s fault (if_written out (commit_record o s) (Some (last s + 1)) (with_commit session o s) s)
-    writes good = λ e. absurd cc
-    writes failed = λ e. (refl, refl)
-    writes (full need limit) = λ e. (refl, refl)
-
-    unless : (f : Option Fault) → Ends session s fault (committed_unless f outcome session o s)
-    unless (Some f) = λ e. (ap (λ (xs : List (Option Open)). record s { sessions = xs }) (set_twice s.sessions session None None), refl)
-    unless None = writes (outcome (commit_record o s))
-
-    by : (b : Bool) → Ends session s fault (cond {A = Case (Option ℕ)} b (answered None (closed session s)) (committed_unless (first_fault (conflict_of s o) (merged_full s o)) outcome session o s))
-    by true = λ e. absurd cc
-    by false = unless (first_fault (conflict_of s o) (merged_full s o))
-
-pub given_up : (outcome : Rec → Outcome) (session : ℕ) (w : World) (fault : Fault) → let c = committed outcome session w.visible in c.answer ≡ Err fault
-    → world_after (rolled_back session (world_after c w).visible) (world_after c w) ≡ world_after (rolled_back session w.visible) w
-given_up outcome session w fault e =
-    let ends = commit_ends outcome session w.visible fault e in
-    λ i. record { visible = ends.0 i; upkeep = with_record (ends.1 i) w.upkeep }
-
--- ---- what a change does outside a transaction
-set_then_none : (xs : List (Option Open)) (k : ℕ) (o : Option Open) → slice_index_or xs k None ≡ None → slice_set (slice_set xs k o) k None ≡ xs
-set_then_none xs k o e = set_twice xs k o None ∙ set_none xs k e
-
-changed_closed : (session : ℕ) (s : Visible) (change : Change) → slice_index_or s.sessions session None ≡ None → closed session (changed session change (began session s).next).next ≡ s
-changed_closed session s change free = by (effect_of begun.tables change o.own)
-  where
-    begun : Visible
-    begun = (began session s).next
-
-    o : Open
-    o = transaction session begun
-
-    by : (e : Result Effect Fault) → closed session (changed_by e session o begun).next ≡ s
-    by (Err fault) = ap (λ (xs : List (Option Open)). record s { sessions = xs }) (set_then_none s.sessions session (Some (opened s)) free)
-    by (Ok effect) = ap (λ (xs : List (Option Open)). record s { sessions = xs }) (set_twice _ session _ None ∙ set_then_none s.sessions session (Some (opened s)) free)
-
+-- ---- what a change does
 pub unwritten : (session : ℕ) (change : Change) (s : Visible) → (changed session change s).written ≡ None
 unwritten session change s = by (effect_of s.tables change (transaction session s).own)
   where
@@ -128,18 +92,6 @@ unattempted session change s = by (effect_of s.tables change (transaction sessio
     by : (e : Result Effect Fault) → (changed_by e session (transaction session s) s).attempted ≡ None
     by (Err fault) = refl
     by (Ok effect) = refl
-
-some_set : (xs : List (Option Open)) (k : ℕ) (o : Open) → is_some (slice_index_or xs k None) ≡ true → is_some (slice_index_or (slice_set xs k (Some o)) k None) ≡ true
-some_set [] k o e = e
-some_set (x ∷ xs) zero o e = refl
-some_set (x ∷ xs) (suc k) o e = some_set xs k o e
-
-pub changed_open : (session : ℕ) (change : Change) (s : Visible) → is_open session s ≡ true → is_open session (changed session change s).next ≡ true
-changed_open session change s e = by (effect_of s.tables change (transaction session s).own)
-  where
-    by : (r : Result Effect Fault) → is_open session (changed_by r session (transaction session s) s).next ≡ true
-    by (Err fault) = e
-    by (Ok effect) = some_set s.sessions session _ e
 
 pub open_turn : (outcome : Rec → Outcome) (tasks : List (ℕ × ℕ)) (session : ℕ) (change : Change) (s : Visible) → is_open session s ≡ true
     → turn_by reply.Changed (changed session change s) ≡ bound_turn outcome tasks session (bound.Change change) s
@@ -255,133 +207,6 @@ module _ {D : Type 0} (seen : D → Option (List ℕ)) (may_leave : D → List �
 
   pub answers_turn : {E : Type 0} (w : World) (old new : EngineView D) (r : Result Answered E) (steps : List Forced) (t u : Bool → Turn) → ((fails : Bool) → t fails ≡ u fails) → Ans w old new r steps t → Ans w old new r steps u
   answers_turn w old new r steps t u same h = subst (λ (x : Bool → Turn). Ans w old new r steps x) (λ i fails. same fails i) h
-
-  -- ---- the commit of a change outside a transaction
-  module _ (count session : ℕ) (w : World) (old : EngineView D) (case_if : Bool → Case (Option ℕ)) where
-    after_is : (fails : Bool) (r : Result (Option ℕ) Fault) (new : EngineView D) → (case_if fails).answer ≡ r → Stands (alone_after r session (case_if fails) w) new → Stands (alone_after (case_if fails).answer session (case_if fails) w) new
-    after_is fails r new is h = subst (λ (r : Result (Option ℕ) Fault). Stands (alone_after r session (case_if fails) w) new) (sym is) h
-
-    pub alone_ok : (fails : Bool) (new : EngineView D) (a : Answered) (number : Option ℕ) → a.forced ≡ [] → a.reply ≡ reply.Alone count number → ((case_if fails).answer ≡ Ok number) × Stands (world_after (case_if fails) w) new
-        → Recorded (case_if fails).attempted (case_if fails).written old.journal new.journal → Caused fails old new → GivesAlone seen may_leave moment left_since failures count session w old new case_if a
-    alone_ok fails new a number none is h journal cause = record {
-      fails = fails;
-      forced = none;
-      reply = is ∙ sym (ap (reply_or (reply.Alone count)) h.0);
-      stands = after_is fails (Ok number) new h.0 h.1;
-      journal = journal;
-      cause = cause;
-    }
-
-    module _ (fails : Bool) (mid new : EngineView D) (later : failures old.journal.disk ≤ failures mid.journal.disk) (cause : Caused fails old mid) (ended : new ≡ with_transaction mid session None)
-        (ends : (v : World) → Stands v mid → Stands (world_after (rolled_back session v.visible) v) new)
-        (gone : (f : Fault) → (case_if fails).answer ≡ Err f → world_after (rolled_back session (world_after (case_if fails) w).visible) (world_after (case_if fails) w) ≡ world_after (rolled_back session w.visible) w) where
-      journal_is : mid.journal ≡ new.journal
-      journal_is = sym (ap (λ (e : EngineView D). e.journal) ended)
-
-      pub alone_refused : {E : Type 0} (r : Result Answered E) (fault : Option Fault) → IsRefusal fault r → Refuses fault w old mid (case_if fails)
-          → LogsUnless seen may_leave moment left_since fault (case_if fails).attempted (case_if fails).written old.journal mid.journal → (fault ≡ None → Untouched old.journal mid.journal)
-          → CommitsAlone seen may_leave moment left_since failures count session w old new r case_if
-      alone_refused (Ok a) (Some f) is h logs untouched = record {
-        fails = fails;
-        forced = is.0;
-        reply = is.1 ∙ sym (ap (reply_or (reply.Alone count)) h.0);
-        stands = after_is fails (Err f) new h.0 (subst (λ (v : World). Stands v new) (gone f h.0) (ends (world_after (case_if fails) w) h.1));
-        journal = journals_between (case_if fails).attempted (case_if fails).written old.journal old.journal mid.journal new.journal refl journal_is (record { logs = logs; later = later });
-        cause = λ is. subst (λ (j : Writer D). Rose (failures old.journal.disk) (failures j.disk)) journal_is (cause is);
-      }
-      alone_refused (Err e) (Some f) is h logs untouched = absurd is
-      alone_refused (Ok a) None is h logs untouched = absurd is
-      alone_refused (Err e) None is h logs untouched = record {
-        same = record {
-          store_is = ap (λ (e : EngineView D). e.store) ended ∙ ap (λ (s : StoreKept). record s { sessions = slice_set s.sessions session None }) h.store_is;
-          length_is = sym (ap (λ (j : Writer D). length_of j) journal_is) ∙ h.length_is;
-        };
-        logs = subst (λ (j : Writer D). Logs seen may_leave moment left_since None None old.journal j) journal_is logs;
-        disk = subst (λ (j : Writer D). Untouched old.journal j) journal_is (untouched refl);
-      }
-
-  -- ---- a change outside a transaction
-  module _ (session : ℕ) (change : Change) (w : World) (outcome_if : Bool → Rec → Outcome) (free : slice_index_or w.visible.sessions session None ≡ None) where
-    abbrev pub begun : World
-    begun = world_after (began session w.visible) w
-
-    abbrev pub changing : Case ℕ
-    changing = changed session change begun.visible
-
-    abbrev pub made : World
-    made = record { visible = changing.next; upkeep = w.upkeep }
-
-    abbrev pub committing : Bool → Case (Option ℕ)
-    committing fails = committed (outcome_if fails) session made.visible
-
-    abbrev reply_alone : ℕ × Option ℕ → Reply
-    reply_alone done = reply.Alone done.0 done.1
-
-    abbrev both : Bool → Turn
-    both fails = turn_by reply_alone (alone (outcome_if fails) session change w.visible)
-
-    pub made_is : world_after changing begun ≡ made
-    made_is = λ i. record { visible = changing.next; upkeep = with_record (unwritten session change begun.visible i) w.upkeep }
-
-    -- its reply and the world after it, by those of its commit
-    alone_is : (count : ℕ) (fails : Bool) → changing.answer ≡ Ok count → both fails ≡ turn_by reply_alone (with_count count (committing fails).answer (committing fails) w.visible)
-    alone_is count fails e = ap (λ r. turn_by reply_alone (alone_committed r (outcome_if fails) session changing.next w.visible)) e
-
-    pub record Fits (old new : EngineView D) (a : Answered) (t : Turn) : Type 0 where
-      pub reply : a.reply ≡ t.reply
-      pub stands : Stands (turned [] t w) new
-      pub journal : Recorded t.attempted t.written old.journal new.journal
-
-    fits : (count : ℕ) (mid new : EngineView D) (a : Answered) (h : GivesAlone seen may_leave moment left_since failures count session made mid new committing a)
-        → Fits mid new a (turn_by reply_alone (with_count count (committing h.fails).answer (committing h.fails) w.visible))
-    fits count mid new a h = by (committing h.fails).answer refl
-      where
-        by : (r : Result (Option ℕ) Fault) → (committing h.fails).answer ≡ r → Fits mid new a (turn_by reply_alone (with_count count r (committing h.fails) w.visible))
-        by (Ok number) is = record {
-          reply = h.reply ∙ ap (reply_or (reply.Alone count)) is;
-          stands = subst (λ (r : Result (Option ℕ) Fault). Stands (alone_after r session (committing h.fails) made) new) is h.stands;
-          journal = h.journal;
-        }
-        by (Err f) is = record {
-          reply = h.reply ∙ ap (reply_or (reply.Alone count)) is;
-          stands = subst (λ (v : World). Stands v new) (λ i. record { visible = changed_closed session w.visible change free i; upkeep = w.upkeep })
-              (subst (λ (r : Result (Option ℕ) Fault). Stands (alone_after r session (committing h.fails) made) new) is h.stands);
-          journal = subst (λ (o : Option Rec). Recorded (committing h.fails).attempted o mid.journal new.journal) (commit_ends (outcome_if h.fails) session made.visible f is).1 h.journal;
-        }
-
-    commit_gives : (count : ℕ) (old mid new : EngineView D) (a : Answered) → changing.answer ≡ Ok count → mid.journal ≡ old.journal → GivesAlone seen may_leave moment left_since failures count session made mid new committing a → Gives w old new [] both a
-    commit_gives count old mid new a e same h =
-        let fit = subst (λ (t : Turn). Fits mid new a t) (sym (alone_is count h.fails e)) (fits count mid new a h) in
-        record {
-          fails = h.fails;
-          forced = h.forced;
-          reply = fit.reply;
-          stands = fit.stands;
-          journal = journals_between (both h.fails).attempted (both h.fails).written old.journal mid.journal new.journal new.journal (sym same) refl fit.journal;
-          cause = λ is. subst (λ (j : Writer D). Rose (failures j.disk) (failures new.journal.disk)) same (h.cause is);
-        }
-
-    pub answers_committed : {E : Type 0} (count : ℕ) (old mid new : EngineView D) (r : Result Answered E) → changing.answer ≡ Ok count → mid.journal ≡ old.journal → with_transaction mid session None ≡ old
-        → CommitsAlone seen may_leave moment left_since failures count session made mid new r committing → Ans w old new r [] both
-    answers_committed count old mid new (Ok a) e same again h = commit_gives count old mid new a e same h
-    answers_committed count old mid new (Err x) e same again h = subst (λ (e : EngineView D). Undone e new) again h
-
-    -- a change that is refused, and rolled back
-    pub answers_given_up : {E : Type 0} (old before mid new : EngineView D) (r : Result Answered E) (fault : Option Fault) → IsRefusal fault r → Refuses fault begun before mid changing
-        → Stands (world_after (rolled_back session begun.visible) begun) new → new ≡ old → Ans w old new r [] both
-    answers_given_up old before mid new (Ok a) (Some f) is h stands again =
-        let refused_is : both false ≡ turn_by reply_alone (alone_committed (Err f) (outcome_if false) session changing.next w.visible) =
-        ap (λ (x : Result ℕ Fault). turn_by reply_alone (alone_committed x (outcome_if false) session changing.next w.visible)) h.0 in
-        let fit : Fits old new a (turn_by reply_alone (alone_committed (Err f) (outcome_if false) session changing.next w.visible)) = record {
-          reply = is.1;
-          stands = subst (λ (v : World). Stands v new) (rolled_back_at_once session w free) stands;
-          journal = journals_same old.journal new.journal (ap (λ (e : EngineView D). e.journal) again);
-        } in
-        let fit_both = subst (λ (t : Turn). Fits old new a t) (sym refused_is) fit in
-        record { fails = false; forced = is.0; reply = fit_both.reply; stands = fit_both.stands; journal = fit_both.journal; cause = λ fails. absurd cc }
-    answers_given_up old before mid new (Err e) (Some f) is h stands again = absurd is
-    answers_given_up old before mid new (Ok a) None is h stands again = absurd is
-    answers_given_up old before mid new (Err e) None is h stands again = undone_same old new again
 
   -- ---- queries
   pub gives_query : (settings : Settings) (session : ℕ) (query : Query) (w : World) (old new : EngineView D) (answer : Answer) (a : Answered) → a.forced ≡ answer.forced → a.reply ≡ reply.Rows answer.rows → new.journal ≡ old.journal

@@ -1,5 +1,5 @@
 -- What a run that is kept says besides.
-use Rattle.std.proofs.Common.{◌≡◌, ℕ, zero, suc, ◌<◌, ◌≤◌, false, List, Option, refl, ◌∙◌, subst, arith}
+use Rattle.std.proofs.Common.{◌≡◌, ℕ, zero, suc, ◌≤◌, false, List, Option, refl, ◌∙◌, subst, arith}
 use Rattle.std.specs.Prelude.{◌+◌, ◌-◌, ◌^◌, min}
 use Rattle.lv_outside.specs.Causes.{Rose}
 use Rattle.lv_plain.specs.Programs.{Places, setup_answered}

@@ -8,8 +8,6 @@ use Rattle.lv_schema.specs.declared.open.Open.{Open}
 use Rattle.lv_schema.specs.declared.table.TableDef.{TableDef}
 use Rattle.lv_schema.specs.declared.view.ViewDef.{ViewDef}
 use Rattle.lv_schema.specs.Bound.{IsBound}
-use Rattle.lv_schema.specs.Cases.{rolled_back}
-use Rattle.lv_schema.specs.WholeWorld.{world_after}
 use Rattle.lv_schema.specs.World.{Visible, World, opened, transaction}
 use Rattle.lv_bind.specs.Allowed.{IsAllowed}
 use Rattle.lv_bind.specs.Reads.{reads}
@@ -131,22 +129,9 @@ same_again a b session free is = is ∙ ap (λ (xs : List (Option TransactionKep
 pub same_journal : {D : Type 0} (a b : EngineView D) (s : StoreKept) → b ≡ record a { store = s } → b.journal ≡ a.journal
 same_journal a b s is = λ i. (is i).journal
 
--- where a session has no transaction, there is none to give up
-pub none_to_end : {D : Type 0} (e : EngineView D) (session : ℕ) → transaction_at e.store.sessions session ≡ None → e ≡ with_transaction e session None
-none_to_end e session free = sym (same_again e (with_transaction e session None) session free refl)
-
-pub nothing_closed : (session : ℕ) (w : World) → slice_index_or w.visible.sessions session None ≡ None → w ≡ world_after (rolled_back session w.visible) w
-nothing_closed session w free = λ i. record { visible = record w.visible { sessions = sym (set_none w.visible.sessions session free) i }; upkeep = w.upkeep }
-
 pub ended_too : {D : Type 0} (a b : EngineView D) (session : ℕ) → a ≡ b → with_transaction a session None ≡ with_transaction b session None
 ended_too {D} a b session same = ap (λ (e : EngineView D). with_transaction e session None) same
 
-pub with_ended : {D : Type 0} (a b : EngineView D) (session : ℕ) (s : Option TransactionKept) → transaction_at a.store.sessions session ≡ None → b ≡ with_transaction a session s → with_transaction b session None ≡ a
-with_ended a b session s free is = same_again a (with_transaction b session None) session free (then_set a b (with_transaction b session None) session s None is refl)
-
 -- what the engine is run with stays
-pub same_limit : {D : Type 0} (a b : EngineView D) (s : List (Option TransactionKept)) → b ≡ record a { store = record a.store { sessions = s } } → a.store.settings.log_limit ≡ b.store.settings.log_limit
-same_limit a b s is = λ i. (sym is i).store.settings.log_limit
-
 pub same_combine : {D : Type 0} (a b : EngineView D) (s : List (Option TransactionKept)) → b ≡ record a { store = record a.store { sessions = s } } → a.store.settings.combine ≡ b.store.settings.combine
 same_combine a b s is = λ i. (sym is i).store.settings.combine

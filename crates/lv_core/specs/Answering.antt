@@ -7,9 +7,8 @@ use Rattle.lv_schema.specs.declared.fault.Fault.{Fault}
 use Rattle.lv_schema.specs.declared.forced.Forced.{Forced}
 use Rattle.lv_schema.specs.declared.rec.Rec.{Rec}
 use Rattle.lv_schema.specs.Bound.{IsBound}
-use Rattle.lv_schema.specs.Cases.{Case, rolled_back}
 use Rattle.lv_schema.specs.UpkeepCases.{Marking, marking, outcome_of, with_record, with_steps}
-use Rattle.lv_schema.specs.WholeWorld.{with_upkeep, world_after}
+use Rattle.lv_schema.specs.WholeWorld.{with_upkeep}
 use Rattle.lv_schema.specs.World.{World}
 use Rattle.lv_bind.specs.Allowed.{IsAllowed}
 use Rattle.lv_journal.specs.declared.writer.Writer.{Writer}
@@ -18,7 +17,7 @@ use Rattle.lv_plain.specs.declared.entry.Entry.TheVariants as entry
 use Rattle.lv_plain.specs.declared.entry.Reply.TheVariants as reply
 use Rattle.lv_plain.specs.Machine.{Given, mark_outcome}
 use Rattle.lv_plain.specs.Rules.{Rules}
-use Rattle.lv_plain.specs.Turns.{Turn, reply_or}
+use Rattle.lv_plain.specs.Turns.{Turn}
 use Rattle.lv_plain.specs.WrittenRecords.{answered_record}
 use Rattle.lv_txn.specs.Kept.{TransactionKept, transaction_at, transaction_of}
 use Rattle.lv_engine.specs.Kept.{EngineView, IsSame, Stands}
@@ -40,11 +39,6 @@ IsRefusal (Some fault) (Ok a) = (a.forced ≡ []) × (a.reply ≡ reply.Refused 
 IsRefusal (Some fault) (Err e) = ⊥
 IsRefusal None (Ok a) = ⊥
 IsRefusal None (Err e) = Unit {0}
-
--- the world after the commit of a change outside a transaction: where it is not done, the transaction is given up
-abbrev pub alone_after : {A : Type 0} → Result A Fault → ℕ → Case A → World → World
-alone_after (Ok a) session c w = world_after c w
-alone_after (Err fault) session c w = world_after (rolled_back session w.visible) w
 
 module _ {D : Type 0} (seen : D → Option (List ℕ)) (may_leave : D → List ℕ → Type 0) (moment : D → ℕ) (left_since : D → ℕ → List ℕ → Type 0) (failures : D → ℕ) where
   -- what becomes of a journal, by the record that the disk was asked to keep and the one that was written
@@ -72,19 +66,6 @@ module _ {D : Type 0} (seen : D → Option (List ℕ)) (may_leave : D → List �
   abbrev pub Answers : {E : Type 0} → World → EngineView D → EngineView D → Result Answered E → List Forced → (Bool → Turn) → Type 0
   Answers w old new (Ok a) steps turn_if = GivesTurn w old new steps turn_if a
   Answers w old new (Err e) steps turn_if = IsUndone old new
-
-  -- the commit of a change outside a transaction; the session has none then, whatever is answered
-  pub record GivesAlone (count session : ℕ) (w : World) (old new : EngineView D) (case_if : Bool → Case (Option ℕ)) (a : Answered) : Type 0 where
-    pub fails : Bool
-    pub forced : a.forced ≡ []
-    pub reply : a.reply ≡ reply_or (reply.Alone count) (case_if fails).answer
-    pub stands : Stands (alone_after (case_if fails).answer session (case_if fails) w) new
-    pub journal : Journals (case_if fails).attempted (case_if fails).written old.journal new.journal
-    pub cause : fails ≡ true → Rose (failures old.journal.disk) (failures new.journal.disk)
-
-  abbrev pub CommitsAlone : {E : Type 0} → ℕ → ℕ → World → EngineView D → EngineView D → Result Answered E → (Bool → Case (Option ℕ)) → Type 0
-  CommitsAlone count session w old new (Ok a) case_if = GivesAlone count session w old new case_if a
-  CommitsAlone count session w old new (Err e) case_if = IsUndone (with_transaction old session None) new
 
   -- a mark of a view: its entry, the world after it, and the journal, for a disk that failed or did not
   abbrev pub marking_if : Rules → ℕ → World → Bool → Marking

@@ -1,11 +1,12 @@
 //! What a statement is answered.
 ghost use Rattle.std.specs.Prelude.{◌≡◌, []};
 ghost use Rattle.lv_store.specs.Answering.{effect_fault};
+ghost use Rattle.lv_engine.specs.Alone.{alone_fault};
 ghost use Rattle.lv_engine.specs.Answering.{commit_fault, create_fault};
 ghost use Rattle.lv_core.specs.Answering.{IsRefusal};
 
 use lv_effect::EffectFault;
-use lv_engine::{CommitFault, CreateFault};
+use lv_engine::{AloneFault, CommitFault, CreateFault};
 use lv_plain::Reply;
 use lv_schema::{Fault, ForcedSteps};
 use lv_values::NoMemory;
@@ -64,6 +65,16 @@ pub fn fault_of_create(fault: CreateFault) -> Option<Fault>
         CreateFault::Full { need, limit } => Some(Fault::JournalFull { need, limit }),
         CreateFault::Store => Some(Fault::Store),
         CreateFault::NoMemory => None,
+    }
+}
+
+/// Why a change outside a transaction is refused; none where memory was.
+pub fn fault_of_alone(fault: AloneFault) -> Option<Fault>
+    ensures { result ≡ alone_fault fault }
+{
+    match fault {
+        AloneFault::Change(fault) => fault_of_change(fault),
+        AloneFault::Record(fault) => fault_of_create(fault),
     }
 }
 

@@ -2,18 +2,17 @@
 ghost use Rattle.std.specs.Prelude.{◌≡◌, ◌<◌, ℕ, List, [], None};
 ghost use Rattle.lv_schema.specs.declared.bound.Bound.TheVariants as bound;
 ghost use Rattle.lv_schema.specs.Bound.{IsBoundChange};
-ghost use Rattle.lv_schema.specs.Cases.{alone, changed, committed, rolled_back};
+ghost use Rattle.lv_schema.specs.Cases.{alone, changed};
 ghost use Rattle.lv_schema.specs.UpkeepCases.{outcome_of};
-ghost use Rattle.lv_schema.specs.WholeWorld.{world_after};
 ghost use Rattle.lv_schema.specs.World as schema;
 ghost use Rattle.lv_schema.specs.World.{World};
 ghost use Rattle.lv_plain.specs.declared.entry.Reply.TheVariants as reply;
 ghost use Rattle.lv_plain.specs.Turns.{bound_turn, turn_by};
 ghost use Rattle.lv_txn.specs.Kept.{IsLive, transaction_at, transaction_of};
 ghost use Rattle.lv_engine.specs.Kept.{Stands};
-ghost use Rattle.lv_core.specs.Answering.{Answers, CommitsAlone, with_transaction};
+ghost use Rattle.lv_core.specs.Answering.{Answers};
 
-use crate::answered::{Answered, fault_of_change, fault_of_commit, refusal, replied};
+use crate::answered::{Answered, fault_of_alone, fault_of_change, refusal, replied};
 use lv_engine::Engine;
 use lv_outside::Disk;
 use lv_plain::Reply;
@@ -43,64 +42,24 @@ pub fn change_inside<D: Disk, L: Ledger>(
     }
 }
 
-/// A session has no transaction then: one that is there is rolled back.
-fn give_up<D: Disk>(engine: &mut Engine<D>, session: u32)
-    requires session { session < 17 }
-    ensures case { (w : World) → Stands w engine.old → Stands (world_after (rolled_back session w.visible) w) engine.new }
-    ensures others { engine.new ≡ with_transaction engine.old session None }
-{
-    if engine.live(session).is_some() {
-        engine.rollback(session);
-    }
-}
-
-/// COMMIT of a change that a transaction was opened for. The session has none then, whatever is answered.
-fn commit_alone<D: Disk>(
-    engine: &mut Engine<D>,
-    alloc: Global,
-    session: u32,
-    count: u64,
-) -> Result<Answered, NoMemory>
-    requires session { session < 17 }
-    requires live { IsLive engine.old.store.sessions session }
-    ensures case { (w : World) (settings : schema.Settings) → settings.limit ≡ engine.old.store.settings.log_limit → Stands w engine.old
-        → CommitsAlone D.seen D.may_leave D.moment D.left_since D.failures count session w engine.old engine.new result (λ fails. committed (outcome_of settings fails w.upkeep) session w.visible) }
-    ensures settings { engine.new.store.settings ≡ engine.old.store.settings }
-{
-    match engine.commit(alloc, session) {
-        Ok(number) => Ok(replied(alloc, Reply::Alone { count, number })),
-        Err(fault) => {
-            give_up(engine, session);
-            refusal(alloc, fault_of_commit(fault))
-        }
-    }
-}
-
-/// A change outside a transaction: BEGIN, the change and COMMIT, and ROLLBACK where one of them is refused. After a refusal
-/// nothing is open, and after want of memory all but the room in the journal is as it was.
+/// A change outside a transaction, as BEGIN, the change and COMMIT, and ROLLBACK where one of them is refused, for any session
+/// that has none. After want of memory all but the room in the journal is as it was.
 pub fn change_alone<D: Disk, L: Ledger>(
     engine: &mut Engine<D>,
     alloc: Global,
-    session: u32,
     change: &Change,
     steps: &mut Steps<L>,
 ) -> Result<Answered, NoMemory>
-    requires session { session < 17 }
-    requires free { transaction_at engine.old.store.sessions session ≡ None }
+    requires free { (session : ℕ) × (session < 17) × (transaction_at engine.old.store.sessions session ≡ None) }
     requires bound { IsBoundChange engine.old.store.tables change.now }
-    ensures case { (w : World) (settings : schema.Settings) → settings.limit ≡ engine.old.store.settings.log_limit → Stands w engine.old
+    ensures case { (session : ℕ) (w : World) (settings : schema.Settings) → session < 17 → transaction_at engine.old.store.sessions session ≡ None → settings.limit ≡ engine.old.store.settings.log_limit → Stands w engine.old
         → Answers D.seen D.may_leave D.moment D.left_since D.failures w engine.old engine.new result []
         (λ fails. turn_by (λ done. reply.Alone done.0 done.1) (alone (outcome_of settings fails w.upkeep) session change.now w.visible)) }
     ensures settings { engine.new.store.settings ≡ engine.old.store.settings }
 {
-    engine.known();
-    engine.begin(session);
-    match engine.change(alloc, session, change, steps) {
-        Ok(count) => commit_alone(engine, alloc, session, count),
-        Err(fault) => {
-            engine.rollback(session);
-            refusal(alloc, fault_of_change(fault))
-        }
+    match engine.change_alone(alloc, change, steps) {
+        Ok((count, number)) => Ok(replied(alloc, Reply::Alone { count, number })),
+        Err(fault) => refusal(alloc, fault_of_alone(fault)),
     }
 }
 
@@ -122,6 +81,6 @@ pub fn change<D: Disk, L: Ledger>(
     if engine.live(session).is_some() {
         change_inside(engine, alloc, session, change, steps)
     } else {
-        change_alone(engine, alloc, session, change, steps)
+        change_alone(engine, alloc, change, steps)
     }
 }

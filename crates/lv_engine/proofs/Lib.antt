@@ -1,3 +1,4 @@
+pub mod AloneWrites
 pub mod Logged
 pub mod Marked
 pub mod NoneLeft

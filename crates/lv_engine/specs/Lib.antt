@@ -1,3 +1,4 @@
+pub mod Alone
 pub mod Answering
 pub mod Committing
 pub mod Fresh

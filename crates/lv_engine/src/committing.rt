@@ -26,7 +26,7 @@ use lv_store::{Prepared, Store};
 use std::alloc::Global;
 
 /// The actions of a commit's record.
-fn actions_of(rec: Rec) -> Actions
+pub(crate) fn actions_of(rec: Rec) -> Actions
     requires { (number : ℕ) × (actions : List Action) × (rec ≡ variant.Commit number actions) }
     ensures { (number : ℕ) (actions : List Action) → rec ≡ variant.Commit number actions → result ≡ actions }
 {

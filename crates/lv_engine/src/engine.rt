@@ -5,7 +5,7 @@ ghost use Rattle.lv_journal.specs.declared.writer.Writer.{Writer};
 ghost use Rattle.lv_outside.specs.Causes.{Rose};
 ghost use Rattle.lv_schema.specs.declared.rec.Rec.{Rec};
 ghost use Rattle.lv_schema.specs.Bound.{IsBoundTable, IsBoundView, IsBoundChange, IsBoundQuery};
-ghost use Rattle.lv_schema.specs.Cases.{table_made, view_made, began, rolled_back, changed, committed};
+ghost use Rattle.lv_schema.specs.Cases.{table_made, view_made, began, rolled_back, changed, committed, alone};
 ghost use Rattle.lv_schema.specs.Policies.{unclaimed};
 ghost use Rattle.lv_schema.specs.Tasks.{pending_tasks};
 ghost use Rattle.lv_schema.specs.UpkeepCases.{cleaning, fetching, forced_by, installing, marking, outcome_of, released};
@@ -17,6 +17,8 @@ ghost use Rattle.lv_store.specs.Answering.{IsCostBetween, IsInputBetween, ReadsN
 ghost use Rattle.lv_store.specs.Inputs.{AreCosts};
 ghost use Rattle.lv_store.specs.Kept.{IsStore, kept, store_of};
 ghost use Rattle.lv_store.specs.Maintaining.{KeepsNoneBelow, TakesGiven, TakesInstalled};
+ghost use Rattle.lv_engine.specs.declared.fault.AloneFault.TheVariants as fault;
+ghost use Rattle.lv_engine.specs.Alone.{alone_fails, alone_fault};
 ghost use Rattle.lv_engine.specs.Answering.{GivesCleaned, GivesFetch, GivesInstall, GivesQuery, LogsCase, Meets, MeetsMark, commit_fault, create_fault, fails};
 ghost use Rattle.lv_replay.specs.Runs.{mark_written};
 ghost use Rattle.lv_engine.specs.Kept.{IsSame, Stands, StandsForSome, length_of};
@@ -24,9 +26,10 @@ ghost use Rattle.lv_engine.specs.Writing.{IsUntouched};
 ghost use Rattle.lv_stands.specs.Moves.{least_read};
 ghost use Rattle.lv_upkeep.specs.Kept.{claim_kept};
 
+use crate::alone::change_alone;
 use crate::committing::commit;
 use crate::creating::{create_table, create_view};
-use crate::fault::{CommitFault, CreateFault};
+use crate::fault::{AloneFault, CommitFault, CreateFault};
 use crate::marking::mark;
 use lv_effect::EffectFault;
 use lv_journal::Journal;
@@ -260,6 +263,34 @@ impl<D: Disk> Engine<D> {
         ensures cause { result ≡ Err CommitFault.Store → Rose (D.failures self.old.journal.disk) (D.failures self.new.journal.disk) }
     {
         commit(alloc, &mut self.store, &mut self.journal, session)
+    }
+
+    /// INSERT, UPDATE or DELETE outside a transaction, as BEGIN, the change and COMMIT would do it for any session that has
+    /// none; it opens none. It answers the number of rows and that of the commit, none where the change has no action. A
+    /// refusal changes nothing.
+    /// Cost: that of the effect on the table, for its c actions c log c comparisons of keys, a search and a move of small
+    /// numbers each, a look at each view, and two syncs.
+    pub fn change_alone<L: Ledger>(
+        &mut self,
+        alloc: Global,
+        change: &Change,
+        steps: &mut Steps<L>,
+    ) -> Result<(u64, Option<u64>), AloneFault>
+        requires free { (session : ℕ) × (session < 17) × (transaction_at self.old.store.sessions session ≡ None) }
+        requires bound { IsBoundChange self.old.store.tables change.now }
+        ensures case { (session : ℕ) (w : World) (settings : schema.Settings) → session < 17 → transaction_at self.old.store.sessions session ≡ None → settings.limit ≡ self.old.store.settings.log_limit → Stands w self.old
+            → Meets alone_fault w self.old self.new result (alone (outcome_of settings (alone_fails result) w.upkeep) session change.now w.visible) }
+        ensures log { (session : ℕ) (w : World) (settings : schema.Settings) → session < 17 → transaction_at self.old.store.sessions session ≡ None → settings.limit ≡ self.old.store.settings.log_limit → Stands w self.old
+            → let done = alone (outcome_of settings (alone_fails result) w.upkeep) session change.now w.visible in LogsCase D.seen D.may_leave D.moment D.left_since alone_fault result done.attempted done.written self.old.journal self.new.journal }
+        ensures sessions { self.new.store.sessions ≡ self.old.store.sessions }
+        ensures rows { self.new.store.rows ≡ self.old.store.rows }
+        ensures points { self.new.store.upkeep.points ≡ self.old.store.upkeep.points }
+        ensures settings { self.new.store.settings ≡ self.old.store.settings }
+        ensures later { D.failures self.old.journal.disk ≤ D.failures self.new.journal.disk }
+        ensures untouched { result ≢ Err (fault.Record CreateFault.Store) → OnErr result (IsUntouched D.seen D.may_leave D.failures self.old.journal.disk self.new.journal.disk) }
+        ensures cause { result ≡ Err (fault.Record CreateFault.Store) → Rose (D.failures self.old.journal.disk) (D.failures self.new.journal.disk) }
+    {
+        change_alone(alloc, &mut self.store, &mut self.journal, change, steps)
     }
 
     /// Marks a view as maintained to its point, by a record. It answers the point, none exactly where the view was marked there

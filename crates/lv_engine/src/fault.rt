@@ -1,5 +1,6 @@
 //! Why a call that writes the journal is refused.
 
+use lv_effect::EffectFault;
 use lv_schema::Conflict;
 use lv_store::PrepareFault;
 use lv_values::NoMemory;
@@ -79,5 +80,38 @@ impl From<CreateFault> for CommitFault {
             CreateFault::Store => CommitFault::Store,
             CreateFault::NoMemory => CommitFault::NoMemory,
         }
+    }
+}
+
+/// Why a change outside a transaction is refused. Nothing has changed then.
+#[derive(Debug, Drop, Error)]
+pub enum AloneFault {
+    /// The change is refused, or a table would have more than 65,535 rows.
+    #[error("change refused")]
+    Change(EffectFault),
+    /// Its record is not written.
+    #[error("record not written")]
+    Record(CreateFault),
+}
+
+impl From<EffectFault> for AloneFault {
+    ghost use Rattle.std.specs.Prelude.{◌≡◌};
+    ghost use Rattle.lv_engine.specs.declared.fault.AloneFault.TheVariants as fault;
+
+    ghost from_gives = { λ e f. f ≡ fault.Change e };
+
+    fn from(fault: EffectFault) -> Self {
+        AloneFault::Change(fault)
+    }
+}
+
+impl From<CreateFault> for AloneFault {
+    ghost use Rattle.std.specs.Prelude.{◌≡◌};
+    ghost use Rattle.lv_engine.specs.declared.fault.AloneFault.TheVariants as fault;
+
+    ghost from_gives = { λ e f. f ≡ fault.Record e };
+
+    fn from(fault: CreateFault) -> Self {
+        AloneFault::Record(fault)
     }
 }

@@ -1,6 +1,7 @@
 //! The running store over a disk: each commit, table, view and mark is in the journal before it is done.
 #![tactic(auto)]
 
+mod alone;
 mod committing;
 mod creating;
 mod engine;
@@ -10,5 +11,5 @@ mod marking;
 mod writing;
 
 pub use engine::Engine;
-pub use fault::{CommitFault, CreateFault};
+pub use fault::{AloneFault, CommitFault, CreateFault};
 pub use laws::fresh_engines_stand_for_one_world;

@@ -39,10 +39,10 @@ use Rattle.lv_store.specs.Kept.{IsStore, Stands, is_used, kept, store_of}
 use Rattle.lv_store.proofs.OwnReads.{own_is}
 use Rattle.lv_store.proofs.Standing.{all_both, any_journal, live_at, stands_in, with_transactions}
 
-abbrev BoundSumsFit : Type 0
+abbrev pub BoundSumsFit : Type 0
 BoundSumsFit = (tables : List TableDef) (views : List ViewDef) (change : Change) (rows : List (List Value)) → IsSchema tables views → IsBoundChange tables change → IsTable (table_at tables (changed_table change)) rows → ChangeSumsFit change rows
 
-abbrev WrittenStand : Type 0
+abbrev pub WrittenStand : Type 0
 WrittenStand = (tables : List TableDef) (actions : List Action) (t : ℕ) → StandUnder (table_at tables t).key t (map (put_of tables) actions)
 
 pub table_there : (tables : List TableDef) (change : Change) → IsBoundChange tables change → changed_table change < length tables

@@ -1,3 +1,4 @@
+pub mod AloneParts
 pub mod ChangedParts
 pub mod CleanedParts
 pub mod Commits

@@ -1,4 +1,5 @@
 pub mod Inputs
+pub mod Alone
 pub mod Answering
 pub mod Committing
 pub mod MadeViews

@@ -20,7 +20,7 @@ use std::alloc::Global;
 use std::sync::ledger::Ledger;
 
 /// The table that a change is on.
-fn changed_table(change: &Change) -> u32
+pub(crate) fn changed_table(change: &Change) -> u32
     ensures { result ≡ changed_table change.now }
 {
     match change {

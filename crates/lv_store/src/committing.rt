@@ -38,7 +38,7 @@ enum Next {
 }
 
 /// Refuses a commit that 64 bits could not count, or whose entries they could not, for which there is no memory.
-fn check_numbers(base: &Base, ready: &Ready) -> Result<(), NoMemory>
+pub(crate) fn check_numbers(base: &Base, ready: &Ready) -> Result<(), NoMemory>
     ensures number { OnOk result (base.now.number + 1 < 2 ^ 64) }
     ensures entries { OnOk result (length base.now.deltas.entries + length ready.now.actions < 2 ^ 64) }
 {

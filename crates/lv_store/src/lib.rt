@@ -2,6 +2,7 @@
 //! halves: one takes all memory, the other takes none, and between the two the caller writes the record.
 #![tactic(auto)]
 
+mod alone;
 mod answer;
 mod changing;
 mod cleaned;
