@@ -1,5 +1,5 @@
 -- Indexes: the versions in the order of their values in some columns.
-use Rattle.std.proofs.Common.{◌≡◌, ℕ, zero, suc, ◌+◌, ◌≤◌, Bool, true, false, cond, List, [], ◌∷◌, ◌++◌, drop, take, map, filter, Some, refl, sym, ap, ap₂, ◌∙◌, subst, arith}
+use Rattle.std.proofs.Common.{◌≡◌, ℕ, zero, suc, ◌+◌, ◌<◌, ◌≤◌, Bool, true, false, cond, List, [], ◌∷◌, ◌++◌, drop, take, map, filter, Some, refl, sym, ap, ap₂, ◌∙◌, subst, arith}
 use Rattle.std.specs.Prelude.{◌&&◌, slice_get}
 use Rattle.std.specs.List.{AllByRecursion, remove}
 use Rattle.std.specs.Ordering.{is_eq, is_lt, nat_cmp, ordering_reverse, ordering_then}
@@ -21,8 +21,8 @@ use Rattle.lv_schema.specs.declared.version.RowVersion.{RowVersion}
 use Rattle.lv_shelf.specs.Cuts.{Apart, Falls, IsCut}
 use Rattle.lv_shelf.specs.Shelves.{LacksItem}
 use Rattle.lv_shelf.proofs.Among.{all_remove, apart_remove}
-use Rattle.lv_shelf.proofs.Cutting.{all_at, all_kept, got, got_within}
-use Rattle.lv_versions.specs.Versions.{AreIndexed, AreIndexedBut, IsIn, Precedes, closed, hits, index_cmp, is_at, is_upto, reaches_by, rows_hit, version_cmp}
+use Rattle.lv_shelf.proofs.Cutting.{all_at, all_kept, cut_at, cut_fails, got, got_within}
+use Rattle.lv_versions.specs.Versions.{AreIndexed, AreIndexedBut, IsIn, Precedes, closed, hits, index_cmp, is_at, is_upto, reaches_by, rows_hit, state_at, version_cmp}
 use Rattle.lv_versions.proofs.Bringing.{all_last}
 use Rattle.lv_versions.proofs.Cleaning.{all_unplaced, back_lacks, kept_here, placed_here, rest_lacks, same_version_or}
 use Rattle.lv_versions.proofs.Ending.{all_mapped}
@@ -235,6 +235,38 @@ no_more_hits cs values n zero (suc at) (x ∷ xs) le cut = no_more_hits cs value
 no_more_hits cs values n (suc i) zero xs le cut = absurd (omega arith)
 no_more_hits cs values n (suc i) (suc at) [] le cut = refl
 no_more_hits cs values n (suc i) (suc at) (x ∷ xs) le cut = no_more_hits cs values n i at xs (omega arith) cut.1
+
+-- between the two places a version has these values
+and_true : (a : Bool) → a ≡ (a && true)
+and_true true = refl
+and_true false = refl
+
+shown_hits : (cs : List ℕ) (values : List Value) (n : ℕ) (v : RowVersion) → is_upto cs values false v ≡ false → is_upto cs values true v ≡ true → is_at n v ≡ hits cs values n v
+shown_hits cs values n v above upto = by (row_cmp (values_at cs v.row) values) above upto
+  where
+    by : (o : Ordering) → reaches_by o false ≡ false → reaches_by o true ≡ true → is_at n v ≡ (is_at n v && is_eq o)
+    by Less e f = cc
+    by Equal e f = and_true (is_at n v)
+    by Greater e f = cc
+
+pub between_hits : (cs : List ℕ) (values : List Value) (n first end at : ℕ) (v : RowVersion) (xs : List RowVersion) → IsCut (is_upto cs values false) first xs → IsCut (is_upto cs values true) end xs → first ≤ at → at < end → slice_get xs at ≡ Some v
+    → state_at n (v ∷ []) ≡ rows_hit cs values n (v ∷ [])
+between_hits cs values n first end at v xs below upto le lt e =
+    let is = got xs at v v e in
+    let above : is_upto cs values false v ≡ false = sym (ap (is_upto cs values false) is) ∙ cut_fails (is_upto cs values false) first at xs v below le (got_within xs at v e) in
+    let within : is_upto cs values true v ≡ true = sym (ap (is_upto cs values true) is) ∙ cut_at (is_upto cs values true) end at xs v upto lt in
+    ap (λ b. map (λ (w : RowVersion). w.row) (cond b (v ∷ []) [])) (shown_hits cs values n v above within)
+
+pub cuts_apart : (cs : List ℕ) (values : List Value) (first end : ℕ) (xs : List RowVersion) → IsCut (is_upto cs values false) first xs → IsCut (is_upto cs values true) end xs → first ≤ end
+cuts_apart cs values zero end xs below upto = omega arith
+cuts_apart cs values (suc first) end [] below upto = absurd below
+cuts_apart cs values (suc first) zero (x ∷ xs) below upto = by (row_cmp (values_at cs x.row) values) below.0 upto.0
+  where
+    by : (o : Ordering) → reaches_by o false ≡ true → reaches_by o true ≡ false → suc first ≤ 0
+    by Less e f = cc
+    by Equal e f = cc
+    by Greater e f = cc
+cuts_apart cs values (suc first) (suc end) (x ∷ xs) below upto = let le = cuts_apart cs values first end xs below.1 upto.1 in omega (arith, le)
 
 hit_values : (cs : List ℕ) (values : List Value) (n : ℕ) (v : RowVersion) → hits cs values n v ≡ true → values_at cs v.row ≡ values
 hit_values cs values n v t = same_row (values_at cs v.row) values (second (is_at n v) (row_eq (values_at cs v.row) values) t)

@@ -1,5 +1,5 @@
 //! A table's row versions.
-ghost use Rattle.std.specs.Prelude.{◌≡◌, ◌+◌, ◌-◌, ◌^◌, ◌<◌, ◌≤◌, ◌++◌, ◌∷◌, [], ℕ, Bool, length, map, filter, Some, None, MatchOption, IfOk, OnOk, OnErr, option_to_list, drop, take, false, true};
+ghost use Rattle.std.specs.Prelude.{◌≡◌, ◌+◌, ◌-◌, ◌^◌, ◌<◌, ◌≤◌, ◌++◌, ◌∷◌, [], ℕ, Bool, length, map, filter, Some, None, MatchOption, IfOk, OnOk, OnErr, option_to_list, drop, take, false, true, vec_len, vec_capacity};
 ghost use Rattle.std.specs.Option.{option_copied, option_to_list};
 ghost use Rattle.std.specs.List.{AllByRecursion};
 ghost use Rattle.std.specs.List.Sorted.{IsPermutation};
@@ -144,7 +144,7 @@ impl Versions {
     }
 
     /// The rows after commit n that have these values in these columns, in the order of their keys.
-    /// Cost: as of `probe_in_place`, and a copy of each row.
+    /// Cost: as of `probe_in_place`, and a copy of each row, in room that is taken once.
     pub fn probe<L: Ledger>(
         &self,
         alloc: Global,
@@ -163,9 +163,9 @@ impl Versions {
         copies(alloc, &found)
     }
 
-    /// References to the rows that `probe` copies, where they lie. Cost: a reference to each row, and with an index by
-    /// these columns two binary searches and the versions of all commits that have these values, or else one pass over
-    /// the versions.
+    /// References to the rows that `probe` copies, where they lie. Cost: with an index by these columns two binary
+    /// searches, and for each version of any commit that has these values room for a reference, taken once, and a test of
+    /// its commits alone; or else one pass over the versions, and a reference to each row.
     pub fn probe_in_place<'b, L: Ledger>(
         &'b self,
         alloc: Global,
@@ -424,15 +424,15 @@ fn rows_in<L: Ledger, T: Test<Row>>(
     Ok(rows)
 }
 
-/// Copies of the rows that references see.
+/// Copies of the rows that references see. The list takes its room once.
 fn copies(alloc: Global, found: &[&Row]) -> Result<Rows, NoMemory>
     ensures { IfOk result (λ rows. rows ≡ map (λ row. row.now) found.now) }
 {
-    let mut rows = Rows::new(alloc);
+    let mut rows = Vec::with_capacity(alloc, found.len())?;
     for row in found {
-        rows.push(row.copy(alloc)?)?;
+        rows.push_reserved(row.copy(alloc)?);
     }
-    Ok(rows)
+    Ok(Rows::from_vec(rows))
 }
 
 /// Appends a reference to the version's row, and takes one step, if the row is there after commit n and has these values.
@@ -475,8 +475,28 @@ fn rows_with<'b, L: Ledger>(
     Ok(rows)
 }
 
+/// Appends a reference to the version's row, and takes one step, if the row is there after commit n. It takes no memory.
+fn push_shown<'b, L: Ledger>(
+    n: u64,
+    version: &'b RowVersion,
+    rows: &mut Vec<&'b Row>,
+    steps: &mut Steps<L>,
+)
+    requires room { vec_len rows.old < vec_capacity rows.old }
+    ensures pushed { map (λ row. row.now) rows.new.items ≡ map (λ row. row.now) rows.old.items ++ state_at n (version.now ∷ []) }
+    ensures cost { steps.new ≡ steps.old + length (state_at n (version.now ∷ [])) }
+    ensures len { vec_len rows.new ≤ vec_len rows.old + 1 }
+    ensures capacity { vec_capacity rows.new ≡ vec_capacity rows.old }
+{
+    if is_at(version, n) {
+        rows.push_reserved(&version.row);
+        steps.tick();
+    }
+}
+
 /// References to the rows after commit n that have these values, from an index by these columns, and one step for each.
-/// Cost: two binary searches, and the versions between.
+/// Cost: two binary searches, and for each version between room for a reference, taken once, and a test of its commits:
+/// it has these values already.
 fn rows_between<'b, L: Ledger>(
     alloc: Global,
     n: u64,
@@ -505,16 +525,9 @@ fn rows_between<'b, L: Ledger>(
         themselves: true,
     };
     let end = versions.cut_in_near(order, rank, &upto);
-    let mut rows = Vec::new(alloc);
+    let mut rows = Vec::with_capacity(alloc, end - first)?;
     for at in first..end {
-        push_hit(
-            n,
-            columns,
-            values,
-            versions.get_in(order, at),
-            &mut rows,
-            steps,
-        )?;
+        push_shown(n, versions.get_in(order, at), &mut rows, steps);
     }
     Ok(rows)
 }
