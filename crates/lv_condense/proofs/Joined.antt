@@ -1,16 +1,18 @@
 -- A touch that ends with a later action on its key comes to what it and the touch by that action come to.
-use Rattle.std.proofs.Common.{◌≡◌, ℕ, zero, suc, Bool, true, false, cond, ◌||◌, ◌-◌, List, [], ◌∷◌, ◌++◌, map, length, get_or, Option, refl, sym, ap, ◌∙◌, subst, arith}
+use Rattle.std.proofs.Common.{◌≡◌, ℕ, zero, suc, Bool, true, false, cond, ◌||◌, ◌-◌, ◌<◌, List, [], ◌∷◌, ◌++◌, map, drop, length, get_or, Option, refl, sym, ap, ◌∙◌, subst, arith}
 use Rattle.std.specs.Prelude.{◌==◌, slice_set}
 use Rattle.std.specs.List.{AllByRecursion, list_any}
 use Rattle.std.specs.Ordering.{is_eq, is_lt}
 use Rattle.std.specs.declared.cmp.Ordering.{Ordering}
 use Rattle.std.specs.declared.cmp.Ordering.TheVariants.{Less, Equal, Greater}
+use Rattle.std.proofs.lemmas.List.{drop_all}
 use Rattle.lv_values.specs.declared.value.Value.{Value}
 use Rattle.lv_values.specs.Order.{row_eq}
 use Rattle.lv_values.specs.OrderLaws.{row_exact, row_total}
+use Rattle.lv_schema.specs.declared.action.Action.{Action}
 use Rattle.lv_schema.specs.Keys.{left_by}
 use Rattle.lv_schema.specs.Once.{Ascends}
-use Rattle.lv_condense.specs.Touches.{Alike, ATouch, key_of, touch_cmp, found_in, left_in, of_key, then_by}
+use Rattle.lv_condense.specs.Touches.{Alike, ATouch, IsLastOf, key_of, touch_cmp, found_in, left_in, of_key, then_by}
 
 abbrev Key : Type 0
 Key = List Value
@@ -52,30 +54,109 @@ alike_then_by t x rest same = record {
     left false true e k row = cc
     left false false e k row = refl
 
-pub equal_key : (t x : ATouch) → is_eq (touch_cmp t x) ≡ true → key_of x ≡ key_of t
-equal_key t x h = by (touch_cmp t x) refl h
-  where
-    by : (r : Ordering) → touch_cmp t x ≡ r → is_eq r ≡ true → key_of x ≡ key_of t
-    by Less e g = cc
-    by Equal e g = sym (row_exact (key_of t) (key_of x) e)
-    by Greater e g = cc
-
 pub is_less : (r : Ordering) → is_lt r ≡ true → r ≡ Less
 is_less Less h = refl
 is_less Equal h = cc
 is_less Greater h = cc
 
-pub last_at : (n len : ℕ) → len ≡ n → (n == 0) ≡ false → suc (len - 1) ≡ n
-last_at zero len e f = cc
-last_at (suc n) len e f = omega arith
+pub last_at : (n : ℕ) → (n == 0) ≡ false → suc (n - 1) ≡ n
+last_at zero f = cc
+last_at (suc n) f = omega arith
 
--- the last touch of a list ends with a later action
-pub alike_last : (xs : List ATouch) (i : ℕ) (t x : ATouch) (rest : List ATouch) → suc i ≡ length xs → t ≡ get_or xs i t → key_of x ≡ key_of t → Alike (slice_set xs i (then_by t x.last) ++ rest) (xs ++ x ∷ rest)
-alike_last [] i t x rest n at same = absurd (omega arith)
-alike_last (y ∷ []) zero t x rest n at same = subst (λ (u : ATouch). Alike (then_by t x.last ∷ rest) (u ∷ x ∷ rest)) at (alike_then_by t x rest same)
-alike_last (y ∷ []) (suc i) t x rest n at same = absurd (omega arith)
-alike_last (y ∷ z ∷ xs) zero t x rest n at same = absurd (omega arith)
-alike_last (y ∷ z ∷ xs) (suc i) t x rest n at same = alike_behind y (slice_set (z ∷ xs) i (then_by t x.last) ++ rest) ((z ∷ xs) ++ x ∷ rest) (alike_last (z ∷ xs) i t x rest (omega arith) at same)
+equal_from : (r : Ordering) → is_eq r ≡ true → r ≡ Equal
+equal_from Less h = cc
+equal_from Equal h = refl
+equal_from Greater h = cc
+
+alike_along : (xs ys zs : List ATouch) → Alike xs ys → Alike ys zs → Alike xs zs
+alike_along xs ys zs a b = record {
+  keys = λ k. a.keys k ∙ b.keys k;
+  found = λ k. a.found k ∙ b.found k;
+  left = λ k row. a.left k row ∙ b.left k row;
+}
+
+-- a list without a key starts with no touch of it, and goes on without it
+pub record Lacks (k : Key) (y : ATouch) (ys : List ATouch) : Type 0 where
+  pub first : row_eq k (key_of y) ≡ false
+  pub rest : of_key k ys ≡ []
+
+lacks : (k : Key) (y : ATouch) (ys : List ATouch) → of_key k (y ∷ ys) ≡ [] → Lacks k y ys
+lacks k y ys none = by (row_eq k (key_of y)) refl none
+  where
+    by : (b : Bool) → row_eq k (key_of y) ≡ b → cond b (y ∷ of_key k ys) (of_key k ys) ≡ [] → Lacks k y ys
+    by true e n = cc
+    by false e n = record { first = e; rest = n }
+
+-- touches of two keys come to the same in either order
+alike_swapped : (x y : ATouch) (rest : List ATouch) → row_eq (key_of x) (key_of y) ≡ false → Alike (x ∷ y ∷ rest) (y ∷ x ∷ rest)
+alike_swapped x y rest apart = record {
+  keys = λ k. turned (row_eq k (key_of x)) (row_eq k (key_of y)) (list_any (row_eq k) (map key_of rest));
+  found = λ k. found (row_eq k (key_of x)) (row_eq k (key_of y)) k (never k);
+  left = λ k row. left (row_eq k (key_of x)) (row_eq k (key_of y)) k row (never k);
+}
+  where
+    turned : (b c d : Bool) → (b || (c || d)) ≡ (c || (b || d))
+    turned true true d = refl
+    turned true false d = refl
+    turned false c d = refl
+
+    never : (k : Key) → row_eq k (key_of x) ≡ true → row_eq k (key_of y) ≡ true → ⊥
+    never k p q =
+        let at_x : k ≡ key_of x = row_exact k (key_of x) (equal_from _ p) in
+        let e : row_eq (key_of x) (key_of y) ≡ true = ap (λ (l : Key). row_eq l (key_of y)) (sym at_x) ∙ q in
+        cc
+
+    found : (b c : Bool) (k : Key) → (b ≡ true → c ≡ true → ⊥) → found_in (cond b (x ∷ cond c (y ∷ of_key k rest) (of_key k rest)) (cond c (y ∷ of_key k rest) (of_key k rest))) ≡ found_in (cond c (y ∷ cond b (x ∷ of_key k rest) (of_key k rest)) (cond b (x ∷ of_key k rest) (of_key k rest)))
+    found true true k n = absurd (n refl refl)
+    found true false k n = refl
+    found false c k n = refl
+
+    left : (b c : Bool) (k : Key) (row : Option Key) → (b ≡ true → c ≡ true → ⊥) → left_in row (cond b (x ∷ cond c (y ∷ of_key k rest) (of_key k rest)) (cond c (y ∷ of_key k rest) (of_key k rest))) ≡ left_in row (cond c (y ∷ cond b (x ∷ of_key k rest) (of_key k rest)) (cond b (x ∷ of_key k rest) (of_key k rest)))
+    left true true k row n = absurd (n refl refl)
+    left true false k row n = refl
+    left false c k row n = refl
+
+-- a touch may stand behind touches of other keys
+alike_past : (x : ATouch) (ys rest : List ATouch) → of_key (key_of x) ys ≡ [] → Alike (x ∷ (ys ++ rest)) (ys ++ x ∷ rest)
+alike_past x [] rest none = record { keys = λ k. refl; found = λ k. refl; left = λ k row. refl }
+alike_past x (y ∷ ys) rest none =
+    let l = lacks (key_of x) y ys none in
+    alike_along (x ∷ y ∷ (ys ++ rest)) (y ∷ x ∷ (ys ++ rest)) (y ∷ (ys ++ x ∷ rest))
+    (alike_swapped x y (ys ++ rest) l.first) (alike_behind y (x ∷ (ys ++ rest)) (ys ++ x ∷ rest) (alike_past x ys rest l.rest))
+
+-- a touch behind which there is none of its key ends with a later action on it
+alike_at : (xs : List ATouch) (i : ℕ) (t x : ATouch) (rest : List ATouch) → i < length xs → t ≡ get_or xs i t → key_of x ≡ key_of t → of_key (key_of x) (drop (suc i) xs) ≡ [] → Alike (slice_set xs i (then_by t x.last) ++ rest) (xs ++ x ∷ rest)
+alike_at [] i t x rest n at same none = absurd (omega arith)
+alike_at (y ∷ ys) zero t x rest n at same none =
+    alike_along (then_by t x.last ∷ (ys ++ rest)) (y ∷ x ∷ (ys ++ rest)) (y ∷ (ys ++ x ∷ rest))
+    (subst (λ (u : ATouch). Alike (then_by t x.last ∷ (ys ++ rest)) (u ∷ x ∷ (ys ++ rest))) at (alike_then_by t x (ys ++ rest) same))
+    (alike_behind y (x ∷ (ys ++ rest)) (ys ++ x ∷ rest) (alike_past x ys rest none))
+alike_at (y ∷ ys) (suc i) t x rest n at same none = alike_behind y (slice_set ys i (then_by t x.last) ++ rest) (ys ++ x ∷ rest) (alike_at ys i t x rest (omega arith) at same none)
+
+-- ---- the last touch of a key
+one_there : (xs : List ATouch) (i : ℕ) (t u : ATouch) → i < length xs → t ≡ get_or xs i t → u ≡ get_or xs i u → u ≡ t
+one_there [] i t u n at there = absurd (omega arith)
+one_there (y ∷ ys) zero t u n at there = there ∙ sym at
+one_there (y ∷ ys) (suc i) t u n at there = one_there ys i t u (omega arith) at there
+
+pub last_here : (k : Key) (xs : List ATouch) (i : ℕ) (t : ATouch) → i < length xs → t ≡ get_or xs i t → row_eq k (key_of t) ≡ true → of_key k (drop (suc i) xs) ≡ [] → IsLastOf k xs i
+last_here k xs i t n at on none = record {
+  within = n;
+  here = λ u there. ap key_of (one_there xs i t u n at there) ∙ sym (row_exact k (key_of t) (equal_from _ on));
+  behind = none;
+}
+
+pub none_from : (k : Key) (xs : List ATouch) (i : ℕ) (t : ATouch) → i < length xs → t ≡ get_or xs i t → row_eq k (key_of t) ≡ false → of_key k (drop (suc i) xs) ≡ [] → of_key k (drop i xs) ≡ []
+none_from k [] i t n at off none = absurd (omega arith)
+none_from k (y ∷ ys) zero t n at off none = ap (λ b. cond b (y ∷ of_key k ys) (of_key k ys)) (ap (λ (u : ATouch). row_eq k (key_of u)) (sym at) ∙ off) ∙ none
+none_from k (y ∷ ys) (suc i) t n at off none = none_from k ys i t (omega arith) at off none
+
+pub none_behind_all : (k : Key) (xs : List ATouch) (i : ℕ) → suc i ≡ length xs → of_key k (drop (suc i) xs) ≡ []
+none_behind_all k xs i n = ap (of_key k) (drop_all (suc i) xs (omega arith))
+
+-- the last touch of a key ends with a later action on it
+pub alike_lengthened : (xs : List ATouch) (i : ℕ) (t x : ATouch) (rest : List ATouch) → t ≡ get_or xs i t → IsLastOf (key_of x) xs i → Alike (slice_set xs i (then_by t x.last) ++ rest) (xs ++ x ∷ rest)
+alike_lengthened xs i t x rest at last = alike_at xs i t x rest last.within at (sym (last.here t at)) last.behind
 
 -- ---- touches each of a lower key than the next one
 abbrev Below : ATouch → List ATouch → Type 0
@@ -100,15 +181,13 @@ ascends_one_more (y ∷ z ∷ xs) (suc i) t x n at l a =
     let below : touch_cmp y t ≡ Less = below_at y (z ∷ xs) i t (omega arith) at a.0 in
     (below_one_more y (z ∷ xs) x a.0 (row_total.trans (key_of y) (key_of t) (key_of x) below l), ascends_one_more (z ∷ xs) i t x (omega arith) at l a.1)
 
-below_last : (y : ATouch) (xs : List ATouch) (i : ℕ) (t x : ATouch) → suc i ≡ length xs → touch_cmp y t ≡ Less → Below y xs → Below y (slice_set xs i (then_by t x.last))
-below_last y [] i t x n l b = absurd (omega arith)
-below_last y (z ∷ xs) zero t x n l b = (l, b.1)
-below_last y (z ∷ []) (suc i) t x n l b = absurd (omega arith)
-below_last y (z ∷ w ∷ xs) (suc i) t x n l b = (b.0, below_last y (w ∷ xs) i t x (omega arith) l b.1)
+below_set : (y : ATouch) (xs : List ATouch) (i : ℕ) (t : ATouch) (a : Action) → i < length xs → t ≡ get_or xs i t → Below y xs → Below y (slice_set xs i (then_by t a))
+below_set y [] i t a n at b = absurd (omega arith)
+below_set y (z ∷ xs) zero t a n at b = (ap (touch_cmp y) at ∙ b.0, b.1)
+below_set y (z ∷ xs) (suc i) t a n at b = (b.0, below_set y xs i t a (omega arith) at b.1)
 
-pub ascends_last : (xs : List ATouch) (i : ℕ) (t x : ATouch) → suc i ≡ length xs → t ≡ get_or xs i t → Ascends touch_cmp xs → Ascends touch_cmp (slice_set xs i (then_by t x.last))
-ascends_last [] i t x n at a = absurd (omega arith)
-ascends_last (y ∷ []) zero t x n at a = (tt, tt)
-ascends_last (y ∷ []) (suc i) t x n at a = absurd (omega arith)
-ascends_last (y ∷ z ∷ xs) zero t x n at a = absurd (omega arith)
-ascends_last (y ∷ z ∷ xs) (suc i) t x n at a = (below_last y (z ∷ xs) i t x (omega arith) (below_at y (z ∷ xs) i t (omega arith) at a.0) a.0, ascends_last (z ∷ xs) i t x (omega arith) at a.1)
+-- a touch that ends with a later action keeps its key
+pub ascends_at : (xs : List ATouch) (i : ℕ) (t : ATouch) (a : Action) → i < length xs → t ≡ get_or xs i t → Ascends touch_cmp xs → Ascends touch_cmp (slice_set xs i (then_by t a))
+ascends_at [] i t a n at up = absurd (omega arith)
+ascends_at (y ∷ xs) zero t a n at up = (subst (λ (u : ATouch). Below u xs) (sym at) up.0, up.1)
+ascends_at (y ∷ xs) (suc i) t a n at up = (below_set y xs i t a (omega arith) at up.0, ascends_at xs i t a (omega arith) at up.1)

@@ -1,13 +1,17 @@
 //! Collecting the touches of a table.
-ghost use Rattle.std.specs.Prelude.{◌≡◌, true, ◌++◌, [], ◌∷◌, List, map, IfOk, OnOk};
+ghost use Rattle.std.specs.Prelude.{◌≡◌, ℕ, ◌<◌, ◌≤◌, true, ◌++◌, [], ◌∷◌, List, drop, length, map, IfOk, IfSome, OnOk};
+ghost use Rattle.lv_values.specs.Rows.{values_at};
 ghost use Rattle.lv_schema.specs.declared.action.DeltaEntry.{DeltaEntry};
 ghost use Rattle.lv_schema.specs.Once.{Ascends};
-ghost use Rattle.lv_condense.specs.Touches.{Alike, ATouch, touch_by, touch_cmp, touched};
+ghost use Rattle.lv_condense.specs.Touches.{Alike, ATouch, IsLastOf, of_key, touch_by, touch_cmp, touched};
 
 use crate::touch::Touch;
 use lv_schema::{Action, DeltaEntry, TableDef};
 use lv_values::NoMemory;
 use std::alloc::Global;
+
+/// The longest list of touches that is searched for an action's key.
+const SHORT: usize = 16;
 
 /// The touches of a table in the order of its actions, and whether each is of a lower key than the next one.
 #[derive(Drop)]
@@ -28,29 +32,69 @@ impl<'a> Touches<'a> {
         }
     }
 
-    /// Adds an action: where it is on the key of the last touch, that touch ends with it. Cost: a comparison of keys.
+    /// Ends a touch with an action.
+    fn lengthen(&mut self, at: usize, action: &'a Action)
+        requires { at < length self.old.list.items }
+        ensures alike { (key : List ℕ) → IsLastOf (values_at key action.now.row) self.old.list.items at
+            → (rest : List ATouch) → Alike (self.new.list.items ++ rest) (self.old.list.items ++ touch_by key action.now ∷ rest) }
+        ensures ascend { (self.old.ascend ≡ true → Ascends touch_cmp self.old.list.items) → self.new.ascend ≡ true → Ascends touch_cmp self.new.list.items }
+    {
+        let touch = &self.list[at];
+        let longer = touch.then(action);
+        self.list[at] = longer;
+    }
+
+    /// Adds an action: the last touch of its key ends with it, where that is the last of all or they are few; else it is a
+    /// touch of its own. Cost: the last touch's key is tested, and where it is another, compared while the keys ascend. The
+    /// others are tested only where they are few and the action's key is not above them.
     fn add(&mut self, key: &'a [u8], action: &'a Action) -> Result<(), NoMemory>
         ensures alike { OnOk result ((rest : List ATouch) → Alike (self.new.list.items ++ rest) (self.old.list.items ++ touch_by key.now action.now ∷ rest)) }
         ensures ascend { OnOk result ((self.old.ascend ≡ true → Ascends touch_cmp self.old.list.items) → self.new.ascend ≡ true → Ascends touch_cmp self.new.list.items) }
     {
-        let touch = Touch::by(key, action);
         let list: &[Touch<'a>] = &self.list;
         if list.is_empty() {
-            self.list.push(touch)?;
+            self.list.push(Touch::by(key, action))?;
             return Ok(());
         }
-        let at = self.list.len() - 1;
-        let last = &self.list[at];
-        let order = last.cmp(&touch);
-        if order.is_eq() {
-            let longer = last.then(action);
-            self.list[at] = longer;
+        let at = list.len() - 1;
+        let last = &list[at];
+        if last.is_on(key, action) {
+            self.lengthen(at, action);
             return Ok(());
         }
-        self.list.push(touch)?;
-        self.ascend = self.ascend && order.is_lt();
+        if self.ascend && last.is_below(key, action) {
+            self.list.push(Touch::by(key, action))?;
+            return Ok(());
+        }
+        if let Some(found) = last_of(list, at, key, action) {
+            self.lengthen(found, action);
+            return Ok(());
+        }
+        self.list.push(Touch::by(key, action))?;
+        self.ascend = false;
         Ok(())
     }
+}
+
+/// Where the last touch of an action's key is, none of those from an end on being one; not looked for where they are many.
+/// Cost: the key is tested at the touches from there to the end.
+fn last_of(touches: &[Touch<'_>], end: usize, key: &[u8], action: &Action) -> Option<usize>
+    requires within { end ≤ length touches.now }
+    requires none { of_key (values_at key.now action.now.row) (drop end touches.now) ≡ [] }
+    ensures { IfSome result (λ at. IsLastOf (values_at key.now action.now.row) touches.now at) }
+{
+    if end >= SHORT {
+        return None;
+    }
+    let mut at = end;
+    while at > 0 {
+        let touch = &touches[at - 1];
+        if touch.is_on(key, action) {
+            return Some(at - 1);
+        }
+        at -= 1;
+    }
+    None
 }
 
 /// The touches of a table by the actions of entries.

@@ -139,8 +139,10 @@ fn condense_touches(
 /// first of them finds and the one that the last of them leaves, where these differ. So it is the net change from each
 /// state on which they can be taken to the one to which they lead.
 ///
-/// Cost: a comparison of keys in place for each action on the table, and copies of the rows of the net change. Where the
-/// keys do not ascend, also n log n comparisons, where n counts actions in a row on one key once.
+/// Cost: for each action on the table a test whether its key is the last action's, and copies of the rows of the net
+/// change. A key above all before it costs one comparison. Up to sixteen keys are found again in any order, by a test for
+/// each of them at most: however many actions are on these few keys, what is sorted and gathered is one entry a key. Where
+/// there are more keys and they do not ascend, also n log n comparisons, where n counts actions in a row on one key once.
 pub fn condense_actions(
     alloc: Global,
     table: &TableDef,
@@ -154,7 +156,8 @@ pub fn condense_actions(
     condense_touches(alloc, table, touches)
 }
 
-/// The net change that the actions of entries make of a table, as `condense_actions` says it of the actions.
+/// The net change that the actions of entries make of a table, as `condense_actions` says it of the actions, at the same
+/// cost.
 pub fn condense(alloc: Global, table: &TableDef, entries: &[DeltaEntry]) -> Result<Net, NoMemory>
     ensures condensed { IfOk result (λ net. (tables : List TableDef) → table_at tables table.now.no ≡ table.now
         → net ≡ condensed tables (map (λ (e : DeltaEntry). e.action) entries.now) table.now.no) }
