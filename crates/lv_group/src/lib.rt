@@ -12,4 +12,4 @@ mod places;
 pub use gathering::fold;
 pub use grouped::Groups;
 pub use laws::{groups_after_a_difference, rows_of_groups_are_the_view_s};
-pub use listing::listed_row;
+pub use listing::{list_into, listed_row};

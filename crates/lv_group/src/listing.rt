@@ -48,6 +48,25 @@ fn push_item(
     }
 }
 
+/// Puts the values that a view lists of a group into a row, in place of those there. Cost: a copy of each listed value;
+/// where the row has room for them and they are numbers, no memory.
+pub fn list_into(
+    alloc: Global,
+    by: &[Col],
+    items: &[Item],
+    group: &SignedRow,
+    row: &mut Row,
+) -> Result<(), NoMemory>
+    ensures { OnOk result (row.new ≡ listed_values by.now group.now items.now group.now.sums) }
+{
+    row.clear();
+    let mut sums = 0;
+    for item in items {
+        push_item(alloc, by, item, group, &mut sums, row)?;
+    }
+    Ok(())
+}
+
 /// The values that a view lists of a group, told from the columns that tell its groups apart and its list. Cost: a copy
 /// of each listed value.
 pub fn listed_row(
@@ -58,11 +77,8 @@ pub fn listed_row(
 ) -> Result<Row, NoMemory>
     ensures { IfOk result (λ row. row ≡ listed_values by.now group.now items.now group.now.sums) }
 {
-    let mut row = Row::new(alloc);
-    let mut sums = 0;
-    for item in items {
-        push_item(alloc, by, item, group, &mut sums, &mut row)?;
-    }
+    let mut row = Row::from_vec(Vec::with_capacity(alloc, items.len())?);
+    list_into(alloc, by, items, group, &mut row)?;
     Ok(row)
 }
 

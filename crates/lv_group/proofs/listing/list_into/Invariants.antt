@@ -1,6 +1,6 @@
 use Rattle.std.proofs.Common.{◌≡◌, ◌≤◌, ◌++◌, drop}
 use Rattle.lv_group.specs.Gathered.{listed_values}
-use Rattle.lv_group.proofs.listing.listed_row.Given as goal
+use Rattle.lv_group.proofs.listing.list_into.Given as goal
 
 abbrev pub invariant-loop-item : goal.invariant-loop-item
 invariant-loop-item l = record {
