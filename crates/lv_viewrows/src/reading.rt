@@ -15,30 +15,45 @@ use crate::numbers::{has_tuples, with_group};
 use crate::searching::{NEAR, end_below};
 use crate::seek::Seek;
 use crate::version::GroupVersion;
-use lv_group::listed_row;
+use lv_group::list_into;
 use lv_schema::{Signed, SignedRow, ViewDef};
 use lv_shelf::Shelf;
 use lv_values::{Copying, NoMemory, Row, Rows, Test};
 use std::alloc::Global;
 use std::cmp::Ordering;
 
-/// Appends the row that a view lists of a group, if it passes. A row of a join view that does not pass is not copied.
+/// Rows that passed, and a row that the next group is listed in.
+#[derive(Drop)]
+struct Listing {
+    rows: Rows,
+    spare: Row,
+}
+
+/// Appends the row that a view lists of a group, if it passes. The row of a group of a grouped view that does not pass is
+/// used again for the next one, and a row of a join view that does not pass is not copied.
 fn push_group<T: Test<Row>>(
     alloc: Global,
     view: &ViewDef,
     test: &T,
     group: &SignedRow,
-    rows: &mut Rows,
+    out: &mut Listing,
 ) -> Result<(), NoMemory>
-    ensures { OnOk result (rows.new ≡ rows.old ++ passing view.now (T.passed test.now) (group.now ∷ [])) }
+    ensures { OnOk result (out.new.rows ≡ out.old.rows ++ passing view.now (T.passed test.now) (group.now ∷ [])) }
 {
     if view.grouped {
-        let row = listed_row(alloc, view.groups.as_slice(), view.items.as_slice(), group)?;
-        if test.passes(&row) {
-            rows.push(row)?;
+        list_into(
+            alloc,
+            view.groups.as_slice(),
+            view.items.as_slice(),
+            group,
+            &mut out.spare,
+        )?;
+        if test.passes(&out.spare) {
+            let row = std::mem::replace(&mut out.spare, Row::new(alloc));
+            out.rows.push(row)?;
         }
     } else if test.passes(&group.row) {
-        rows.push(group.row.copy(alloc)?)?;
+        out.rows.push(group.row.copy(alloc)?)?;
     }
     Ok(())
 }
@@ -49,12 +64,12 @@ fn push_if_some<T: Test<Row>>(
     view: &ViewDef,
     test: &T,
     group: &SignedRow,
-    rows: &mut Rows,
+    out: &mut Listing,
 ) -> Result<(), NoMemory>
-    ensures { OnOk result (rows.new ≡ rows.old ++ passing view.now (T.passed test.now) (if_some group.now)) }
+    ensures { OnOk result (out.new.rows ≡ out.old.rows ++ passing view.now (T.passed test.now) (if_some group.now)) }
 {
     if has_tuples(group) {
-        push_group(alloc, view, test, group, rows)?;
+        push_group(alloc, view, test, group, out)?;
     }
     Ok(())
 }
@@ -66,14 +81,14 @@ fn push_changed<T: Test<Row>>(
     test: &T,
     group: &SignedRow,
     change: &SignedRow,
-    rows: &mut Rows,
+    out: &mut Listing,
 ) -> Result<(), NoMemory>
     requires { IsCount (group.now.count +ℤ change.now.count) }
-    ensures { OnOk result (rows.new ≡ rows.old ++ passing view.now (T.passed test.now) (if_some (group_with group.now change.now))) }
+    ensures { OnOk result (out.new.rows ≡ out.old.rows ++ passing view.now (T.passed test.now) (if_some (group_with group.now change.now))) }
 {
     if group.count + change.count != 0 {
         let group = with_group(group, change.copy(alloc)?);
-        push_group(alloc, view, test, &group, rows)?;
+        push_group(alloc, view, test, &group, out)?;
     }
     Ok(())
 }
@@ -88,27 +103,27 @@ fn push_up_to<T: Test<Row>>(
     group: &SignedRow,
     changes: &Signed,
     from: usize,
-    rows: &mut Rows,
+    out: &mut Listing,
 ) -> Result<usize, NoMemory>
     requires { AllByRecursion (FitsInto group.now) changes.now }
-    ensures rows { OnOk result (rows.new ≡ rows.old ++ passing view.now (T.passed test.now) (up_to group.now (drop from changes.now))) }
+    ensures rows { OnOk result (out.new.rows ≡ out.old.rows ++ passing view.now (T.passed test.now) (up_to group.now (drop from changes.now))) }
     ensures left { IfOk result (λ next. drop next changes.now ≡ left_by group.now (drop from changes.now)) }
 {
     for at in from..changes.len() {
         let change = changes.get(at);
         match change.row.cmp(&group.row) {
-            Ordering::Less => push_if_some(alloc, view, test, change, rows)?,
+            Ordering::Less => push_if_some(alloc, view, test, change, out)?,
             Ordering::Equal => {
-                push_changed(alloc, view, test, group, change, rows)?;
+                push_changed(alloc, view, test, group, change, out)?;
                 return Ok(at + 1);
             }
             Ordering::Greater => {
-                push_group(alloc, view, test, group, rows)?;
+                push_group(alloc, view, test, group, out)?;
                 return Ok(at);
             }
         }
     }
-    push_group(alloc, view, test, group, rows)?;
+    push_group(alloc, view, test, group, out)?;
     Ok(changes.len())
 }
 
@@ -121,13 +136,13 @@ fn push_version<T: Test<Row>>(
     version: &GroupVersion,
     changes: &Signed,
     from: usize,
-    rows: &mut Rows,
+    out: &mut Listing,
 ) -> Result<usize, NoMemory>
     requires { AllFitAt n changes.now version.now }
-    ensures rows { IfOk result (λ next. (groups : List ASignedRow) → rows.new ++ passing view.now (T.passed test.now) (merged (drop next changes.now) groups) ≡ rows.old ++ passing view.now (T.passed test.now) (merged (drop from changes.now) (groups_at n (version.now ∷ []) ++ groups))) }
+    ensures rows { IfOk result (λ next. (groups : List ASignedRow) → out.new.rows ++ passing view.now (T.passed test.now) (merged (drop next changes.now) groups) ≡ out.old.rows ++ passing view.now (T.passed test.now) (merged (drop from changes.now) (groups_at n (version.now ∷ []) ++ groups))) }
 {
     if version.is_there(n) {
-        push_up_to(alloc, view, test, &version.group, changes, from, rows)
+        push_up_to(alloc, view, test, &version.group, changes, from, out)
     } else {
         Ok(from)
     }
@@ -140,12 +155,12 @@ fn push_if_there<T: Test<Row>>(
     test: &T,
     n: u64,
     version: &GroupVersion,
-    rows: &mut Rows,
+    out: &mut Listing,
 ) -> Result<(), NoMemory>
-    ensures { OnOk result (rows.new ≡ rows.old ++ passing view.now (T.passed test.now) (groups_at n (version.now ∷ []))) }
+    ensures { OnOk result (out.new.rows ≡ out.old.rows ++ passing view.now (T.passed test.now) (groups_at n (version.now ∷ []))) }
 {
     if version.is_there(n) {
-        push_group(alloc, view, test, &version.group, rows)?;
+        push_group(alloc, view, test, &version.group, out)?;
     }
     Ok(())
 }
@@ -159,13 +174,13 @@ fn push_unchanged<T: Test<Row>>(
     versions: &Shelf<GroupVersion>,
     from: usize,
     end: usize,
-    rows: &mut Rows,
+    out: &mut Listing,
 ) -> Result<(), NoMemory>
     requires { end ≤ length versions.now.list }
-    ensures { OnOk result (rows.new ≡ rows.old ++ passing view.now (T.passed test.now) (groups_at n (drop from (take end versions.now.list)))) }
+    ensures { OnOk result (out.new.rows ≡ out.old.rows ++ passing view.now (T.passed test.now) (groups_at n (drop from (take end versions.now.list)))) }
 {
     for at in from..end {
-        push_if_there(alloc, view, test, n, versions.get(at), rows)?;
+        push_if_there(alloc, view, test, n, versions.get(at), out)?;
     }
     Ok(())
 }
@@ -182,16 +197,16 @@ fn push_compared<T: Test<Row>>(
     end: usize,
     changes: &Signed,
     next: usize,
-    rows: &mut Rows,
+    out: &mut Listing,
 ) -> Result<usize, NoMemory>
     requires fit { AllByRecursion (AllFitAt n changes.now) versions.now.list }
     requires order { from ≤ end }
     requires within { end ≤ length versions.now.list }
-    ensures { IfOk result (λ left. rows.new ++ passing view.now (T.passed test.now) (merged (drop left changes.now) (groups_at n (drop end versions.now.list))) ≡ rows.old ++ passing view.now (T.passed test.now) (merged (drop next changes.now) (groups_at n (drop from versions.now.list)))) }
+    ensures { IfOk result (λ left. out.new.rows ++ passing view.now (T.passed test.now) (merged (drop left changes.now) (groups_at n (drop end versions.now.list))) ≡ out.old.rows ++ passing view.now (T.passed test.now) (merged (drop next changes.now) (groups_at n (drop from versions.now.list)))) }
 {
     let mut left = next;
     for at in from..end {
-        left = push_version(alloc, view, test, n, versions.get(at), changes, left, rows)?;
+        left = push_version(alloc, view, test, n, versions.get(at), changes, left, out)?;
     }
     Ok(left)
 }
@@ -203,12 +218,12 @@ fn push_rest<T: Test<Row>>(
     test: &T,
     changes: &Signed,
     from: usize,
-    rows: &mut Rows,
+    out: &mut Listing,
 ) -> Result<(), NoMemory>
-    ensures { OnOk result (rows.new ≡ rows.old ++ passing view.now (T.passed test.now) (filter has_tuples (drop from changes.now))) }
+    ensures { OnOk result (out.new.rows ≡ out.old.rows ++ passing view.now (T.passed test.now) (filter has_tuples (drop from changes.now))) }
 {
     for at in from..changes.len() {
-        push_if_some(alloc, view, test, changes.get(at), rows)?;
+        push_if_some(alloc, view, test, changes.get(at), out)?;
     }
     Ok(())
 }
@@ -234,26 +249,30 @@ fn rows_in_order<T: Test<Row>>(
     requires fit { AllByRecursion (AllFitAt n changes.now) versions.now.list }
     ensures { IfOk result (λ rows. rows ≡ passing view.now (T.passed test.now) (merged changes.now (groups_at n versions.now.list))) }
 {
-    let mut rows = Rows::new(alloc);
+    let mut out = Listing {
+        rows: Rows::new(alloc),
+        spare: Row::new(alloc),
+    };
     let mut next = 0;
     let mut at = from;
     while at < end {
         let near = end_below(at, end, changes, next, versions);
-        push_unchanged(alloc, view, test, n, versions, at, near, &mut rows)?;
+        push_unchanged(alloc, view, test, n, versions, at, near, &mut out)?;
         at = near.saturating_add(NEAR).min(end);
         next = push_compared(
-            alloc, view, test, n, versions, near, at, changes, next, &mut rows,
+            alloc, view, test, n, versions, near, at, changes, next, &mut out,
         )?;
     }
-    push_rest(alloc, view, test, changes, next, &mut rows)?;
-    Ok(rows)
+    push_rest(alloc, view, test, changes, next, &mut out)?;
+    Ok(out.rows)
 }
 
 /// The rows of the groups that are there at commit n, with changes, that pass, in ascending order. Cost: where the test
 /// names a first value two binary searches, and a pass over the versions that begin with it, or else over all; for each
 /// change a search from the one before it and at most 16 comparisons, in all no more than one for each version, one for
-/// each 16 of them and one for each change; of a join view a copy of each row that passes; of a grouped view a copy of each
-/// row and of each change whose group stays, and n log n comparisons of the rows that pass.
+/// each 16 of them and one for each change; of a join view a copy of each row that passes; of a grouped view the listed
+/// values of each group, one row for each that passes and one more for those that do not, a copy of each change whose
+/// group stays, and n log n comparisons of the rows that pass.
 pub(crate) fn rows_passing<T: Seek>(
     alloc: Global,
     view: &ViewDef,

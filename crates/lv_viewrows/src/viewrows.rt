@@ -194,8 +194,8 @@ impl ViewRows {
     }
 
     /// Those rows of `read_at` that pass. Cost: that of `read_at`, but a row of a join view that does not pass is not copied,
-    /// and one of a grouped view is let go before the sort; and where the test names a first value two binary searches, and
-    /// a pass over the versions that begin with it alone.
+    /// and of a grouped view one row is made for each that passes, and one more for those that do not; and where the test
+    /// names a first value two binary searches, and a pass over the versions that begin with it alone.
     pub fn read_passing<T: Seek>(&self, alloc: Global, n: u64, test: &T) -> Result<Rows, NoMemory>
         requires { MatchOption (T.first test.now) (Unit {0}) (AllBegin self.now.def (T.passed test.now)) }
         ensures { IfOk result (λ rows. rows ≡ filter (T.passed test.now) (shown n self.now)) }

@@ -13,7 +13,7 @@ loop-at-init g c =
     let rest = passing view p (merged c.args.changes.now (groups_at c.args.n (drop c.args.from c.args.versions.now.list))) in
     record {
       within = c.requires.forward;
-      rows = ap (λ rows. rows ++ rest) c.new-rows.ensures ∙ without_front view p c.args.n c.args.from c.args.versions.now.list c.args.changes.now c.requires.order c.requires.before;
+      rows = ap (λ rows. rows ++ rest) c.new.ensures ∙ without_front view p c.args.n c.args.from c.args.versions.now.list c.args.changes.now c.requires.order c.requires.before;
     }
 
 pub loop-at-preserved : goal.loop-at-preserved
@@ -28,7 +28,7 @@ loop-at-preserved g c =
     record {
       within = grind (arith, c.min-at.ensures);
       rows = c.in_ok-next.ensures
-          ∙ rows_unchanged view p n c.loop-at.at near.result (drop c.loop-at.next changes) list c.loop-at.rows c.push_unchanged.new.rows (passing view p (merged changes (groups_at n list))) near.ensures.forward within near.ensures.below
+          ∙ rows_unchanged view p n c.loop-at.at near.result (drop c.loop-at.next changes) list c.loop-at.out.rows c.push_unchanged.new.out.rows (passing view p (merged changes (groups_at n list))) near.ensures.forward within near.ensures.below
           c.in_ok-push_unchanged.ensures c.loop-at.invariant.rows;
     }
 
@@ -41,6 +41,6 @@ returns g c =
     let changes = drop c.loop-at.next c.args.changes.now in
     let end : c.loop-at.at ≡ c.args.end = omega (arith, c.loop-at.invariant.within, c.loop-at-test.false) in
     c.in_ok-push_rest.ensures
-    ∙ ap (λ rows. c.loop-at.rows ++ rows) (sym (without_rest view p n (drop c.args.end list) changes (apart_drop Precedes c.args.end list c.requires.order) c.requires.behind))
-    ∙ ap (λ at. c.loop-at.rows ++ passing view p (merged changes (groups_at n (drop at list)))) (sym end)
+    ∙ ap (λ rows. c.loop-at.out.rows ++ rows) (sym (without_rest view p n (drop c.args.end list) changes (apart_drop Precedes c.args.end list c.requires.order) c.requires.behind))
+    ∙ ap (λ at. c.loop-at.out.rows ++ passing view p (merged changes (groups_at n (drop at list)))) (sym end)
     ∙ c.loop-at.invariant.rows
