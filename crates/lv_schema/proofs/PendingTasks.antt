@@ -98,6 +98,9 @@ inside_more (x ∷ xs) a b c e le = by (nat_le a x) refl (nat_lt x b) refl e (λ
     by true f false g h ih = rw (ih h) (or_true (nat_le a x && nat_lt x c))
     by false f q g h ih = rw (ih h) (or_true (nat_le a x && nat_lt x c))
 
+pub inside_less : (lives : List ℕ) (a b c : ℕ) → c ≤ b → is_inside lives a b ≡ false → is_inside lives a c ≡ false
+inside_less lives a b c le e = not_true (is_inside lives a c) (λ f. let g = inside_more lives a c b f le in cc)
+
 pub inside_some : (lives : List ℕ) (a b : ℕ) → is_inside lives a b ≡ true → (k : ℕ) × Among lives k × (a ≤ k) × (k < b)
 inside_some [] a b e = cc
 inside_some (x ∷ xs) a b e = by (nat_le a x) refl (nat_lt x b) refl e (λ f. inside_some xs a b f)
