@@ -3,6 +3,7 @@ ghost use Rattle.std.specs.Prelude.{◌≡◌, ◌≤◌, ◌<◌, Bool, true, N
 ghost use Rattle.std.specs.List.{list_all, list_any};
 ghost use Rattle.lv_schema.specs.Commits.{conflict_in};
 ghost use Rattle.lv_schema.specs.StepPlans.{is_inside};
+ghost use Rattle.lv_schema.proofs.PendingTasks.{inside_less};
 ghost use Rattle.lv_overlay.specs.declared.put.Put.{Put};
 ghost use Rattle.lv_txn.specs.Kept.{begun, least_of, lesser, live_kept, snapshot_inside, transaction_at, transaction_of, IsLive, NoneLiveFrom, SessionChanges};
 ghost use Rattle.lv_txn.specs.Written.{conflict_fault, put_of};
@@ -235,6 +236,8 @@ fn any_between(sessions: &[Option<Transaction>], from: u64, below: u64) -> bool
 
 impl Live for Txns {
     ghost inside = { λ t from below. is_inside (live_kept t) from below };
+
+    ghost narrower = { λ t. inside_less (live_kept t) };
 
     /// Cost: a pass over the sessions up to the last live one.
     #[tactic(auto, using(crate::proofs::Sessions::inside_is))]
