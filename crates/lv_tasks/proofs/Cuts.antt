@@ -1,11 +1,12 @@
 -- Cuts of tasks in the order of their commits.
-use Rattle.std.proofs.Common.{◌≡◌, ℕ, zero, suc, Bool, true, false, List, [], ◌∷◌, refl, sym, ◌∙◌, ap, arith, take, drop, filter, map}
+use Rattle.std.proofs.Common.{◌≡◌, ℕ, zero, suc, Bool, true, false, List, [], ◌∷◌, refl, sym, ◌∙◌, ap, arith, length, get_or, ◌<◌, ◌≤◌, ◌-◌, take, drop, filter, map}
 use Rattle.std.specs.Prelude.{◌&&◌, nat_lt, nat_le}
 use Rattle.std.specs.List.Sorted.{IsPartitionPoint}
 use Rattle.std.proofs.lemmas.Bool.Decides.{nat_tests}
+use Rattle.std.proofs.lemmas.List.{get_or_default}
 use Rattle.lv_tasks.specs.declared.task.Task.{Task}
 use Rattle.lv_tasks.specs.Kept.{tasks_above, commits_between}
-use Rattle.lv_tasks.specs.Queues.{IsCut, is_upto}
+use Rattle.lv_tasks.specs.Queues.{Ascend, IsCut, is_upto}
 
 pub cut_from : (test : Task → Bool) (xs : List Task) (i : ℕ) → IsPartitionPoint (λ y. test y ≡ true) (λ y. test y ≡ false) xs i → IsCut test i xs
 cut_from test [] i h = tt
@@ -18,6 +19,30 @@ above_not n c e = grind (arith, nat_tests)
 
 upto_not : (n c : ℕ) → nat_le c n ≡ true → nat_lt n c ≡ false
 upto_not n c e = grind (arith, nat_tests)
+
+-- of no tasks all are up to a number; where the last one is all are, and where the first one is above it none is
+pub none_there : (n count : ℕ) (xs : List Task) → count ≡ 0 → count ≡ length xs → IsCut (is_upto n) count xs
+none_there n count xs none long = cut_from (is_upto n) xs count ((λ k d a b. absurd (omega arith)), (λ k d a b. absurd (omega arith)))
+
+pub all_upto : (n count : ℕ) (xs : List Task) (last : Task) → Ascend xs → 0 < count → count ≡ length xs → last ≡ get_or xs (count - 1) last → last.commit ≤ n → IsCut (is_upto n) count xs
+all_upto n count xs last up some long is le = cut_from (is_upto n) xs count ((λ k d a b. each k d (omega arith)), (λ k d a b. absurd (omega arith)))
+  where
+    each : (k : ℕ) (d : Task) → k < count → nat_le (get_or xs k d).commit n ≡ true
+    each k d lt =
+        let lower : (get_or xs k d).commit ≤ (get_or xs (count - 1) d).commit = up k (count - 1) d (omega arith) (omega arith) in
+        let same : (get_or xs (count - 1) d).commit ≡ last.commit = ap (λ (t : Task). t.commit) (get_or_default xs (count - 1) d last (omega arith) ∙ sym is) in
+        let below : (get_or xs k d).commit ≤ n = omega arith in
+        grind (arith, nat_tests)
+
+pub none_upto : (n : ℕ) (xs : List Task) (first : Task) → Ascend xs → 0 < length xs → first ≡ get_or xs 0 first → n < first.commit → IsCut (is_upto n) 0 xs
+none_upto n xs first up some is lt = cut_from (is_upto n) xs 0 ((λ k d a b. absurd (omega arith)), (λ k d a b. each k d (omega arith)))
+  where
+    each : (k : ℕ) (d : Task) → k < length xs → nat_le (get_or xs k d).commit n ≡ false
+    each k d inner =
+        let higher : (get_or xs 0 d).commit ≤ (get_or xs k d).commit = up 0 k d (omega arith) inner in
+        let same : (get_or xs 0 d).commit ≡ first.commit = ap (λ (t : Task). t.commit) (get_or_default xs 0 d first some ∙ sym is) in
+        let above : n < (get_or xs k d).commit = omega arith in
+        grind (arith, nat_tests)
 
 and_false : (b : Bool) → (b && false) ≡ false
 and_false true = refl

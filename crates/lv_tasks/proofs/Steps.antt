@@ -1,9 +1,10 @@
 -- A step, task by task.
-use Rattle.std.proofs.Common.{◌≡◌, ℕ, zero, suc, ◌+◌, ◌-◌, ◌<◌, ◌≤◌, Bool, true, false, List, [], ◌∷◌, refl, sym, ◌∙◌, ap, arith, length, get_or, take, drop, map, Some, add-one, drop-cons}
-use Rattle.std.proofs.lemmas.List.{get_or-take, length-take, drop_all}
+use Rattle.std.proofs.Common.{◌≡◌, ℕ, zero, suc, ◌+◌, ◌-◌, ◌<◌, ◌≤◌, Bool, true, false, List, [], ◌∷◌, refl, sym, ◌∙◌, ap, subst, arith, length, get_or, take, drop, map, Some, add-one, drop-cons}
+use Rattle.std.proofs.lemmas.List.{get_or-take, get_or_default, length-take, drop_all}
 use Rattle.lv_schema.specs.StepPlans.{step_end}
 use Rattle.lv_schema.proofs.PlannedSteps.{reached, step_end_is}
 use Rattle.lv_tasks.specs.declared.task.Task.{Task}
+use Rattle.lv_tasks.specs.Queues.{Ascend}
 
 -- the commits of the tasks from the one place up to the other
 abbrev pub commits_within : ℕ → ℕ → List Task → List ℕ
@@ -41,3 +42,32 @@ module _ (inside : ℕ → ℕ → Bool) (end : ℕ) (tasks : List Task) where
   pub ends : (first hi more at : ℕ) → end ≤ at → reached inside first hi more (commits_within at end tasks) ≡ hi
   ends first hi zero at le = refl
   ends first hi (suc more) at le = ap (reached inside first hi (suc more)) (within_none at end tasks le)
+
+-- where no live snapshot is inside from the first task to the last one that a step can take, it takes them all
+module _ (inside : ℕ → ℕ → Bool) (narrower : (from below less : ℕ) → less ≤ below → inside from below ≡ false → inside from less ≡ false) (end : ℕ) (tasks : List Task) (up : Ascend tasks) (le : end ≤ length tasks) where
+  reaches_last : (first last : ℕ) (d : Task) → last < end → (n more at : ℕ) → at + n ≡ last → n ≤ more → (n < more → end ≤ last + 1) → (at < last → inside first (get_or tasks last d).commit ≡ false)
+      → reached inside first (get_or tasks at d).commit more (commits_within (at + 1) end tasks) ≡ (get_or tasks last d).commit
+  reaches_last first last d lt zero zero at is few all clear = let same : at ≡ last = omega arith in ap (λ k. (get_or tasks k d).commit) same
+  reaches_last first last d lt zero (suc more) at is few all clear =
+      let same : at ≡ last = omega arith in
+      let none : end ≤ at + 1 = omega (arith, all (omega arith)) in
+      ends inside end tasks first (get_or tasks at d).commit (suc more) (at + 1) none ∙ ap (λ k. (get_or tasks k d).commit) same
+  reaches_last first last d lt (suc n) zero at is few all clear = absurd (omega arith)
+  reaches_last first last d lt (suc n) (suc more) at is few all clear =
+      let t = get_or tasks (at + 1) d in
+      let inner : at + 1 < length tasks = omega arith in
+      let lower : t.commit ≤ (get_or tasks last d).commit = up (at + 1) last d (omega arith) (omega arith) in
+      let free : inside first t.commit ≡ false = narrower first (get_or tasks last d).commit t.commit lower (clear (omega arith)) in
+      let one : suc more - 1 ≡ more = omega arith in
+      goes_on inside end tasks first (get_or tasks at d).commit (suc more) (at + 1) t (omega arith) (omega arith) le (get_or_default tasks (at + 1) d t inner) free
+      ∙ ap (λ m. reached inside first t.commit m (commits_within (at + 1 + 1) end tasks)) one
+      ∙ reaches_last first last d lt n more (at + 1) (omega arith) (omega arith) (λ h. all (omega arith)) (λ h. clear (omega arith))
+
+  pub ends_at : (combine from last : ℕ) (t : Task) → from ≤ last → last < end → last < from + combine → (last + 1 < from + combine → end ≤ last + 1) → t ≡ get_or tasks last t → (from < last → inside (get_or tasks from t).commit t.commit ≡ false)
+      → step_end inside combine (commits_within from end tasks) ≡ Some t.commit
+  ends_at combine from last t upto lt few all is clear =
+      let first = get_or tasks from t in
+      let inner : from < length tasks = omega arith in
+      begins inside end tasks combine from first (omega arith) le (get_or_default tasks from t first inner)
+      ∙ ap Some (reaches_last first.commit last t lt (last - from) (combine - 1) from (omega arith) (omega arith) (λ h. all (omega arith)) (λ h. subst (λ (u : Task). inside first.commit u.commit ≡ false) is (clear h)))
+      ∙ ap (λ (u : Task). Some u.commit) (sym is)

@@ -35,17 +35,24 @@ impl Model for Queue {
     ghost invariant = { λ q. Ascend q.tasks.items × (q.actions ≡ actions_in q.tasks.items) };
 }
 
-/// How many tasks are of a commit up to this one. Cost: a binary search.
+/// How many tasks are of a commit up to this one. Cost: constant where all or none are, and else a binary search.
 fn place_above(tasks: &VecDeque<Task>, commit: u64) -> usize
     requires { Ascend tasks.now.items }
     ensures within { result ≤ length tasks.now.items }
     ensures cut { IsCut (is_upto commit) result tasks.now.items }
 {
+    let count = tasks.len();
+    if count == 0 || tasks[count - 1].commit <= commit {
+        return count;
+    }
+    if tasks[0].commit > commit {
+        return 0;
+    }
     tasks.partition_point(|task| task.commit <= commit)
 }
 
-/// Where the planned step over the tasks from the one place up to the other ends.
-fn end_within<V: Live>(
+/// Where the planned step over the tasks from the one place up to the other ends, task by task.
+fn end_by_task<V: Live>(
     tasks: &VecDeque<Task>,
     from: usize,
     end: usize,
@@ -71,6 +78,31 @@ fn end_within<V: Live>(
         hi = later;
         at += 1;
         more -= 1;
+    }
+    Some(hi)
+}
+
+/// Where the planned step over the tasks from the one place up to the other ends. Where no live snapshot lies within
+/// the most tasks that it can take, it takes them all, and no other task is looked at.
+fn end_within<V: Live>(
+    tasks: &VecDeque<Task>,
+    from: usize,
+    end: usize,
+    live: &V,
+    combine: u32,
+) -> Option<u64>
+    requires some { 0 < combine }
+    requires order { Ascend tasks.now.items }
+    requires within { end ≤ length tasks.now.items }
+    ensures { result ≡ step_end (V.inside live.now) combine (map (λ (t : Task). t.commit) (drop from (take end tasks.now.items))) }
+{
+    if from >= end {
+        return None;
+    }
+    let last = from + (end - from).min(combine as usize) - 1;
+    let hi = tasks[last].commit;
+    if last > from && live.inside(tasks[from].commit, hi) {
+        return end_by_task(tasks, from, end, live, combine);
     }
     Some(hi)
 }
@@ -134,7 +166,8 @@ impl Queue {
         self.actions -= dropped;
     }
 
-    /// Where the planned step over the tasks above the one commit and up to the other ends.
+    /// Where the planned step over the tasks above the one commit and up to the other ends. Cost: two binary searches,
+    /// and a look at each task only where a live snapshot lies within the step.
     pub(crate) fn next_range<V: Live>(
         &self,
         lo: u64,

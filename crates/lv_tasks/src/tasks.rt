@@ -121,8 +121,8 @@ impl Tasks {
     }
 
     /// Where the planned step of a view ends, over its tasks above the one commit and up to the other: none where it
-    /// has none. It takes no memory. Cost: a binary search among the view's tasks, and a look at each task that the
-    /// step takes, at most `combine`.
+    /// has none. It takes no memory. Cost: two binary searches among the view's tasks, and a look at each task, at most
+    /// `combine`, only where a live snapshot lies within the step.
     pub fn next_range<V: Live>(
         &self,
         view: u32,

@@ -123,8 +123,8 @@ impl Upkeep {
         self.views.get(view as usize).mark
     }
 
-    /// The planned step of a view from its point to at most a limit. It takes no memory. Cost: a binary search among
-    /// the view's tasks, and a look at each task that the step takes.
+    /// The planned step of a view from its point to at most a limit. It takes no memory. Cost: two binary searches among
+    /// the view's tasks, and a look at each task only where a live snapshot lies within the step.
     pub fn planned<V: Live>(&self, view: u32, limit: u64, live: &V, combine: u32) -> Option<Forced>
         requires view { view < length self.now.kept.points }
         requires some { 0 < combine }

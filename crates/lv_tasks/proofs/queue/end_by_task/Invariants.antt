@@ -2,7 +2,7 @@ use Rattle.std.proofs.Common.{◌≡◌, ◌≤◌, Some}
 use Rattle.lv_schema.specs.StepPlans.{step_end}
 use Rattle.lv_schema.proofs.PlannedSteps.{reached}
 use Rattle.lv_tasks.proofs.Steps.{commits_within}
-use Rattle.lv_tasks.proofs.queue.end_within.Given as goal
+use Rattle.lv_tasks.proofs.queue.end_by_task.Given as goal
 
 abbrev pub invariant-loop-more : goal.invariant-loop-more
 invariant-loop-more g l =
