@@ -13,11 +13,16 @@ use std::alloc::Global;
 /// The longest list of touches that is searched for an action's key.
 const SHORT: usize = 16;
 
-/// The touches of a table in the order of its actions, and whether each is of a lower key than the next one.
+/// How many searches in a row may find nothing: then keys do not come again, and no more are made.
+const VAIN: u8 = 6;
+
+/// The touches of a table in the order of its actions, and whether each is of a lower key than the next one. Beside them
+/// how many searches for a key have found nothing since one found it.
 #[derive(Drop)]
 pub(crate) struct Touches<'a> {
     pub list: Vec<Touch<'a>>,
     pub ascend: bool,
+    vain: u8,
 }
 
 impl<'a> Touches<'a> {
@@ -29,6 +34,7 @@ impl<'a> Touches<'a> {
         Touches {
             list: Vec::new(alloc),
             ascend: true,
+            vain: 0,
         }
     }
 
@@ -44,48 +50,64 @@ impl<'a> Touches<'a> {
         self.list[at] = longer;
     }
 
-    /// Adds an action: the last touch of its key ends with it, where that is the last of all or they are few; else it is a
-    /// touch of its own. Cost: the last touch's key is tested, and where it is another, compared while the keys ascend. The
-    /// others are tested only where they are few and the action's key is not above them.
+    /// Where the last touch of an action's key is, if it is the last of all, or they are few and keys have come again.
+    /// Cost: a test of the last touch's key, and of each other one where they are searched.
+    fn place_of(&mut self, key: &[u8], action: &Action) -> Option<usize>
+        ensures found { IfSome result (λ at. IsLastOf (values_at key.now action.now.row) self.old.list.items at) }
+        ensures list { self.new.list ≡ self.old.list }
+        ensures ascend { self.new.ascend ≡ self.old.ascend }
+    {
+        let list: &[Touch<'a>] = &self.list;
+        if list.is_empty() {
+            return None;
+        }
+        let at = list.len() - 1;
+        if list[at].is_on(key, action) {
+            return Some(at);
+        }
+        if at >= SHORT || self.vain >= VAIN {
+            return None;
+        }
+        let found = last_of(list, at, key, action);
+        self.vain = if found.is_some() { 0 } else { self.vain + 1 };
+        found
+    }
+
+    /// Whether the last touch, if there is one, is of a lower key than an action.
+    fn ends_below(&self, key: &[u8], action: &Action) -> bool
+        ensures { result ≡ true → (Ascends touch_cmp self.now.list.items) → Ascends touch_cmp (self.now.list.items ++ touch_by key.now action.now ∷ []) }
+    {
+        let list: &[Touch<'a>] = &self.list;
+        if list.is_empty() {
+            return true;
+        }
+        list[list.len() - 1].is_below(key, action)
+    }
+
+    /// Adds an action: the last touch of its key ends with it, where that is found; else it is a touch of its own. Cost:
+    /// that of `place_of`, and a comparison of keys for a new touch while they ascend.
     fn add(&mut self, key: &'a [u8], action: &'a Action) -> Result<(), NoMemory>
         ensures alike { OnOk result ((rest : List ATouch) → Alike (self.new.list.items ++ rest) (self.old.list.items ++ touch_by key.now action.now ∷ rest)) }
         ensures ascend { OnOk result ((self.old.ascend ≡ true → Ascends touch_cmp self.old.list.items) → self.new.ascend ≡ true → Ascends touch_cmp self.new.list.items) }
     {
-        let list: &[Touch<'a>] = &self.list;
-        if list.is_empty() {
-            self.list.push(Touch::by(key, action))?;
-            return Ok(());
-        }
-        let at = list.len() - 1;
-        let last = &list[at];
-        if last.is_on(key, action) {
+        if let Some(at) = self.place_of(key, action) {
             self.lengthen(at, action);
             return Ok(());
         }
-        if self.ascend && last.is_below(key, action) {
-            self.list.push(Touch::by(key, action))?;
-            return Ok(());
-        }
-        if let Some(found) = last_of(list, at, key, action) {
-            self.lengthen(found, action);
-            return Ok(());
-        }
+        let ascend = self.ascend && self.ends_below(key, action);
         self.list.push(Touch::by(key, action))?;
-        self.ascend = false;
+        self.ascend = ascend;
         Ok(())
     }
 }
 
-/// Where the last touch of an action's key is, none of those from an end on being one; not looked for where they are many.
-/// Cost: the key is tested at the touches from there to the end.
+/// Where the last touch of an action's key is, none of those from an end on being one. Cost: the key is tested at the
+/// touches from there to the end.
 fn last_of(touches: &[Touch<'_>], end: usize, key: &[u8], action: &Action) -> Option<usize>
     requires within { end ≤ length touches.now }
     requires none { of_key (values_at key.now action.now.row) (drop end touches.now) ≡ [] }
     ensures { IfSome result (λ at. IsLastOf (values_at key.now action.now.row) touches.now at) }
 {
-    if end >= SHORT {
-        return None;
-    }
     let mut at = end;
     while at > 0 {
         let touch = &touches[at - 1];
