@@ -4,4 +4,5 @@ pub mod ToldParts
 pub mod Untold
 pub mod LettingGo
 pub mod Updates
+pub mod AmongColumns
 mod Examples

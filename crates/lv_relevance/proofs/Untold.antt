@@ -49,28 +49,30 @@ either_true : (a b : Bool) → b ≡ true → (a || b) ≡ true
 either_true true b e = refl
 either_true false b e = e
 
-both_true : (a b : Bool) → a ≡ true → b ≡ true → (a && b) ≡ true
+pub both_true : (a b : Bool) → a ≡ true → b ≡ true → (a && b) ≡ true
 both_true a b h k = (λ i. h i && b) ∙ k
 
-same_itself : (cols : List Col) (alias : ℕ) (row : ARow) → same_in cols alias row row ≡ true
+pub value_itself : (v : Value) → value_eq v v ≡ true
+value_itself v = ap is_eq (tied_itself value_total v)
+
+pub same_itself : (cols : List Col) (alias : ℕ) (row : ARow) → same_in cols alias row row ≡ true
 same_itself [] alias row = refl
 same_itself (col ∷ cols) alias row =
-    let here : value_eq (value_in row col.column) (value_in row col.column) ≡ true = ap is_eq (tied_itself value_total (value_in row col.column)) in
-    both_true _ _ (either_true (not (col.alias == alias)) _ here) (same_itself cols alias row)
+    both_true _ _ (either_true (not (col.alias == alias)) _ (value_itself (value_in row col.column))) (same_itself cols alias row)
 
 -- ---- tuples whose rows are the same
-abbrev row_at : Tuple → ℕ → ARow
+abbrev pub row_at : Tuple → ℕ → ARow
 row_at tuple j = slice_index_or tuple j []
 
 -- row by row, the first one of alias i
-abbrev Alike : List Col → ℕ → Tuple → Tuple → Type 0
+abbrev pub Alike : List Col → ℕ → Tuple → Tuple → Type 0
 Alike cols i t u = (j : ℕ) → same_in cols (i + j) (row_at t j) (row_at u j) ≡ true
 
-alike_more : (cols : List Col) (i : ℕ) (r s : ARow) (t u : Tuple) → same_in cols i r s ≡ true → Alike cols (suc i) t u → Alike cols i (r ∷ t) (s ∷ u)
+pub alike_more : (cols : List Col) (i : ℕ) (r s : ARow) (t u : Tuple) → same_in cols i r s ≡ true → Alike cols (suc i) t u → Alike cols i (r ∷ t) (s ∷ u)
 alike_more cols i r s t u here rest zero = let e : i ≡ i + 0 = omega arith in subst (λ n. same_in cols n r s ≡ true) e here
 alike_more cols i r s t u here rest (suc j) = let e : suc i + j ≡ i + suc j = omega arith in subst (λ n. same_in cols n (row_at t j) (row_at u j) ≡ true) e (rest j)
 
-alike_itself : (cols : List Col) (i : ℕ) (t : Tuple) → Alike cols i t t
+pub alike_itself : (cols : List Col) (i : ℕ) (t : Tuple) → Alike cols i t t
 alike_itself cols i t j = same_itself cols (i + j) (row_at t j)
 
 -- such tuples have the same value in each of the columns
@@ -144,11 +146,16 @@ module _ (view : ViewDef) where
   agree : (cols : List Col) → AllByRecursion Seen cols → (t u : Tuple) → Alike (used_columns view) 0 t u → Agree t u cols
   agree cols seen t u a = all_weaker Seen (λ col. value_at t col ≡ value_at u col) (λ col h. h t u a) cols seen
 
-  holds_same : (t u : Tuple) → Alike (used_columns view) 0 t u → holds view.cond t ≡ holds view.cond u
+  pub holds_same : (t u : Tuple) → Alike (used_columns view) 0 t u → holds view.cond t ≡ holds view.cond u
   holds_same t u a = ap is_yes (truth_same t u view.cond (agree (columns_of view.cond) tested_seen t u a))
 
-  key_same : (t u : Tuple) → Alike (used_columns view) 0 t u → key_of view t ≡ key_of view u
+  pub key_same : (t u : Tuple) → Alike (used_columns view) 0 t u → key_of view t ≡ key_of view u
   key_same t u a = listed_same t u (key_columns view) (agree (key_columns view) keys_seen t u a)
+
+  pub numbers_same : (t u : Tuple) → Alike (used_columns view) 0 t u → map (λ col. number_at col t) (summed_columns view) ≡ map (λ col. number_at col u) (summed_columns view)
+  numbers_same t u a =
+      map_on (λ col. number_at col t) (λ col. number_at col u) (summed_columns view)
+      (all_weaker Seen (λ col. number_at col t ≡ number_at col u) (λ col h. ap number_of (h t u a)) (summed_columns view) sums_seen)
 
   module _ (was is is' : List Tuple) (same : (f : Tuple → ℤ) → Blind f → total f is' ≡ total f is) where
     of_row : (q : ARow) (f : Tuple → ℤ) → Blind f → total f (tuples_of view q is') ≡ total f (tuples_of view q is)

@@ -1,9 +1,9 @@
 -- Changes that a view cannot tell: rows that go and rows that come in their place, which are the same in each column that
 -- the view uses of their alias. They make no difference to the view through that alias (Blakeley, Coburn and Larson,
 -- "Updating Derived Relations: Detecting Irrelevant and Autonomously Computable Updates", 1989).
-use Rattle.std.specs.Prelude.{◌≡◌, ℕ, suc, Bool, true, not, cond, ◌||◌, ◌==◌, List, [], ◌∷◌, ◌++◌}
+use Rattle.std.specs.Prelude.{◌≡◌, ℕ, suc, Bool, true, not, cond, ◌||◌, ◌==◌, nat_eq, Option, Some, None, List, [], ◌∷◌, ◌++◌}
 use Rattle.std.specs.Cmp.Lexicographic.{pointwise}
-use Rattle.std.specs.List.{list_all}
+use Rattle.std.specs.List.{list_all, list_any}
 use Rattle.lv_values.specs.declared.value.Value.{Value}
 use Rattle.lv_values.specs.Order.{value_eq}
 use Rattle.lv_values.specs.Rows.{value_in}
@@ -46,6 +46,19 @@ columns_of c = fold-Cond (List Col) columns_step c
 -- the columns that a view tests, those that tell its rows or groups apart, and those that it sums
 abbrev pub used_columns : ViewDef → List Col
 used_columns view = columns_of view.cond ++ (key_columns view ++ summed_columns view)
+
+-- whether a column is of another alias, or is among these
+abbrev pub is_among : ℕ → List ℕ → Col → Bool
+is_among alias columns col = not (col.alias == alias) || list_any (λ column. nat_eq column col.column) columns
+
+-- whether there is none, or it is
+abbrev pub is_among_if : ℕ → List ℕ → Option Col → Bool
+is_among_if alias columns None = true
+is_among_if alias columns (Some col) = is_among alias columns col
+
+-- whether a view uses no other columns of an alias than these
+abbrev pub uses_only : ViewDef → ℕ → List ℕ → Bool
+uses_only view alias columns = list_all (is_among alias columns) (used_columns view)
 
 -- ---- changes that they do not show
 -- whether a column is of another alias, or two rows have equal values in it

@@ -18,8 +18,9 @@ fn have_same_value(a: &Row, b: &Row, column: u8) -> bool
     first == second
 }
 
-/// Whether a column is of another alias, or two rows have equal values in it.
-fn is_same_at(alias: usize, a: &Row, b: &Row, col: &Col) -> bool
+/// Whether a column is of another alias, or two rows have equal values in it, the number 0 standing past a row's end. Cost: that
+/// of comparing two values.
+pub fn is_same_at(alias: usize, a: &Row, b: &Row, col: &Col) -> bool
     ensures { result ≡ same_at alias a.now b.now col.now }
 {
     col.alias as usize != alias || have_same_value(a, b, col.column)
