@@ -50,12 +50,9 @@ impl<'a> Touches<'a> {
         self.list[at] = longer;
     }
 
-    /// Where the last touch of an action's key is, if it is the last of all, or they are few and keys have come again.
-    /// Cost: a test of the last touch's key, and of each other one where they are searched.
-    fn place_of(&mut self, key: &[u8], action: &Action) -> Option<usize>
-        ensures found { IfSome result (λ at. IsLastOf (values_at key.now action.now.row) self.old.list.items at) }
-        ensures list { self.new.list ≡ self.old.list }
-        ensures ascend { self.new.ascend ≡ self.old.ascend }
+    /// The last touch's place, if it is of an action's key.
+    fn end_on(&self, key: &[u8], action: &Action) -> Option<usize>
+        ensures { IfSome result (λ at. IsLastOf (values_at key.now action.now.row) self.now.list.items at) }
     {
         let list: &[Touch<'a>] = &self.list;
         if list.is_empty() {
@@ -65,10 +62,19 @@ impl<'a> Touches<'a> {
         if list[at].is_on(key, action) {
             return Some(at);
         }
-        if at >= SHORT || self.vain >= VAIN {
+        None
+    }
+
+    /// Where the last touch of an action's key is, if they are few and keys have come again. Cost: a test of the key of each.
+    fn search(&mut self, key: &[u8], action: &Action) -> Option<usize>
+        ensures found { IfSome result (λ at. IsLastOf (values_at key.now action.now.row) self.old.list.items at) }
+        ensures list { self.new.list ≡ self.old.list }
+        ensures ascend { self.new.ascend ≡ self.old.ascend }
+    {
+        if self.list.len() > SHORT || self.vain >= VAIN {
             return None;
         }
-        let found = last_of(list, at, key, action);
+        let found = last_of(&self.list, key, action);
         self.vain = if found.is_some() { 0 } else { self.vain + 1 };
         found
     }
@@ -84,31 +90,36 @@ impl<'a> Touches<'a> {
         list[list.len() - 1].is_below(key, action)
     }
 
-    /// Adds an action: the last touch of its key ends with it, where that is found; else it is a touch of its own. Cost:
-    /// that of `place_of`, and a comparison of keys for a new touch while they ascend.
+    /// Adds an action: the last touch of its key ends with it, where that is the last of all or is found; else it is a touch
+    /// of its own. Cost: the last touch's key is tested, and compared while the keys ascend; that of `search` where the
+    /// action's key is not above it.
     fn add(&mut self, key: &'a [u8], action: &'a Action) -> Result<(), NoMemory>
         ensures alike { OnOk result ((rest : List ATouch) → Alike (self.new.list.items ++ rest) (self.old.list.items ++ touch_by key.now action.now ∷ rest)) }
         ensures ascend { OnOk result ((self.old.ascend ≡ true → Ascends touch_cmp self.old.list.items) → self.new.ascend ≡ true → Ascends touch_cmp self.new.list.items) }
     {
-        if let Some(at) = self.place_of(key, action) {
+        if let Some(at) = self.end_on(key, action) {
             self.lengthen(at, action);
             return Ok(());
         }
-        let ascend = self.ascend && self.ends_below(key, action);
+        if self.ascend && self.ends_below(key, action) {
+            self.list.push(Touch::by(key, action))?;
+            return Ok(());
+        }
+        if let Some(at) = self.search(key, action) {
+            self.lengthen(at, action);
+            return Ok(());
+        }
         self.list.push(Touch::by(key, action))?;
-        self.ascend = ascend;
+        self.ascend = false;
         Ok(())
     }
 }
 
-/// Where the last touch of an action's key is, none of those from an end on being one. Cost: the key is tested at the
-/// touches from there to the end.
-fn last_of(touches: &[Touch<'_>], end: usize, key: &[u8], action: &Action) -> Option<usize>
-    requires within { end ≤ length touches.now }
-    requires none { of_key (values_at key.now action.now.row) (drop end touches.now) ≡ [] }
+/// Where the last touch of an action's key is. Cost: the key is tested at the touches from there on.
+fn last_of(touches: &[Touch<'_>], key: &[u8], action: &Action) -> Option<usize>
     ensures { IfSome result (λ at. IsLastOf (values_at key.now action.now.row) touches.now at) }
 {
-    let mut at = end;
+    let mut at = touches.len();
     while at > 0 {
         let touch = &touches[at - 1];
         if touch.is_on(key, action) {

@@ -2,10 +2,10 @@ use Rattle.std.proofs.Common.{◌≡◌, ◌-◌, ◌<◌, suc, List, length, sy
 use Rattle.lv_values.specs.Rows.{values_at}
 use Rattle.lv_condense.specs.Touches.{ATouch, IsLastOf}
 use Rattle.lv_condense.proofs.Joined.{last_at, last_here, none_behind_all}
-use Rattle.lv_condense.proofs.collecting.Touches.place_of.Goals as goal
+use Rattle.lv_condense.proofs.collecting.Touches.end_on.Goals as goal
 
-pub returns-then-is_on-clause-found : goal.returns-then-is_on-clause-found
-returns-then-is_on-clause-found c =
+pub returns-then-is_on : goal.returns-then-is_on
+returns-then-is_on c =
     let list = c.deref-list.result.now in
     let k = values_at c.args.key.now c.args.action.now.row in
     let at = length list - 1 in
