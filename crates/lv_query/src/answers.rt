@@ -1,9 +1,13 @@
 //! The answer of a query.
-ghost use Rattle.std.specs.Prelude.{◌≡◌, map, IfOk};
+ghost use Rattle.std.specs.Prelude.{◌≡◌, ℕ, map, IfOk};
+ghost use Rattle.std.specs.List.{sum_by};
+ghost use Rattle.lv_schema.specs.declared.directed.SortedRow.{SortedRow as ASortedRow};
 ghost use Rattle.lv_schema.specs.Answers.{answer_over, directed, order_value, sorted_row};
+ghost use Rattle.lv_schema.specs.JoinViews.{selected};
 
+use crate::alone::found_among;
 use lv_join::{Picked, Projection, join_in_any_order};
-use lv_schema::{Directed, DirectedValues, OrderCol, Query, SortedRow, listed, value_at};
+use lv_schema::{Directed, DirectedValues, HasRows, OrderCol, Query, SortedRow, listed, value_at};
 use lv_values::{Items, NoMemory, Rows, Value};
 use std::alloc::Global;
 
@@ -19,12 +23,12 @@ fn directed(descending: bool, value: Value) -> Directed
 }
 
 /// The values of the ORDER BY columns, in their directions.
-fn order_values(
+pub(crate) fn order_values<T: HasRows + Copy>(
     alloc: Global,
-    tuple: &Picked<'_>,
+    tuple: T,
     order: &[OrderCol],
 ) -> Result<DirectedValues, NoMemory>
-    ensures { IfOk result (λ values. values ≡ map (order_value tuple.now) order.now) }
+    ensures { IfOk result (λ values. values ≡ map (order_value (T.rows tuple)) order.now) }
 {
     let mut values = DirectedValues::new(alloc);
     for by in order {
@@ -62,17 +66,29 @@ fn listed_rows(alloc: Global, found: Items<SortedRow>) -> Result<Rows, NoMemory>
     Ok(rows)
 }
 
+/// The listed columns of the tuples that the condition keeps, in any order, with what the answer is ordered by.
+fn found(alloc: Global, query: &Query, mut parts: Items<Rows>) -> Result<Items<SortedRow>, NoMemory>
+    ensures { IfOk result (λ found. (weight : ASortedRow → ℕ) → sum_by weight found ≡ sum_by weight (map (sorted_row query.now) (selected query.now.cond parts))) }
+{
+    if parts.len() != 1 {
+        let list = ListedInOrder { query };
+        return join_in_any_order(alloc, parts.as_slice(), &query.cond, &list);
+    }
+    let rows = parts.replace(0, Rows::new(alloc));
+    found_among(alloc, query, rows)
+}
+
 /// The answer of a query over the rows of each of its aliases: of the tuples that its condition keeps the listed
 /// columns, equal rows as often as they occur. Without ORDER BY the rows ascend. With it they are in the order of
 /// its columns, each up or down, and rows that tie there ascend.
 ///
-/// Cost: that of the join, n log n comparisons for n listed rows, and one copy of each listed value and of each
-/// value to order by.
+/// Cost: of one alias a test of each row, and of more that of the join; n log n comparisons for n listed rows, none of them
+/// more than once where they ascend; and one copy of each listed value and of each value to order by. Where the columns of
+/// one alias are listed as they stand, its rows become the answer, and no listed value is copied.
 pub fn answer(alloc: Global, query: &Query, parts: Items<Rows>) -> Result<Rows, NoMemory>
     ensures { IfOk result (λ rows. rows ≡ answer_over query.now parts) }
 {
-    let list = ListedInOrder { query };
-    let mut found = join_in_any_order(alloc, parts.as_slice(), &query.cond, &list)?;
+    let mut found = found(alloc, query, parts)?;
     found.sort();
     listed_rows(alloc, found)
 }

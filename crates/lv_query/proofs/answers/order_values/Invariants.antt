@@ -3,4 +3,4 @@ use Rattle.lv_schema.specs.Answers.{order_value}
 use Rattle.lv_query.proofs.answers.order_values.Given as goal
 
 abbrev pub invariant-loop-by : goal.invariant-loop-by
-invariant-loop-by l = l.values ≡ map (order_value l.tuple) (take l.by-index l.order)
+invariant-loop-by g l = l.values ≡ map (order_value (g.T.HasRows.rows l.tuple)) (take l.by-index l.order)
