@@ -13,16 +13,11 @@ use std::alloc::Global;
 /// The longest list of touches that is searched for an action's key.
 const SHORT: usize = 16;
 
-/// How many searches in a row may find nothing: then keys do not come again, and no more are made.
-const VAIN: u8 = 6;
-
-/// The touches of a table in the order of its actions, and whether each is of a lower key than the next one. Beside them
-/// how many searches for a key have found nothing since one found it.
+/// The touches of a table in the order of its actions, and whether each is of a lower key than the next one.
 #[derive(Drop)]
 pub(crate) struct Touches<'a> {
     pub list: Vec<Touch<'a>>,
     pub ascend: bool,
-    vain: u8,
 }
 
 impl<'a> Touches<'a> {
@@ -34,7 +29,6 @@ impl<'a> Touches<'a> {
         Touches {
             list: Vec::new(alloc),
             ascend: true,
-            vain: 0,
         }
     }
 
@@ -65,18 +59,14 @@ impl<'a> Touches<'a> {
         None
     }
 
-    /// Where the last touch of an action's key is, if they are few and keys have come again. Cost: a test of the key of each.
-    fn search(&mut self, key: &[u8], action: &Action) -> Option<usize>
-        ensures found { IfSome result (λ at. IsLastOf (values_at key.now action.now.row) self.old.list.items at) }
-        ensures list { self.new.list ≡ self.old.list }
-        ensures ascend { self.new.ascend ≡ self.old.ascend }
+    /// Where the last touch of an action's key is, if they are few. Cost: a test of the key of each.
+    fn search(&self, key: &[u8], action: &Action) -> Option<usize>
+        ensures { IfSome result (λ at. IsLastOf (values_at key.now action.now.row) self.now.list.items at) }
     {
-        if self.list.len() > SHORT || self.vain >= VAIN {
+        if self.list.len() > SHORT {
             return None;
         }
-        let found = last_of(&self.list, key, action);
-        self.vain = if found.is_some() { 0 } else { self.vain + 1 };
-        found
+        last_of(&self.list, key, action)
     }
 
     /// Whether the last touch, if there is one, is of a lower key than an action.
