@@ -23,8 +23,7 @@ use Rattle.std.specs.contracts.hash.FoldHasher as fold
 use denote.RattleType.{RattleType}
 use Rattle.lv_viewrows.specs.contracts.viewrows.ViewRows as rows
 use Rattle.lv_viewrows.specs.contracts.viewrows.ViewRows.TheInside as rows_inside
-use Rattle.lv_viewrows.proofs.version.GroupVersion.TheSendSync as group
-use Rattle.lv_shelf.proofs.shelf.Shelf.TheSendSync as shelf
+use Rattle.lv_viewrows.proofs.versions.Versions.TheSendSync as versions
 use Rattle.lv_store.specs.contracts.store.Store as store
 use Rattle.lv_store.proofs.settings.Settings.TheSendSync as settings
 use Rattle.lv_base.proofs.base.Base.TheSendSync as base
@@ -86,7 +85,7 @@ schema_row = view_send _ _ _ _ _ (recorded_send (inside.the_field).row _ _ (insi
 
 -- ---- a store
 pub rows_of_view : AllSend (shape rows_inside.the_type).fields
-rows_of_view = (struct_send (shape view.the_type) views, (search sendable, (shelf.the_send _ group.the_send, tt)))
+rows_of_view = (struct_send (shape view.the_type) views, (search sendable, (versions.the_send, tt)))
 
 pub rows_row : IsSend rows.the_row
 rows_row = view_send _ _ _ _ _ (recorded_send (rows_inside.the_field).row _ _ (rows_inside.the_type).to_one (struct_send (shape rows_inside.the_type) rows_of_view))

@@ -2,14 +2,17 @@ pub mod AddedUp
 pub mod Changes
 pub mod Ending
 pub mod Entries
+pub mod Filling
 pub mod FirstValue
 pub mod Galloping
 pub mod Installing
 pub mod Keeping
 pub mod Merging
 pub mod Narrowing
+pub mod NotEnded
 pub mod Order
 pub mod Passing
+pub mod ReadAt
 pub mod RowsOfJoins
 pub mod Sums
 pub mod Unchanged

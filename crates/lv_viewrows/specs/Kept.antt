@@ -15,6 +15,11 @@ pub record ViewKept : Type 0 where
   pub versions : List GroupVersion
   pub spare : ℕ
 
+-- versions in that order, and how many more go in without memory
+pub record VersionsKept : Type 0 where
+  pub list : List GroupVersion
+  pub spare : ℕ
+
 -- a row of a join view is a group of one tuple, without sums
 abbrev pub one_row : List Value → SignedRow
 one_row row = record { row = row; count = pos 1; sums = [] }

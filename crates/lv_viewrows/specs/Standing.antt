@@ -1,5 +1,5 @@
 -- What holds of the versions of a view's rows, and what a change does to them.
-use Rattle.std.specs.Prelude.{◌≡◌, ℕ, ℤ, pos, ◌<◌, ◌≤◌, ◌^◌, ◌+ℤ◌, Bool, true, false, not, ◌&&◌, if◌then◌else◌, List, [], ◌∷◌, drop, map, filter, Option, Some, None, is_none}
+use Rattle.std.specs.Prelude.{◌≡◌, ℕ, ℤ, pos, ◌<◌, ◌≤◌, ◌^◌, ◌+ℤ◌, Bool, true, false, not, ◌&&◌, if◌then◌else◌, List, [], ◌∷◌, drop, take, length, nat_le, map, filter, Option, Some, None, is_none}
 use Rattle.std.specs.List.{AllByRecursion}
 use Rattle.std.specs.Ordering.{nat_cmp, on, then_cmp, is_lt}
 use Rattle.std.specs.declared.cmp.Ordering.{Ordering}
@@ -48,6 +48,21 @@ pub record AreVersions (view : ViewDef) (at : ℕ) (versions : List GroupVersion
   pub counts : AllByRecursion (λ v. has_tuples v.group ≡ true) versions
   pub rows : view.grouped ≡ false → AllByRecursion IsRow versions
 
+-- ---- versions that have not ended
+abbrev pub has_no_end : GroupVersion → Bool
+has_no_end v = is_none v.until
+
+abbrev pub not_ended : List GroupVersion → List GroupVersion
+not_ended versions = filter has_no_end versions
+
+-- how many of the first so many versions have not ended
+abbrev pub not_ended_before : ℕ → List GroupVersion → ℕ
+not_ended_before at versions = length (not_ended (take at versions))
+
+-- the versions that are looked at for those that are there at commit n, where none came or ended above commit `at`
+abbrev pub read_at : ℕ → ℕ → List GroupVersion → List GroupVersion
+read_at at n versions = if nat_le at n then not_ended versions else versions
+
 -- ---- what a change does
 -- versions stand in the order of their rows, and under one row in the order in which they came
 abbrev pub version_cmp : GroupVersion → GroupVersion → Ordering
@@ -61,10 +76,7 @@ comes_before row number v = is_lt (version_cmp v (version_from number (one_row r
 abbrev pub NoneBefore : List Value → ℕ → ℕ → List GroupVersion → Type 0
 NoneBefore row number at versions = AllByRecursion (λ v. comes_before row number v ≡ false) (drop at versions)
 
--- whether a version has not ended, whether it has a row and has not ended, and the groups of those that are so
-abbrev pub has_no_end : GroupVersion → Bool
-has_no_end v = is_none v.until
-
+-- whether a version has a row and has not ended, and the groups of those that are so
 abbrev pub is_current : List Value → GroupVersion → Bool
 is_current row v = has_no_end v && row_eq row v.group.row
 

@@ -5,8 +5,8 @@ ghost use Rattle.lv_viewrows.specs.Beginning.{NoneBegins, column_numbered, first
 ghost use Rattle.lv_viewrows.specs.Standing.{Precedes};
 
 use crate::version::GroupVersion;
+use crate::versions::Listed;
 use lv_schema::{Col, Item, ViewDef};
-use lv_shelf::Shelf;
 use lv_values::{Test, Value};
 use std::marker::Model;
 
@@ -73,12 +73,12 @@ fn has_value(version: &GroupVersion) -> bool
 
 /// Between which places the versions stand whose rows begin with a value. Where a row has no value, these are all.
 /// Cost: two binary searches.
-pub(crate) fn places_of(first: &Value, versions: &Shelf<GroupVersion>) -> (usize, usize)
-    requires { Apart Precedes versions.now.list }
+pub(crate) fn places_of(first: &Value, versions: &Listed<'_>) -> (usize, usize)
+    requires { Apart Precedes versions.now }
     ensures order { result.0 ≤ result.1 }
-    ensures within { result.1 ≤ length versions.now.list }
-    ensures before { NoneBegins first.now (take result.0 versions.now.list) }
-    ensures behind { NoneBegins first.now (drop result.1 versions.now.list) }
+    ensures within { result.1 ≤ length versions.now }
+    ensures before { NoneBegins first.now (take result.0 versions.now) }
+    ensures behind { NoneBegins first.now (drop result.1 versions.now) }
 {
     let len = versions.len();
     if len > 0 && !has_value(versions.get(0)) {

@@ -1,94 +1,28 @@
 //! What changes do to the versions of a view's groups, in place.
-ghost use Rattle.std.specs.Prelude.{◌≡◌, ◌+◌, ◌≤◌, ◌<◌, length, map};
+ghost use Rattle.std.specs.Prelude.{◌≡◌, ◌+◌, ◌≤◌, ◌<◌, [], filter, length, map};
 ghost use Rattle.std.specs.List.{AllByRecursion};
 ghost use Rattle.lv_values.specs.Ascending.{placed};
 ghost use Rattle.lv_values.specs.Order.{row_cmp};
 ghost use Rattle.lv_schema.specs.declared.signed.SignedRow.{SignedRow as ASignedRow};
 ghost use Rattle.lv_schema.specs.Once.{Ascends};
 ghost use Rattle.lv_shelf.specs.Cuts.{Apart, IsCut};
+ghost use Rattle.lv_shelf.specs.Shelves.{LacksItem};
+ghost use Rattle.lv_group.specs.Gathered.{has_tuples};
 ghost use Rattle.lv_viewrows.specs.Kept.{version_from};
-ghost use Rattle.lv_viewrows.specs.Standing.{IsBy, MeetAll, NoneBefore, Precedes, changed, changed_all, comes_before, current, ended, joined, put, version_cmp};
+ghost use Rattle.lv_viewrows.specs.Standing.{IsBy, MeetAll, NoneBefore, Precedes, changed, changed_all, comes_before, current, ended, joined, not_ended, not_ended_before, put, version_cmp};
 
 use crate::numbers::{has_tuples, with_group};
 use crate::searching::place_of;
-use crate::version::{EndAt, GroupVersion};
+use crate::version::GroupVersion;
+use crate::versions::Versions;
 use lv_schema::{Signed, SignedRow};
-use lv_shelf::Shelf;
+use lv_values::Row;
 
-/// Ends the version that has the row of a change and has not ended, if there is one, and answers the change with that
-/// version's numbers. As many versions as `at` come before the row.
-fn end_current(
-    change: SignedRow,
-    number: u64,
-    at: usize,
-    versions: &mut Shelf<GroupVersion>,
-) -> SignedRow
-    requires order { Apart Precedes versions.old.list }
-    requires meets { MeetAll number versions.old.list change }
-    requires cut { IsCut (comes_before change.row number) at versions.old.list }
-    ensures joined { result ≡ joined (current change.row versions.old.list) change }
-    ensures ended { versions.new.list ≡ map (ended number change.row) versions.old.list }
-    ensures room { versions.new.spare ≡ versions.old.spare }
-{
-    if at == 0 {
-        return change;
-    }
-    let version = versions.get(at - 1);
-    if !version.is_current(&change.row) {
-        return change;
-    }
-    let change = with_group(&version.group, change);
-    versions.edit(at - 1, &EndAt { number });
-    change
-}
-
-/// Puts a group at its place, from a commit on: as many versions as `at` come before it. Cost: a move of small numbers.
-fn put_group(group: SignedRow, number: u64, at: usize, versions: &mut Shelf<GroupVersion>)
-    requires cut { IsCut (comes_before group.row number) at versions.old.list }
-    requires room { 0 < versions.old.spare }
-    ensures put { versions.new.list ≡ placed version_cmp (version_from number group) versions.old.list }
-    ensures cut { IsCut (comes_before group.row number) at versions.new.list }
-    ensures room { versions.new.spare + 1 ≡ versions.old.spare }
-{
-    versions.insert(at, GroupVersion::from_commit(number, group), 0);
-}
-
-/// Puts a group at its place if it has a tuple.
-fn put_change(group: SignedRow, number: u64, at: usize, versions: &mut Shelf<GroupVersion>)
-    requires cut { IsCut (comes_before group.row number) at versions.old.list }
-    requires room { 0 < versions.old.spare }
-    ensures put { versions.new.list ≡ put number group versions.old.list }
-    ensures cut { IsCut (comes_before group.row number) at versions.new.list }
-    ensures room { versions.old.spare ≤ versions.new.spare + 1 }
-{
-    if has_tuples(&group) {
-        put_group(group, number, at, versions);
-    }
-}
-
-/// Applies one change, as that of a commit, and answers how many versions come before its row; those from `high` on do
-/// not. Cost: a search from `high`, with `step` as its first step, and a move of small numbers.
-fn apply(
-    change: SignedRow,
-    number: u64,
-    high: usize,
-    step: usize,
-    versions: &mut Shelf<GroupVersion>,
-) -> usize
-    requires order { Apart Precedes versions.old.list }
-    requires meets { MeetAll number versions.old.list change }
-    requires step { 0 < step }
-    requires within { high ≤ length versions.old.list }
-    requires above { NoneBefore change.row number high versions.old.list }
-    requires room { 0 < versions.old.spare }
-    ensures changed { versions.new.list ≡ changed number change versions.old.list }
-    ensures cut { IsCut (comes_before change.row number) result versions.new.list }
-    ensures room { versions.old.spare ≤ versions.new.spare + 1 }
-{
-    let at = place_of(&change.row, number, high, step, versions);
-    let group = end_current(change, number, at, versions);
-    put_change(group, number, at, versions);
-    at
+/// How many versions come before a row, and how many of those have not ended.
+#[derive(Clone, Copy)]
+struct Front {
+    all: usize,
+    not_ended: usize,
 }
 
 /// The first step of a search for the next place below `high`, where `left` more are sought behind it: about as far as the
@@ -99,10 +33,139 @@ fn first_step(high: usize, left: usize) -> usize
     (high / left.max(1)).max(1)
 }
 
-/// Applies changes of different rows, as those of a commit. It takes no memory. Cost: for each a search from the place of
-/// the one before it, which for changes that are spread evenly takes about log (versions / changes) comparisons, and a
-/// move of small numbers.
-pub(crate) fn apply_all(mut changes: Signed, number: u64, versions: &mut Shelf<GroupVersion>)
+/// How many of the first `at` versions have not ended, where these come before a row and no others, and none of those that
+/// have not ended comes before it from `high` on. Cost: a search from `high`, none where no version has ended.
+fn front_not_ended(
+    row: &Row,
+    number: u64,
+    at: usize,
+    high: usize,
+    left: usize,
+    versions: &Versions,
+) -> usize
+    requires order { Apart Precedes versions.now.list }
+    requires cut { IsCut (comes_before row.now number) at versions.now.list }
+    requires within { high ≤ length (not_ended versions.now.list) }
+    requires above { NoneBefore row.now number high (not_ended versions.now.list) }
+    ensures { result ≡ not_ended_before at versions.now.list }
+{
+    if versions.len_not_ended() == versions.len() {
+        return at;
+    }
+    place_of(
+        row,
+        number,
+        high,
+        first_step(high, left),
+        &versions.not_ended(),
+    )
+}
+
+/// How many versions come before a row; those from `high` on do not. Cost: a search from there in each order.
+fn front_of(row: &Row, number: u64, high: Front, left: usize, versions: &Versions) -> Front
+    requires order { Apart Precedes versions.now.list }
+    requires within { high.all ≤ length versions.now.list }
+    requires above { NoneBefore row.now number high.all versions.now.list }
+    requires within_not_ended { high.not_ended ≤ length (not_ended versions.now.list) }
+    requires above_not_ended { NoneBefore row.now number high.not_ended (not_ended versions.now.list) }
+    ensures cut { IsCut (comes_before row.now number) result.all versions.now.list }
+    ensures not_ended { result.not_ended ≡ not_ended_before result.all versions.now.list }
+{
+    let step = first_step(high.all, left);
+    let all = place_of(row, number, high.all, step, &versions.all());
+    let not_ended = front_not_ended(row, number, all, high.not_ended, left, versions);
+    Front { all, not_ended }
+}
+
+/// Ends the version that has the row of a change and has not ended, if there is one. As many versions as `front` says come
+/// before the row. Answers the change with that version's numbers, and how many of the versions before the row have not
+/// ended now.
+fn end_current(
+    change: SignedRow,
+    number: u64,
+    front: Front,
+    versions: &mut Versions,
+) -> (SignedRow, usize)
+    requires order { Apart Precedes versions.old.list }
+    requires meets { MeetAll number versions.old.list change }
+    requires cut { IsCut (comes_before change.row number) front.all versions.old.list }
+    requires place { front.not_ended ≡ not_ended_before front.all versions.old.list }
+    ensures joined { result.0 ≡ joined (current change.row versions.old.list) change }
+    ensures ended { versions.new.list ≡ map (ended number change.row) versions.old.list }
+    ensures place { result.1 ≡ not_ended_before front.all versions.new.list }
+    ensures room { versions.new.spare ≡ versions.old.spare }
+{
+    let at = front.all;
+    if at == 0 {
+        return (change, front.not_ended);
+    }
+    let version = versions.get(at - 1);
+    if !version.is_current(&change.row) {
+        return (change, front.not_ended);
+    }
+    let group = with_group(&version.group, change);
+    let not_ended = front.not_ended - 1;
+    versions.end(at - 1, not_ended, &group.row, number);
+    (group, not_ended)
+}
+
+/// Puts a group at its place, from a commit on: as many versions as `at` come before it. Cost: a move of small numbers.
+fn put_group(group: SignedRow, number: u64, at: usize, not_ended: usize, versions: &mut Versions)
+    requires cut { IsCut (comes_before group.row number) at versions.old.list }
+    requires place { not_ended ≡ not_ended_before at versions.old.list }
+    requires absent { LacksItem (version_from number group) versions.old.list }
+    requires room { 0 < versions.old.spare }
+    ensures put { versions.new.list ≡ placed version_cmp (version_from number group) versions.old.list }
+    ensures cut { IsCut (comes_before group.row number) at versions.new.list }
+    ensures place { not_ended ≡ not_ended_before at versions.new.list }
+    ensures room { versions.new.spare + 1 ≡ versions.old.spare }
+{
+    versions.insert(at, not_ended, GroupVersion::from_commit(number, group));
+}
+
+/// Puts a group at its place if it has a tuple.
+fn put_change(group: SignedRow, number: u64, at: usize, not_ended: usize, versions: &mut Versions)
+    requires cut { IsCut (comes_before group.row number) at versions.old.list }
+    requires place { not_ended ≡ not_ended_before at versions.old.list }
+    requires absent { LacksItem (version_from number group) versions.old.list }
+    requires room { 0 < versions.old.spare }
+    ensures put { versions.new.list ≡ put number group versions.old.list }
+    ensures cut { IsCut (comes_before group.row number) at versions.new.list }
+    ensures place { not_ended ≡ not_ended_before at versions.new.list }
+    ensures room { versions.old.spare ≤ versions.new.spare + 1 }
+{
+    if has_tuples(&group) {
+        put_group(group, number, at, not_ended, versions);
+    }
+}
+
+/// Applies one change, as that of a commit, and answers how many versions come before its row; those from `high` on do
+/// not. Cost: a search from `high` in each order, `left` changes with this one being sought below it, and a move of small
+/// numbers.
+fn apply(change: SignedRow, number: u64, high: Front, left: usize, versions: &mut Versions) -> Front
+    requires order { Apart Precedes versions.old.list }
+    requires meets { MeetAll number versions.old.list change }
+    requires within { high.all ≤ length versions.old.list }
+    requires above { NoneBefore change.row number high.all versions.old.list }
+    requires within_not_ended { high.not_ended ≤ length (not_ended versions.old.list) }
+    requires above_not_ended { NoneBefore change.row number high.not_ended (not_ended versions.old.list) }
+    requires room { 0 < versions.old.spare }
+    ensures changed { versions.new.list ≡ changed number change versions.old.list }
+    ensures cut { IsCut (comes_before change.row number) result.all versions.new.list }
+    ensures place { result.not_ended ≡ not_ended_before result.all versions.new.list }
+    ensures room { versions.old.spare ≤ versions.new.spare + 1 }
+{
+    let front = front_of(&change.row, number, high, left, versions);
+    let (group, not_ended) = end_current(change, number, front, versions);
+    put_change(group, number, front.all, not_ended, versions);
+    Front {
+        all: front.all,
+        not_ended,
+    }
+}
+
+/// Applies changes of different rows, from the last one on. Cost: that of `apply` for each.
+fn apply_each(mut changes: Signed, number: u64, versions: &mut Versions)
     requires order { Apart Precedes versions.old.list }
     requires each { AllByRecursion (IsBy number) versions.old.list }
     requires ascend { Ascends (λ (a b : ASignedRow). row_cmp a.row b.row) changes }
@@ -113,10 +176,50 @@ pub(crate) fn apply_all(mut changes: Signed, number: u64, versions: &mut Shelf<G
     ensures each { AllByRecursion (IsBy number) versions.new.list }
     ensures room { versions.old.spare ≤ versions.new.spare + length changes }
 {
-    let mut high = versions.len();
-    let mut step = first_step(high, changes.len());
+    let mut high = Front {
+        all: versions.len(),
+        not_ended: versions.len_not_ended(),
+    };
+    let mut left = changes.len();
     while let Some(change) = changes.pop() {
-        high = apply(change, number, high, step, versions);
-        step = first_step(high, changes.len());
+        high = apply(change, number, high, left, versions);
+        left = changes.len();
+    }
+}
+
+/// Puts the groups that have a tuple where no version is yet, one behind the other. Cost: linear in the groups.
+fn fill(groups: Signed, number: u64, versions: &mut Versions)
+    requires none { versions.old.list ≡ [] }
+    requires ascend { Ascends (λ (a b : ASignedRow). row_cmp a.row b.row) groups }
+    requires room { length groups ≤ versions.old.spare }
+    ensures filled { versions.new.list ≡ map (version_from number) (filter has_tuples groups) }
+    ensures room { versions.old.spare ≤ versions.new.spare + length groups }
+{
+    for group in groups.into_vec() {
+        if has_tuples(&group) {
+            versions.push(GroupVersion::from_commit(number, group));
+        }
+    }
+}
+
+/// Applies changes of different rows, as those of a commit. It takes no memory. Cost: for each a search from the place of
+/// the one before it, which for changes that are spread evenly takes about log (versions / changes) comparisons, the same
+/// among the versions that have not ended where some have, and a move of small numbers in each order; where there is no
+/// version yet, linear in the changes.
+pub(crate) fn apply_all(changes: Signed, number: u64, versions: &mut Versions)
+    requires order { Apart Precedes versions.old.list }
+    requires each { AllByRecursion (IsBy number) versions.old.list }
+    requires ascend { Ascends (λ (a b : ASignedRow). row_cmp a.row b.row) changes }
+    requires meet { AllByRecursion (MeetAll number versions.old.list) changes }
+    requires room { length changes ≤ versions.old.spare }
+    ensures changed { versions.new.list ≡ changed_all number changes versions.old.list }
+    ensures order { Apart Precedes versions.new.list }
+    ensures each { AllByRecursion (IsBy number) versions.new.list }
+    ensures room { versions.old.spare ≤ versions.new.spare + length changes }
+{
+    if versions.len() == 0 {
+        fill(changes, number, versions);
+    } else {
+        apply_each(changes, number, versions);
     }
 }

@@ -9,6 +9,7 @@ mod reading;
 mod searching;
 mod seek;
 mod version;
+mod versions;
 mod viewrows;
 
 pub use laws::groups_with_changes_are_regrouped;

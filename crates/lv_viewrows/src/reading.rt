@@ -15,9 +15,9 @@ use crate::numbers::{has_tuples, with_group};
 use crate::searching::{NEAR, end_below};
 use crate::seek::Seek;
 use crate::version::GroupVersion;
+use crate::versions::Listed;
 use lv_group::list_into;
 use lv_schema::{Signed, SignedRow, ViewDef};
-use lv_shelf::Shelf;
 use lv_values::{Copying, NoMemory, Row, Rows, Test};
 use std::alloc::Global;
 use std::cmp::Ordering;
@@ -171,13 +171,13 @@ fn push_unchanged<T: Test<Row>>(
     view: &ViewDef,
     test: &T,
     n: u64,
-    versions: &Shelf<GroupVersion>,
+    versions: &Listed<'_>,
     from: usize,
     end: usize,
     out: &mut Listing,
 ) -> Result<(), NoMemory>
-    requires { end ≤ length versions.now.list }
-    ensures { OnOk result (out.new.rows ≡ out.old.rows ++ passing view.now (T.passed test.now) (groups_at n (drop from (take end versions.now.list)))) }
+    requires { end ≤ length versions.now }
+    ensures { OnOk result (out.new.rows ≡ out.old.rows ++ passing view.now (T.passed test.now) (groups_at n (drop from (take end versions.now)))) }
 {
     for at in from..end {
         push_if_there(alloc, view, test, n, versions.get(at), out)?;
@@ -192,17 +192,17 @@ fn push_compared<T: Test<Row>>(
     view: &ViewDef,
     test: &T,
     n: u64,
-    versions: &Shelf<GroupVersion>,
+    versions: &Listed<'_>,
     from: usize,
     end: usize,
     changes: &Signed,
     next: usize,
     out: &mut Listing,
 ) -> Result<usize, NoMemory>
-    requires fit { AllByRecursion (AllFitAt n changes.now) versions.now.list }
+    requires fit { AllByRecursion (AllFitAt n changes.now) versions.now }
     requires order { from ≤ end }
-    requires within { end ≤ length versions.now.list }
-    ensures { IfOk result (λ left. out.new.rows ++ passing view.now (T.passed test.now) (merged (drop left changes.now) (groups_at n (drop end versions.now.list))) ≡ out.old.rows ++ passing view.now (T.passed test.now) (merged (drop next changes.now) (groups_at n (drop from versions.now.list)))) }
+    requires within { end ≤ length versions.now }
+    ensures { IfOk result (λ left. out.new.rows ++ passing view.now (T.passed test.now) (merged (drop left changes.now) (groups_at n (drop end versions.now))) ≡ out.old.rows ++ passing view.now (T.passed test.now) (merged (drop next changes.now) (groups_at n (drop from versions.now)))) }
 {
     let mut left = next;
     for at in from..end {
@@ -236,18 +236,18 @@ fn rows_in_order<T: Test<Row>>(
     view: &ViewDef,
     test: &T,
     n: u64,
-    versions: &Shelf<GroupVersion>,
+    versions: &Listed<'_>,
     from: usize,
     end: usize,
     changes: &Signed,
 ) -> Result<Rows, NoMemory>
-    requires order { Apart Precedes versions.now.list }
+    requires order { Apart Precedes versions.now }
     requires forward { from ≤ end }
-    requires within { end ≤ length versions.now.list }
-    requires before { NonePasses view.now (T.passed test.now) (take from versions.now.list) }
-    requires behind { NonePasses view.now (T.passed test.now) (drop end versions.now.list) }
-    requires fit { AllByRecursion (AllFitAt n changes.now) versions.now.list }
-    ensures { IfOk result (λ rows. rows ≡ passing view.now (T.passed test.now) (merged changes.now (groups_at n versions.now.list))) }
+    requires within { end ≤ length versions.now }
+    requires before { NonePasses view.now (T.passed test.now) (take from versions.now) }
+    requires behind { NonePasses view.now (T.passed test.now) (drop end versions.now) }
+    requires fit { AllByRecursion (AllFitAt n changes.now) versions.now }
+    ensures { IfOk result (λ rows. rows ≡ passing view.now (T.passed test.now) (merged changes.now (groups_at n versions.now))) }
 {
     let mut out = Listing {
         rows: Rows::new(alloc),
@@ -278,13 +278,13 @@ pub(crate) fn rows_passing<T: Seek>(
     view: &ViewDef,
     test: &T,
     n: u64,
-    versions: &Shelf<GroupVersion>,
+    versions: &Listed<'_>,
     changes: &Signed,
 ) -> Result<Rows, NoMemory>
-    requires order { Apart Precedes versions.now.list }
+    requires order { Apart Precedes versions.now }
     requires only { MatchOption (T.first test.now) (Unit {0}) (AllBegin view.now (T.passed test.now)) }
-    requires fit { AllByRecursion (AllFitAt n changes.now) versions.now.list }
-    ensures { IfOk result (λ rows. rows ≡ filter (T.passed test.now) (rows_listed view.now (merged changes.now (groups_at n versions.now.list)))) }
+    requires fit { AllByRecursion (AllFitAt n changes.now) versions.now }
+    ensures { IfOk result (λ rows. rows ≡ filter (T.passed test.now) (rows_listed view.now (merged changes.now (groups_at n versions.now)))) }
 {
     let (from, end) = match test.first() {
         Some(first) => places_of(first, versions),

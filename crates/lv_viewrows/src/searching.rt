@@ -5,9 +5,9 @@ ghost use Rattle.lv_shelf.specs.Cuts.{Apart, IsCut};
 ghost use Rattle.lv_viewrows.specs.Merged.{is_below};
 ghost use Rattle.lv_viewrows.specs.Standing.{NoneBefore, Precedes, comes_before};
 
-use crate::version::{ComesBefore, GroupVersion};
+use crate::version::ComesBefore;
+use crate::versions::Listed;
 use lv_schema::{Signed, SignedRow};
-use lv_shelf::Shelf;
 use lv_values::{Row, Test};
 
 /// A search for where the changes begin stops when fewer versions than this are left: these are compared one by one, so
@@ -32,14 +32,14 @@ pub(crate) fn place_of(
     number: u64,
     high: usize,
     step: usize,
-    versions: &Shelf<GroupVersion>,
+    versions: &Listed<'_>,
 ) -> usize
-    requires order { Apart Precedes versions.now.list }
+    requires order { Apart Precedes versions.now }
     requires step { 0 < step }
-    requires within { high ≤ length versions.now.list }
-    requires above { NoneBefore row.now number high versions.now.list }
+    requires within { high ≤ length versions.now }
+    requires above { NoneBefore row.now number high versions.now }
     ensures within { result ≤ high }
-    ensures cut { IsCut (comes_before row.now number) result versions.now.list }
+    ensures cut { IsCut (comes_before row.now number) result versions.now }
 {
     let test = ComesBefore { row, number };
     let mut low = 0;
@@ -71,14 +71,14 @@ pub(crate) fn end_below(
     high: usize,
     changes: &Signed,
     next: usize,
-    versions: &Shelf<GroupVersion>,
+    versions: &Listed<'_>,
 ) -> usize
-    requires order { Apart Precedes versions.now.list }
+    requires order { Apart Precedes versions.now }
     requires forward { from ≤ high }
-    requires within { high ≤ length versions.now.list }
+    requires within { high ≤ length versions.now }
     ensures forward { from ≤ result }
     ensures within { result ≤ high }
-    ensures below { AllByRecursion (λ v. is_below (drop next changes.now) v.group ≡ true) (drop from (take result versions.now.list)) }
+    ensures below { AllByRecursion (λ v. is_below (drop next changes.now) v.group ≡ true) (drop from (take result versions.now)) }
 {
     let mut end = from;
     let mut high = high;

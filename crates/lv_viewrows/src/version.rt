@@ -28,7 +28,7 @@ impl Copying for GroupVersion {
 
 impl GroupVersion {
     ghost use Rattle.lv_viewrows.specs.Kept.{is_there, version_from};
-    ghost use Rattle.lv_viewrows.specs.Standing.{is_current};
+    ghost use Rattle.lv_viewrows.specs.Standing.{has_no_end, is_current};
 
     /// A group that is there from a commit on.
     pub(crate) fn from_commit(number: u64, group: SignedRow) -> GroupVersion
@@ -54,11 +54,18 @@ impl GroupVersion {
         }
     }
 
+    /// Whether the version has not ended.
+    pub(crate) fn has_no_end(&self) -> bool
+        ensures { result ≡ has_no_end self.now }
+    {
+        self.until.is_none()
+    }
+
     /// Whether the version has the row and has not ended.
     pub(crate) fn is_current(&self, row: &Row) -> bool
         ensures { result ≡ is_current row.now self.now }
     {
-        self.until.is_none() && row.cmp(&self.group.row).is_eq()
+        self.has_no_end() && row.cmp(&self.group.row).is_eq()
     }
 }
 
@@ -111,18 +118,30 @@ impl Test<GroupVersion> for EndsAfter {
     }
 }
 
-/// Ends a version.
+/// Ends a version if it has a row and has not ended.
 #[derive(Drop)]
-pub(crate) struct EndAt {
+pub(crate) struct EndOf<'a> {
+    pub(crate) row: &'a Row,
     pub(crate) number: u64,
 }
 
-impl Edit<GroupVersion> for EndAt {
-    ghost use Rattle.lv_viewrows.specs.Standing.{ended_at};
+impl<'a> Model for EndOf<'a> {
+    ghost use Rattle.std.specs.Prelude.{ℕ, List};
+    ghost use Rattle.lv_values.specs.declared.value.Value.{Value as AValue};
 
-    ghost edited = { λ e v. ended_at e.number v };
+    ghost Value = { List AValue × ℕ };
+
+    ghost view = { λ e. (e.row.now, e.number) };
+}
+
+impl<'a> Edit<GroupVersion> for EndOf<'a> {
+    ghost use Rattle.lv_viewrows.specs.Standing.{ended};
+
+    ghost edited = { λ e v. ended e.1 e.0 v };
 
     fn edit(&self, version: &mut GroupVersion) {
-        version.until = Some(self.number);
+        if version.is_current(self.row) {
+            version.until = Some(self.number);
+        }
     }
 }

@@ -5,21 +5,23 @@ ghost use Rattle.lv_values.specs.Ascending.{ascending};
 ghost use Rattle.lv_values.specs.Order.{row_cmp, row_eq};
 ghost use Rattle.lv_schema.specs.Applicable.{AreNetted, with_changes};
 ghost use Rattle.lv_schema.specs.Differences.{summed_columns};
-ghost use Rattle.lv_schema.specs.Once.{are_apart};
+ghost use Rattle.lv_schema.specs.Once.{Ascends, are_apart};
+ghost use Rattle.lv_schema.specs.declared.signed.SignedRow.{SignedRow as ASignedRow};
 ghost use Rattle.lv_schema.specs.Versions.{ends_after};
 ghost use Rattle.lv_group.specs.Gathered.{IsOfView, has_tuples, rows_of};
 ghost use Rattle.lv_viewrows.specs.Beginning.{AllBegin, IsFirst, first_column};
 ghost use Rattle.lv_viewrows.specs.Changed.{CanInstall, groups_with};
 ghost use Rattle.lv_viewrows.specs.Kept.{groups_at, one_row, rows_listed, shown, version_from};
+ghost use Rattle.lv_viewrows.specs.Standing.{read_at};
 
 use crate::beginning::first_column;
 use crate::changing::apply_all;
 use crate::reading::rows_passing;
 use crate::seek::Seek;
 use crate::version::{EndsAfter, GroupVersion};
+use crate::versions::{Listed, Versions};
 use lv_group::Groups;
 use lv_schema::{Signed, SignedRow, Sums, ViewDef};
-use lv_shelf::Shelf;
 use lv_values::{Any, Copying, NoMemory, Row, Rows};
 use std::alloc::Global;
 use std::marker::Model;
@@ -33,7 +35,7 @@ use std::marker::Model;
 pub struct ViewRows {
     def: ViewDef,
     at: u64,
-    versions: Shelf<GroupVersion>,
+    versions: Versions,
 }
 
 impl Model for ViewRows {
@@ -62,23 +64,14 @@ fn one_row(alloc: Global, row: Row) -> SignedRow
     }
 }
 
-/// Puts a version behind all others.
-fn push_last(versions: &mut Shelf<GroupVersion>, version: GroupVersion) -> Result<(), NoMemory>
-    ensures { OnOk result (versions.new.list ≡ versions.old.list ++ version ∷ []) }
-{
-    versions.reserve(1)?;
-    let at = versions.len();
-    versions.insert(at, version, 0);
-    Ok(())
-}
-
 /// Versions of these groups, which are there from the start.
-fn first_versions(alloc: Global, groups: Signed) -> Result<Shelf<GroupVersion>, NoMemory>
+fn first_versions(alloc: Global, groups: Signed) -> Result<Versions, NoMemory>
+    requires { Ascends (λ (a b : ASignedRow). row_cmp a.row b.row) groups }
     ensures { IfOk result (λ versions. versions.list ≡ map (version_from 0) groups) }
 {
-    let mut versions = Shelf::new(alloc);
+    let mut versions = Versions::new(alloc)?;
     for group in groups.into_vec() {
-        push_last(&mut versions, GroupVersion::from_commit(0, group))?;
+        versions.push_last(GroupVersion::from_commit(0, group))?;
     }
     Ok(versions)
 }
@@ -92,21 +85,6 @@ fn row_groups(alloc: Global, rows: Rows) -> Result<Signed, NoMemory>
         groups.push(one_row(alloc, row))?;
     }
     Ok(groups)
-}
-
-/// Copies of versions, in their order.
-fn copy_versions(
-    alloc: Global,
-    versions: &Shelf<GroupVersion>,
-) -> Result<Shelf<GroupVersion>, NoMemory>
-    ensures { IfOk result (λ copy. copy.list ≡ versions.now.list) }
-{
-    let mut copy = Shelf::new(alloc);
-    copy.reserve(versions.len() as u64)?;
-    for at in 0..versions.len() {
-        push_last(&mut copy, versions.get(at).copy(alloc)?)?;
-    }
-    Ok(copy)
 }
 
 impl ViewRows {
@@ -164,7 +142,7 @@ impl ViewRows {
         Ok(ViewRows {
             def: self.def.copy(alloc)?,
             at: self.at,
-            versions: copy_versions(alloc, &self.versions)?,
+            versions: self.versions.copy(alloc)?,
         })
     }
 
@@ -175,8 +153,20 @@ impl ViewRows {
         self.at
     }
 
+    /// The versions that are looked at for those that are there at a commit: from the point on those that have not ended.
+    fn versions_at(&self, n: u64) -> Listed<'_>
+        ensures { result ≡ read_at self.now.at n self.now.versions }
+    {
+        if self.at <= n {
+            self.versions.not_ended()
+        } else {
+            self.versions.all()
+        }
+    }
+
     /// The rows after the last install at or below commit n, in ascending order; below the first install, those that were
-    /// given at first. Cost: a pass over the versions, and a copy of each row; of a grouped view of v rows, v log v
+    /// given at first. Cost: a pass over the versions, at or above the point over those that have not ended alone, and a copy
+    /// of each row; of a grouped view of v rows, v log v
     /// comparisons too.
     pub fn read_at(&self, alloc: Global, n: u64) -> Result<Rows, NoMemory>
         ensures { IfOk result (λ rows. rows ≡ shown n self.now) }
@@ -201,7 +191,7 @@ impl ViewRows {
         ensures { IfOk result (λ rows. rows ≡ filter (T.passed test.now) (shown n self.now)) }
     {
         let changes = Signed::new(alloc);
-        rows_passing(alloc, &self.def, test, n, &self.versions, &changes)
+        rows_passing(alloc, &self.def, test, n, &self.versions_at(n), &changes)
     }
 
     /// Makes room for the versions of `rows` rows. What is kept stays as it was, and the room never shrinks.
@@ -238,7 +228,14 @@ impl ViewRows {
         requires only { MatchOption (T.first test.now) (Unit {0}) (AllBegin self.now.def (T.passed test.now)) }
         ensures { IfOk result (λ rows. rows ≡ filter (T.passed test.now) (rows_listed self.now.def (groups_with changes.now (groups_at self.now.at self.now.versions)))) }
     {
-        rows_passing(alloc, &self.def, test, self.at, &self.versions, changes)
+        rows_passing(
+            alloc,
+            &self.def,
+            test,
+            self.at,
+            &self.versions_at(self.at),
+            changes,
+        )
     }
 
     /// Installs a change, whose commits end at `hi`: from there on the rows are those before with it, and below they stay.

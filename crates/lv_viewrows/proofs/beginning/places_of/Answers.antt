@@ -8,17 +8,17 @@ use Rattle.lv_viewrows.proofs.beginning.places_of.Goals as goal
 use Rattle.lv_viewrows.proofs.beginning.places_of.Goals.{else-len-gt0-via-then-len-gt0+else-not-has_value, else-len-gt0-via-else-len-gt0}
 
 pub cut-requires : goal.cut-requires
-cut-requires c = below_falls_first c.args.first.now c.args.versions.now.list c.requires
+cut-requires c = below_falls_first c.args.first.now c.args.versions.now c.requires
 
 pub cut-requires-2 : goal.cut-requires-2
-cut-requires-2 c = up_to_falls c.args.first.now c.args.versions.now.list c.requires
+cut-requires-2 c = up_to_falls c.args.first.now c.args.versions.now c.requires
 
 pub returns-clause-order : goal.returns-clause-order
-returns-clause-order c = cuts_in_order c.args.first.now c.cut.result c.cut-2.result c.args.versions.now.list c.cut.ensures.cut c.cut-2.ensures.cut
+returns-clause-order c = cuts_in_order c.args.first.now c.cut.result c.cut-2.result c.args.versions.now c.cut.ensures.cut c.cut-2.ensures.cut
 
 pub returns-clause-before : goal.returns-clause-before
 returns-clause-before c =
-    let list = c.args.versions.now.list in
+    let list = c.args.versions.now in
     let has : (v : GroupVersion) → slice_get list 0 ≡ Some v → 0 < length v.group.row = elim c.else-len-gt0.branch [
       | else-len-gt0-via-then-len-gt0+else-not-has_value w ↦ λ v e.
           let same : w.get.result.now ≡ v = sym (got list 0 w.get.result.now v w.get.ensures) ∙ got list 0 v v e in
@@ -28,4 +28,4 @@ returns-clause-before c =
     none_before c.args.first.now c.cut.result list (all_have_values list c.requires has) c.cut.ensures.cut
 
 pub returns-clause-behind : goal.returns-clause-behind
-returns-clause-behind c = none_behind c.args.first.now c.cut-2.result c.args.versions.now.list c.cut-2.ensures.cut
+returns-clause-behind c = none_behind c.args.first.now c.cut-2.result c.args.versions.now c.cut-2.ensures.cut

@@ -1,61 +1,19 @@
-use Rattle.std.proofs.Common.{◌≡◌, ◌++◌, ◌∷◌, [], length, length-append, refl, sym, ap, ◌∙◌, subst, arith}
+use Rattle.std.proofs.Common.{◌≡◌, [], filter, sym, ap, subst, ◌∙◌}
 use Rattle.std.specs.List.{AllByRecursion}
-use Rattle.std.specs.declared.cmp.Ordering.TheVariants.{Less}
-use Rattle.lv_schema.specs.declared.signed.SignedRow.{SignedRow}
-use Rattle.lv_schema.proofs.Apart.{all_true, all_weaker}
+use Rattle.lv_group.specs.Gathered.{has_tuples}
 use Rattle.lv_shelf.specs.Cuts.{Apart}
-use Rattle.lv_shelf.proofs.Cutting.{cut_long}
-use Rattle.lv_values.specs.Order.{row_cmp}
-use Rattle.lv_viewrows.specs.Standing.{IsBy, MeetAll, NoneBefore, Precedes, changed_all, comes_before}
-use Rattle.lv_viewrows.proofs.Changes.{RowsAscend, ascend_last, changed_each, changed_last, changed_order, last_met, rest_met}
-use Rattle.lv_viewrows.proofs.Galloping.{none_at_end, none_lower, none_passes}
+use Rattle.lv_viewrows.specs.Standing.{IsBy, Precedes, changed_all}
+use Rattle.lv_viewrows.proofs.Filling.{all_filled, filled_each, filled_order, none_of}
 use Rattle.lv_viewrows.proofs.changing.apply_all.Goals as goal
 
-pub loop-change-init : goal.loop-change-init
-loop-change-init c =
+pub returns-then-len-eq0-clause-changed : goal.returns-then-len-eq0-clause-changed
+returns-then-len-eq0-clause-changed c =
     let vs = c.args.versions.now.list in
-    let high = c.len-high.result in
-    record {
-      order = c.requires.order;
-      each = c.requires.each;
-      ascend = c.requires.ascend;
-      meet = c.requires.meet;
-      changed = refl;
-      room = c.requires.room;
-      taken = omega arith;
-      step = c.first_step-step.ensures;
-      within = omega (arith, c.len-high.ensures);
-      above = all_true (λ (s : SignedRow). NoneBefore s.row c.args.number high vs) (λ (s : SignedRow). none_at_end s.row c.args.number high vs (omega (arith, c.len-high.ensures))) c.args.changes;
-    }
+    let none : vs ≡ [] = none_of vs (sym c.len.ensures ∙ c.if-len-eq0.true) in
+    c.fill.ensures.filled ∙ sym (all_filled c.args.number c.args.changes c.requires.ascend) ∙ ap (changed_all c.args.number c.args.changes) (sym none)
 
-pub apply-high-requires-clause-above : goal.apply-high-requires-clause-above
-apply-high-requires-clause-above c =
-    let above = λ (s : SignedRow). NoneBefore s.row c.args.number c.loop-change.high c.loop-change.versions.list in
-    (last_met above c.pop.new.self c.in-Some.change (subst (AllByRecursion above) c.in-Some.ensures c.loop-change.invariant.above)).1
+pub returns-then-len-eq0-clause-order : goal.returns-then-len-eq0-clause-order
+returns-then-len-eq0-clause-order c = subst (Apart Precedes) (sym c.fill.ensures.filled) (filled_order c.args.number c.args.changes c.requires.ascend)
 
-pub loop-change-preserved : goal.loop-change-preserved
-loop-change-preserved c =
-    let number = c.args.number in
-    let s = c.in-Some.change in
-    let rest = c.pop.new.self in
-    let vs = c.loop-change.versions.list in
-    let was = c.loop-change.invariant in
-    let popped : c.loop-change.changes ≡ rest ++ s ∷ [] = c.in-Some.ensures in
-    let met = last_met (MeetAll number vs) rest s (subst (AllByRecursion (MeetAll number vs)) popped was.meet) in
-    let up = ascend_last rest s (subst RowsAscend popped was.ascend) in
-    let after = c.apply-high.ensures.changed in
-    let at = c.apply-high.result in
-    let now = c.apply-high.new.versions.list in
-    let shorter = ap length popped ∙ length-append rest (s ∷ []) in
-    record {
-      order = subst (Apart Precedes) (sym after) (changed_order number s vs was.order was.each met.1);
-      each = subst (AllByRecursion (IsBy number)) (sym after) (changed_each number s vs was.each);
-      ascend = up.0;
-      meet = subst (λ l. AllByRecursion (MeetAll number l) rest) (sym after) (rest_met number rest s vs up.1 met.0);
-      changed = ap (changed_all number rest) after ∙ sym (changed_last number rest s vs) ∙ ap (λ l. changed_all number l vs) (sym popped) ∙ was.changed;
-      room = omega (arith, was.room, c.apply-high.ensures.room, shorter);
-      taken = omega (arith, was.taken, c.apply-high.ensures.room, shorter);
-      step = c.first_step-step-in-Some.ensures;
-      within = cut_long (comes_before s.row number) at now c.apply-high.ensures.cut;
-      above = all_weaker (λ (t : SignedRow). row_cmp t.row s.row ≡ Less) (λ (t : SignedRow). NoneBefore t.row number at now) (λ (t : SignedRow) less. none_lower s.row t.row number at now less (none_passes (comes_before s.row number) at now c.apply-high.ensures.cut)) rest up.1;
-    }
+pub returns-then-len-eq0-clause-each : goal.returns-then-len-eq0-clause-each
+returns-then-len-eq0-clause-each c = subst (AllByRecursion (IsBy c.args.number)) (sym c.fill.ensures.filled) (filled_each c.args.number (filter has_tuples c.args.changes))

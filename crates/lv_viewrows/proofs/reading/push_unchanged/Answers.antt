@@ -8,6 +8,6 @@ pub loop-at-preserved : goal.loop-at-preserved
 loop-at-preserved g c =
     let view = c.args.view.now in
     let p = g.T.Test.passed c.args.test.now in
-    let list = c.args.versions.now.list in
+    let list = c.args.versions.now in
     step_unchanged view p c.args.n c.loop-at.at c.args.end c.get.result.now list c.loop-at.out.rows c.push_if_there.new.out.rows (c.args.out.now.rows ++ passing view p (groups_at c.args.n (drop c.args.from (take c.args.end list)))) (omega arith) c.get.ensures
     c.in_ok-push_if_there.ensures c.loop-at.invariant

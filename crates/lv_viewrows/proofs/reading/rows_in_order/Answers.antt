@@ -10,10 +10,10 @@ pub loop-at-init : goal.loop-at-init
 loop-at-init g c =
     let view = c.args.view.now in
     let p = g.T.Test.passed c.args.test.now in
-    let rest = passing view p (merged c.args.changes.now (groups_at c.args.n (drop c.args.from c.args.versions.now.list))) in
+    let rest = passing view p (merged c.args.changes.now (groups_at c.args.n (drop c.args.from c.args.versions.now))) in
     record {
       within = c.requires.forward;
-      rows = ap (λ rows. rows ++ rest) c.new.ensures ∙ without_front view p c.args.n c.args.from c.args.versions.now.list c.args.changes.now c.requires.order c.requires.before;
+      rows = ap (λ rows. rows ++ rest) c.new.ensures ∙ without_front view p c.args.n c.args.from c.args.versions.now c.args.changes.now c.requires.order c.requires.before;
     }
 
 pub loop-at-preserved : goal.loop-at-preserved
@@ -21,7 +21,7 @@ loop-at-preserved g c =
     let view = c.args.view.now in
     let p = g.T.Test.passed c.args.test.now in
     let n = c.args.n in
-    let list = c.args.versions.now.list in
+    let list = c.args.versions.now in
     let changes = c.args.changes.now in
     let near = c.end_below-near in
     let within : near.result ≤ length list = omega (arith, near.ensures.within, c.requires.within) in
@@ -37,7 +37,7 @@ returns g c =
     let view = c.args.view.now in
     let p = g.T.Test.passed c.args.test.now in
     let n = c.args.n in
-    let list = c.args.versions.now.list in
+    let list = c.args.versions.now in
     let changes = drop c.loop-at.next c.args.changes.now in
     let end : c.loop-at.at ≡ c.args.end = omega (arith, c.loop-at.invariant.within, c.loop-at-test.false) in
     c.in_ok-push_rest.ensures

@@ -6,7 +6,7 @@ use Rattle.lv_viewrows.proofs.reading.rows_in_order.Given as goal
 abbrev pub invariant-loop-at : goal.invariant-loop-at
 invariant-loop-at g l = record {
   within : l.at ≤ l.end;
-  rows : l.out.rows ++ passing l.view (g.T.Test.passed l.test) (merged (drop l.next l.changes) (groups_at l.n (drop l.at l.versions.list))) ≡ passing l.view (g.T.Test.passed l.test) (merged l.changes (groups_at l.n l.versions.list));
+  rows : l.out.rows ++ passing l.view (g.T.Test.passed l.test) (merged (drop l.next l.changes) (groups_at l.n (drop l.at l.versions))) ≡ passing l.view (g.T.Test.passed l.test) (merged l.changes (groups_at l.n l.versions));
 }
 
 abbrev pub decreases-loop-at : goal.decreases-loop-at

@@ -15,14 +15,14 @@ loop-high-init c =
       within = c.requires.within;
       upper = omega arith;
       step = omega arith;
-      below = subst (AllByRecursion (λ (v : GroupVersion). is_below left v.group ≡ true)) (sym (nothing_between c.args.from c.args.versions.now.list)) tt;
+      below = subst (AllByRecursion (λ (v : GroupVersion). is_below left v.group ≡ true)) (sym (nothing_between c.args.from c.args.versions.now)) tt;
     }
 
 pub loop-high-preserved-then-is_below : goal.loop-high-preserved-then-is_below
 loop-high-preserved-then-is_below c =
     let left = drop c.args.next c.args.changes.now in
     let p = λ (v : GroupVersion). is_below left v.group in
-    let list = c.args.versions.now.list in
+    let list = c.args.versions.now in
     let far = c.loop-high.end + c.stride.result in
     let was = c.loop-high.invariant in
     let last : suc (far - 1) ≡ far = omega (arith, c.stride.ensures.forward) in

@@ -11,13 +11,13 @@ loop-low-init c = record {
   within = omega arith;
   step = c.requires.step;
   below = λ k d h. absurd (omega arith);
-  above = λ k d le h. all_behind (λ v. comes_before c.args.row.now c.args.number v ≡ false) c.args.high c.args.versions.now.list c.requires.above k d le h;
+  above = λ k d le h. all_behind (λ v. comes_before c.args.row.now c.args.number v ≡ false) c.args.high c.args.versions.now c.requires.above k d le h;
 }
 
 pub loop-low-preserved-then-passes : goal.loop-low-preserved-then-passes
 loop-low-preserved-then-passes c =
     let p = comes_before c.args.row.now c.args.number in
-    let list = c.args.versions.now.list in
+    let list = c.args.versions.now in
     let at = c.loop-low.high - c.stride.result in
     let lt : at < c.loop-low.high = omega arith in
     let within : at < length list = omega (arith, lt, c.loop-low.invariant.within, c.requires.within) in
@@ -32,7 +32,7 @@ loop-low-preserved-then-passes c =
 pub loop-low-preserved : goal.loop-low-preserved
 loop-low-preserved c =
     let p = comes_before c.args.row.now c.args.number in
-    let list = c.args.versions.now.list in
+    let list = c.args.versions.now in
     let at = c.loop-low.high - c.stride.result in
     record {
       order = omega arith;
@@ -44,7 +44,7 @@ loop-low-preserved c =
 
 pub returns-clause-cut : goal.returns-clause-cut
 returns-clause-cut c =
-    let list = c.args.versions.now.list in
+    let list = c.args.versions.now in
     let within : c.loop-low.low ≤ length list = omega (arith, c.loop-low.invariant.order, c.loop-low.invariant.within, c.requires.within) in
     cut_from (comes_before c.args.row.now c.args.number) list c.loop-low.low within c.loop-low.invariant.below
     (λ k d le h. c.loop-low.invariant.above k d (omega (arith, le, c.loop-low-test.false)) h)

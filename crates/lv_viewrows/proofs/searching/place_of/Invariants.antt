@@ -5,7 +5,7 @@ use Rattle.lv_viewrows.proofs.searching.place_of.Given as goal
 
 abbrev pub invariant-loop-low : goal.invariant-loop-low
 invariant-loop-low l =
-    let list = l.versions.list in
+    let list = l.versions in
     record {
       order : l.low ≤ l.high;
       within : l.high ≤ l.initial.high;

@@ -6,10 +6,17 @@ use Rattle.lv_schema.proofs.Apart.{ascends_ascending}
 use Rattle.lv_viewrows.specs.declared.version.GroupVersion.{GroupVersion}
 use Rattle.lv_viewrows.specs.Kept.{groups_at, one_row, rows_listed, version_from}
 use Rattle.lv_viewrows.specs.Standing.{AreVersions}
+use Rattle.lv_viewrows.proofs.Changes.{RowsAscend}
 use Rattle.lv_viewrows.proofs.Installing.{first_groups, first_kept}
 use Rattle.lv_viewrows.proofs.Keeping.{join_listed}
 use Rattle.lv_viewrows.proofs.RowsOfJoins.{one_rows_are, one_rows_ascend, one_rows_change, rows_apart, rows_of_ones, versions_of_ones}
 use Rattle.lv_viewrows.proofs.viewrows.ViewRows.new.Goals as goal
+
+pub first_versions-requires : goal.first_versions-requires
+first_versions-requires c =
+    let sorted = ascending row_cmp c.args.rows in
+    let up = ascends_ascending row_total c.args.rows (rows_apart c.args.rows c.requires.distinct) in
+    subst RowsAscend (sym (c.in_ok-row_groups.ensures ∙ ap (map one_row) c.sort.ensures)) (one_rows_ascend sorted up)
 
 pub invariant_of-result : goal.invariant_of-result
 invariant_of-result c =
