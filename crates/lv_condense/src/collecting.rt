@@ -1,9 +1,8 @@
 //! Collecting the touches of a table.
 ghost use Rattle.std.specs.Prelude.{◌≡◌, ℕ, ◌<◌, ◌≤◌, true, ◌++◌, [], ◌∷◌, List, drop, length, map, IfOk, IfSome, OnOk};
-ghost use Rattle.lv_values.specs.Rows.{values_at};
 ghost use Rattle.lv_schema.specs.declared.action.DeltaEntry.{DeltaEntry};
 ghost use Rattle.lv_schema.specs.Once.{Ascends};
-ghost use Rattle.lv_condense.specs.Touches.{Alike, ATouch, IsLastOf, of_key, touch_by, touch_cmp, touched};
+ghost use Rattle.lv_condense.specs.Touches.{Alike, ATouch, IsLastOf, key_of, touch_cmp, touched};
 
 use crate::touch::Touch;
 use lv_schema::{Action, DeltaEntry, TableDef};
@@ -32,87 +31,84 @@ impl<'a> Touches<'a> {
         }
     }
 
-    /// Ends a touch with an action.
-    fn lengthen(&mut self, at: usize, action: &'a Action)
+    /// Ends a touch of a key with a later touch of it.
+    fn lengthen(&mut self, at: usize, later: &Touch<'a>)
         requires { at < length self.old.list.items }
-        ensures alike { (key : List ℕ) → IsLastOf (values_at key action.now.row) self.old.list.items at
-            → (rest : List ATouch) → Alike (self.new.list.items ++ rest) (self.old.list.items ++ touch_by key action.now ∷ rest) }
+        ensures alike { IsLastOf (key_of later.now) self.old.list.items at
+            → (rest : List ATouch) → Alike (self.new.list.items ++ rest) (self.old.list.items ++ later.now ∷ rest) }
         ensures ascend { (self.old.ascend ≡ true → Ascends touch_cmp self.old.list.items) → self.new.ascend ≡ true → Ascends touch_cmp self.new.list.items }
     {
-        let touch = &self.list[at];
-        let longer = touch.then(action);
-        self.list[at] = longer;
+        self.list[at].end_with(later);
     }
 
-    /// The last touch's place, if it is of an action's key.
-    fn end_on(&self, key: &[u8], action: &Action) -> Option<usize>
-        ensures { IfSome result (λ at. IsLastOf (values_at key.now action.now.row) self.now.list.items at) }
+    /// The last touch's place, if it is of a touch's key.
+    fn end_on(&self, touch: &Touch<'a>) -> Option<usize>
+        ensures { IfSome result (λ at. IsLastOf (key_of touch.now) self.now.list.items at) }
     {
         let list: &[Touch<'a>] = &self.list;
         if list.is_empty() {
             return None;
         }
         let at = list.len() - 1;
-        if list[at].is_on(key, action) {
+        if *touch == list[at] {
             return Some(at);
         }
         None
     }
 
-    /// Where the last touch of an action's key is, if they are few. Cost: a test of the key of each.
-    fn search(&self, key: &[u8], action: &Action) -> Option<usize>
-        ensures { IfSome result (λ at. IsLastOf (values_at key.now action.now.row) self.now.list.items at) }
+    /// Where the last touch of a touch's key is, if they are few. Cost: a test of the key of each.
+    fn search(&self, touch: &Touch<'a>) -> Option<usize>
+        ensures { IfSome result (λ at. IsLastOf (key_of touch.now) self.now.list.items at) }
     {
         if self.list.len() > SHORT {
             return None;
         }
-        last_of(&self.list, key, action)
+        last_of(&self.list, touch)
     }
 
-    /// Whether the last touch, if there is one, is of a lower key than an action.
-    fn ends_below(&self, key: &[u8], action: &Action) -> bool
-        ensures { result ≡ true → (Ascends touch_cmp self.now.list.items) → Ascends touch_cmp (self.now.list.items ++ touch_by key.now action.now ∷ []) }
+    /// Whether the last touch, if there is one, is of a lower key than a touch.
+    fn ends_below(&self, touch: &Touch<'a>) -> bool
+        ensures { result ≡ true → (Ascends touch_cmp self.now.list.items) → Ascends touch_cmp (self.now.list.items ++ touch.now ∷ []) }
     {
         let list: &[Touch<'a>] = &self.list;
         if list.is_empty() {
             return true;
         }
-        list[list.len() - 1].is_below(key, action)
+        list[list.len() - 1].cmp(touch).is_lt()
     }
 
-    /// Adds an action: the last touch of its key ends with it, where that is the last of all or is found; else it is a touch
-    /// of its own. Cost: the last touch's key is tested, and compared while the keys ascend; that of `search` where the
-    /// action's key is not above it.
-    fn add(&mut self, key: &'a [u8], action: &'a Action) -> Result<(), NoMemory>
-        ensures alike { OnOk result ((rest : List ATouch) → Alike (self.new.list.items ++ rest) (self.old.list.items ++ touch_by key.now action.now ∷ rest)) }
+    /// Adds the touch by an action: the last touch of its key ends with it, where that is the last of all or is found; else
+    /// it is one more. Cost: the last touch's key is tested, and compared while the keys ascend; that of `search` where the
+    /// touch's key is not above it.
+    fn add(&mut self, touch: Touch<'a>) -> Result<(), NoMemory>
+        ensures alike { OnOk result ((rest : List ATouch) → Alike (self.new.list.items ++ rest) (self.old.list.items ++ touch.entry ∷ rest)) }
         ensures ascend { OnOk result ((self.old.ascend ≡ true → Ascends touch_cmp self.old.list.items) → self.new.ascend ≡ true → Ascends touch_cmp self.new.list.items) }
     {
-        if let Some(at) = self.end_on(key, action) {
-            self.lengthen(at, action);
+        if let Some(at) = self.end_on(&touch) {
+            self.lengthen(at, &touch);
             return Ok(());
         }
-        if self.ascend && self.ends_below(key, action) {
-            self.list.push(Touch::by(key, action))?;
+        if self.ascend && self.ends_below(&touch) {
+            self.list.push(touch)?;
             return Ok(());
         }
-        if let Some(at) = self.search(key, action) {
-            self.lengthen(at, action);
+        if let Some(at) = self.search(&touch) {
+            self.lengthen(at, &touch);
             return Ok(());
         }
-        self.list.push(Touch::by(key, action))?;
+        self.list.push(touch)?;
         self.ascend = false;
         Ok(())
     }
 }
 
-/// Where the last touch of an action's key is. Cost: the key is tested at the touches from there on.
-fn last_of(touches: &[Touch<'_>], key: &[u8], action: &Action) -> Option<usize>
-    ensures { IfSome result (λ at. IsLastOf (values_at key.now action.now.row) touches.now at) }
+/// Where the last touch of a touch's key is. Cost: the key is tested at the touches from there on.
+fn last_of<'a>(touches: &[Touch<'a>], touch: &Touch<'a>) -> Option<usize>
+    ensures { IfSome result (λ at. IsLastOf (key_of touch.now) touches.now at) }
 {
     let mut at = touches.len();
     while at > 0 {
-        let touch = &touches[at - 1];
-        if touch.is_on(key, action) {
+        if *touch == touches[at - 1] {
             return Some(at - 1);
         }
         at -= 1;
@@ -132,7 +128,7 @@ pub(crate) fn touches_of<'a>(
     let mut touches = Touches::new(alloc);
     for entry in entries {
         if table.no == entry.action.table {
-            touches.add(table.key.as_slice(), &entry.action)?;
+            touches.add(Touch::by(table.key.as_slice(), &entry.action))?;
         }
     }
     Ok(touches)
@@ -150,7 +146,7 @@ pub(crate) fn touches_in<'a>(
     let mut touches = Touches::new(alloc);
     for action in actions {
         if table.no == action.table {
-            touches.add(table.key.as_slice(), action)?;
+            touches.add(Touch::by(table.key.as_slice(), action))?;
         }
     }
     Ok(touches)

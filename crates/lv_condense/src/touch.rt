@@ -1,11 +1,12 @@
 //! Actions on one table.
-ghost use Rattle.std.specs.Prelude.{◌≡◌, refl};
+ghost use Rattle.std.specs.Prelude.{◌≡◌, [], ◌∷◌, refl, IfSome};
 ghost use Rattle.std.specs.Cmp.{partial_equiv_from_equiv, partial_order_from_total};
 ghost use Rattle.std.specs.Ordering.{as_partial_cmp, eq_by_cmp, is_lt};
 ghost use Rattle.std.proofs.lemmas.Cmp.{eq_by_cmp_equiv};
+ghost use Rattle.lv_values.specs.declared.value.Value.TheVariants.{Num};
 ghost use Rattle.lv_values.specs.Order.{row_cmp, row_eq, value_cmp, value_eq};
 ghost use Rattle.lv_values.specs.Rows.{value_in, values_at};
-ghost use Rattle.lv_condense.specs.Touches.{key_of, then_by, touch_by, touch_cmp, touch_total};
+ghost use Rattle.lv_condense.specs.Touches.{then_by, touch_by, touch_cmp, touch_total};
 
 use lv_schema::Action;
 use lv_values::{Row, Value};
@@ -13,20 +14,27 @@ use std::cmp::Ordering;
 use std::marker::Model;
 
 /// The first and the last of some actions on one key, with the positions of their table's key. Contracts see all three.
-/// Touches are ordered by the keys that they touch, in place.
+/// Touches are ordered by the keys that they touch, in place. A key that is one number, as most are, is kept beside them,
+/// so that two such keys are compared without a look at their rows.
 #[derive(Drop)]
 pub(crate) struct Touch<'a> {
     pub key: &'a [u8],
     pub first: &'a Action,
     pub last: &'a Action,
+    number: Option<i64>,
 }
 
 impl<'a> Model for Touch<'a> {
+    ghost use Rattle.std.specs.Prelude.{◌≡◌, [], ◌∷◌, IfSome};
+    ghost use Rattle.lv_values.specs.declared.value.Value.TheVariants.{Num};
+    ghost use Rattle.lv_values.specs.Rows.{values_at};
     ghost use Rattle.lv_condense.specs.Touches.{ATouch};
 
     ghost Value = { ATouch };
 
     ghost view = { λ t. record { key = t.key.now; first = t.first.now; last = t.last.now } };
+
+    ghost invariant = { λ t. IfSome t.number (λ n. values_at t.key.now t.first.now.row ≡ Num n ∷ []) };
 }
 
 impl<'a> Touch<'a> {
@@ -38,32 +46,28 @@ impl<'a> Touch<'a> {
             key,
             first: action,
             last: action,
+            number: number_in(key, &action.row),
         }
     }
 
-    /// The touch with an action after its last one.
-    pub fn then(&self, action: &'a Action) -> Touch<'a>
-        ensures { result ≡ then_by self.now action.now }
+    /// Ends the touch with the last action of a later one.
+    pub fn end_with(&mut self, later: &Touch<'a>)
+        ensures { self.new ≡ then_by self.old later.now.last }
     {
-        Touch {
-            key: self.key,
-            first: self.first,
-            last: action,
-        }
+        self.last = later.last;
     }
+}
 
-    /// Whether the touch is on the key of an action. Cost: the key's values up to the first that differs.
-    pub fn is_on(&self, key: &[u8], action: &Action) -> bool
-        ensures { result ≡ row_eq (values_at key.now action.now.row) (key_of self.now) }
-    {
-        is_same_key(key, &action.row, self.key, &self.first.row)
+/// The number that a row's key is, if it is one number and 64 bits hold it.
+fn number_in(key: &[u8], row: &Row) -> Option<i64>
+    ensures { IfSome result (λ n. values_at key.now row.now ≡ Num n ∷ []) }
+{
+    if key.len() != 1 {
+        return None;
     }
-
-    /// Whether the touch is of a lower key than an action. Cost: a comparison of keys.
-    pub fn is_below(&self, key: &[u8], action: &Action) -> bool
-        ensures { result ≡ is_lt (row_cmp (key_of self.now) (values_at key.now action.now.row)) }
-    {
-        compare_keys(self.key, &self.first.row, key, &action.row).is_lt()
+    match row.as_slice().get(key[0] as usize) {
+        Some(Value::Num(n)) => i64::try_from(*n).ok(),
+        _ => None,
     }
 }
 
@@ -146,8 +150,13 @@ impl<'a> PartialEq for Touch<'a> {
 
     ghost laws = { partial_equiv_from_equiv (eq_by_cmp_equiv touch_total) };
 
+    /// Whether the keys are the same. Cost: a test of two numbers where both keys are one, else of the keys' values up to
+    /// the first that differs.
     fn eq(&self, other: &Touch<'a>) -> bool {
-        self.cmp(other).is_eq()
+        match (self.number, other.number) {
+            (Some(a), Some(b)) => a == b,
+            _ => is_same_key(self.key, &self.first.row, other.key, &other.first.row),
+        }
     }
 }
 
@@ -174,7 +183,12 @@ impl<'a> Ord for Touch<'a> {
 
     ghost matches_eq = { λ _ _. refl };
 
+    /// Compares the keys. Cost: a comparison of two numbers where both keys are one, else of the keys' values up to the
+    /// first that differs.
     fn cmp(&self, other: &Touch<'a>) -> Ordering {
-        compare_keys(self.key, &self.first.row, other.key, &other.first.row)
+        match (self.number, other.number) {
+            (Some(a), Some(b)) => a.cmp(&b),
+            _ => compare_keys(self.key, &self.first.row, other.key, &other.first.row),
+        }
     }
 }

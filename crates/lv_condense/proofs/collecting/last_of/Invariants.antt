@@ -1,12 +1,11 @@
 use Rattle.std.proofs.Common.{◌≡◌, ◌≤◌, [], length, drop}
-use Rattle.lv_values.specs.Rows.{values_at}
-use Rattle.lv_condense.specs.Touches.{of_key}
+use Rattle.lv_condense.specs.Touches.{key_of, of_key}
 use Rattle.lv_condense.proofs.collecting.last_of.Given as goal
 
 abbrev pub invariant-loop-at : goal.invariant-loop-at
 invariant-loop-at l = record {
   within : l.at ≤ length l.touches;
-  none : of_key (values_at l.key l.action.row) (drop l.at l.touches) ≡ [];
+  none : of_key (key_of l.touch) (drop l.at l.touches) ≡ [];
 }
 
 abbrev pub decreases-loop-at : goal.decreases-loop-at
