@@ -140,10 +140,10 @@ fn condense_touches(
 /// state on which they can be taken to the one to which they lead.
 ///
 /// Cost: for each action on the table a test whether its key is the last action's, and copies of the rows of the net
-/// change. Keys of one number that 64 bits hold are tested and compared as numbers, each read from its row once. A key above all before it costs one comparison more. Up to sixteen keys are found again in any order, by a test
-/// for each of them at most: so however many actions are on a few keys, what is sorted and gathered is one entry a key.
-/// Where there are more keys and they do not ascend, also n log n comparisons, where n counts actions in a row on one key
-/// once.
+/// change. Keys of one number that 64 bits hold are tested and compared as numbers, each read from its row once. A key
+/// above all before it costs one comparison more. Up to sixteen keys are found again in any order, by a test for each of
+/// them at most: so however many actions are on a few keys, what is sorted and gathered is one entry a key. Where there
+/// are more keys and they do not ascend, also n log n comparisons, where n counts actions in a row on one key once.
 pub fn condense_actions(
     alloc: Global,
     table: &TableDef,
