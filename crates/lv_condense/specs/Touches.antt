@@ -1,12 +1,14 @@
 -- Touches of one table, each the first and the last of some actions on one key, with the positions of the table's key, and
 -- what those of each key come to.
-use Rattle.std.specs.Prelude.{◌≡◌, ℕ, suc, ◌+◌, ◌<◌, false, ◌==◌, List, [], ◌∷◌, length, drop, map, filter, slice_index_or, Option, None}
+use Rattle.std.specs.Prelude.{◌≡◌, ℕ, suc, ◌+◌, ◌<◌, ℤ, false, ◌==◌, List, [], ◌∷◌, length, drop, map, filter, slice_index_or, Option, None, MatchOption, FitsSigned}
+use Rattle.std.specs.Int.{w64}
 use Rattle.std.specs.List.{AllByRecursion, filter_map, list_any, prefix_len}
 use Rattle.std.specs.Ordering.{is_eq, is_gt, on}
 use Rattle.std.specs.declared.cmp.Ordering.{Ordering}
 use Rattle.std.specs.Cmp.{IsTotalOrder}
 use Rattle.std.proofs.lemmas.Cmp.{on_total}
 use Rattle.lv_values.specs.declared.value.Value.{Value}
+use Rattle.lv_values.specs.declared.value.Value.TheVariants.{Num}
 use Rattle.lv_values.specs.Order.{row_cmp, row_eq}
 use Rattle.lv_values.specs.OrderLaws.{row_total}
 use Rattle.lv_values.specs.Rows.{values_at}
@@ -29,6 +31,13 @@ touch_cmp = on key_of row_cmp
 
 pub touch_total : IsTotalOrder touch_cmp
 touch_total = on_total key_of row_total
+
+-- a key that is one number, which 64 bits hold, and the number of a key, if it is such
+abbrev pub IsNumber : List Value → ℤ → Type 0
+IsNumber k n = FitsSigned w64 n × (k ≡ Num n ∷ [])
+
+abbrev pub IsNumberOf : List Value → Option ℤ → Type 0
+IsNumberOf k number = MatchOption number ((n : ℤ) → ¬ IsNumber k n) (IsNumber k)
 
 -- the touch by one action, and a touch with an action after its last one
 abbrev pub touch_by : List ℕ → Action → ATouch

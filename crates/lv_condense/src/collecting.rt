@@ -1,5 +1,6 @@
 //! Collecting the touches of a table.
 ghost use Rattle.std.specs.Prelude.{◌≡◌, ℕ, ◌<◌, ◌≤◌, true, ◌++◌, [], ◌∷◌, List, drop, length, map, IfOk, IfSome, OnOk};
+ghost use Rattle.lv_values.specs.declared.value.Value.TheVariants.{Num};
 ghost use Rattle.lv_schema.specs.declared.action.DeltaEntry.{DeltaEntry};
 ghost use Rattle.lv_schema.specs.Once.{Ascends};
 ghost use Rattle.lv_condense.specs.Touches.{Alike, ATouch, IsLastOf, key_of, touch_cmp, touched};
@@ -102,8 +103,22 @@ impl<'a> Touches<'a> {
     }
 }
 
-/// Where the last touch of a touch's key is. Cost: the key is tested at the touches from there on.
-fn last_of<'a>(touches: &[Touch<'a>], touch: &Touch<'a>) -> Option<usize>
+/// Where the last touch of a key of one number is. Cost: a test of the touches from there on.
+fn last_of_number(touches: &[Touch<'_>], number: i64) -> Option<usize>
+    ensures { IfSome result (λ at. IsLastOf (Num number ∷ []) touches.now at) }
+{
+    let mut at = touches.len();
+    while at > 0 {
+        if touches[at - 1].is_number(number) {
+            return Some(at - 1);
+        }
+        at -= 1;
+    }
+    None
+}
+
+/// Where the last touch of a touch's key is. Cost: a test of the keys of the touches from there on.
+fn last_of_key<'a>(touches: &[Touch<'a>], touch: &Touch<'a>) -> Option<usize>
     ensures { IfSome result (λ at. IsLastOf (key_of touch.now) touches.now at) }
 {
     let mut at = touches.len();
@@ -114,6 +129,17 @@ fn last_of<'a>(touches: &[Touch<'a>], touch: &Touch<'a>) -> Option<usize>
         at -= 1;
     }
     None
+}
+
+/// Where the last touch of a touch's key is. Cost: a test of the touches from there on, by their numbers where the key is
+/// one.
+fn last_of<'a>(touches: &[Touch<'a>], touch: &Touch<'a>) -> Option<usize>
+    ensures { IfSome result (λ at. IsLastOf (key_of touch.now) touches.now at) }
+{
+    match touch.number() {
+        Some(number) => last_of_number(touches, number),
+        None => last_of_key(touches, touch),
+    }
 }
 
 /// The touches of a table by the actions of entries.

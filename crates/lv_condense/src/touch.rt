@@ -1,12 +1,12 @@
 //! Actions on one table.
-ghost use Rattle.std.specs.Prelude.{◌≡◌, [], ◌∷◌, refl, IfSome};
+ghost use Rattle.std.specs.Prelude.{◌≡◌, [], ◌∷◌, refl};
 ghost use Rattle.std.specs.Cmp.{partial_equiv_from_equiv, partial_order_from_total};
 ghost use Rattle.std.specs.Ordering.{as_partial_cmp, eq_by_cmp, is_lt};
 ghost use Rattle.std.proofs.lemmas.Cmp.{eq_by_cmp_equiv};
 ghost use Rattle.lv_values.specs.declared.value.Value.TheVariants.{Num};
 ghost use Rattle.lv_values.specs.Order.{row_cmp, row_eq, value_cmp, value_eq};
 ghost use Rattle.lv_values.specs.Rows.{value_in, values_at};
-ghost use Rattle.lv_condense.specs.Touches.{then_by, touch_by, touch_cmp, touch_total};
+ghost use Rattle.lv_condense.specs.Touches.{IsNumberOf, key_of, then_by, touch_by, touch_cmp, touch_total};
 
 use lv_schema::Action;
 use lv_values::{Row, Value};
@@ -25,16 +25,14 @@ pub(crate) struct Touch<'a> {
 }
 
 impl<'a> Model for Touch<'a> {
-    ghost use Rattle.std.specs.Prelude.{◌≡◌, [], ◌∷◌, IfSome};
-    ghost use Rattle.lv_values.specs.declared.value.Value.TheVariants.{Num};
     ghost use Rattle.lv_values.specs.Rows.{values_at};
-    ghost use Rattle.lv_condense.specs.Touches.{ATouch};
+    ghost use Rattle.lv_condense.specs.Touches.{ATouch, IsNumberOf};
 
     ghost Value = { ATouch };
 
     ghost view = { λ t. record { key = t.key.now; first = t.first.now; last = t.last.now } };
 
-    ghost invariant = { λ t. IfSome t.number (λ n. values_at t.key.now t.first.now.row ≡ Num n ∷ []) };
+    ghost invariant = { λ t. IsNumberOf (values_at t.key.now t.first.now.row) t.number };
 }
 
 impl<'a> Touch<'a> {
@@ -50,6 +48,23 @@ impl<'a> Touch<'a> {
         }
     }
 
+    /// The number that the touch's key is, if it is one number and 64 bits hold it.
+    pub fn number(&self) -> Option<i64>
+        ensures { IsNumberOf (key_of self.now) result }
+    {
+        self.number
+    }
+
+    /// Whether the touch's key is this number.
+    pub fn is_number(&self, number: i64) -> bool
+        ensures { result ≡ row_eq (Num number ∷ []) (key_of self.now) }
+    {
+        match self.number {
+            Some(own) => own == number,
+            None => false,
+        }
+    }
+
     /// Ends the touch with the last action of a later one.
     pub fn end_with(&mut self, later: &Touch<'a>)
         ensures { self.new ≡ then_by self.old later.now.last }
@@ -60,14 +75,15 @@ impl<'a> Touch<'a> {
 
 /// The number that a row's key is, if it is one number and 64 bits hold it.
 fn number_in(key: &[u8], row: &Row) -> Option<i64>
-    ensures { IfSome result (λ n. values_at key.now row.now ≡ Num n ∷ []) }
+    ensures { IsNumberOf (values_at key.now row.now) result }
 {
     if key.len() != 1 {
         return None;
     }
     match row.as_slice().get(key[0] as usize) {
         Some(Value::Num(n)) => i64::try_from(*n).ok(),
-        _ => None,
+        Some(Value::Text(_)) => None,
+        None => Some(0),
     }
 }
 
@@ -155,7 +171,8 @@ impl<'a> PartialEq for Touch<'a> {
     fn eq(&self, other: &Touch<'a>) -> bool {
         match (self.number, other.number) {
             (Some(a), Some(b)) => a == b,
-            _ => is_same_key(self.key, &self.first.row, other.key, &other.first.row),
+            (Some(_), None) => false,
+            (None, _) => is_same_key(self.key, &self.first.row, other.key, &other.first.row),
         }
     }
 }

@@ -1,6 +1,6 @@
 use Rattle.std.proofs.Common.{◌≡◌, ◌≤◌, [], length, drop}
 use Rattle.lv_condense.specs.Touches.{key_of, of_key}
-use Rattle.lv_condense.proofs.collecting.last_of.Given as goal
+use Rattle.lv_condense.proofs.collecting.last_of_key.Given as goal
 
 abbrev pub invariant-loop-at : goal.invariant-loop-at
 invariant-loop-at l = record {

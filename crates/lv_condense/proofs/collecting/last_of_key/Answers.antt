@@ -1,7 +1,7 @@
 use Rattle.std.proofs.Common.{◌≡◌, ◌-◌, ◌<◌, ℕ, suc, [], drop, length, sym, subst, ◌∙◌, arith}
 use Rattle.lv_condense.specs.Touches.{key_of, of_key}
 use Rattle.lv_condense.proofs.Joined.{last_here, none_from}
-use Rattle.lv_condense.proofs.collecting.last_of.Goals as goal
+use Rattle.lv_condense.proofs.collecting.last_of_key.Goals as goal
 
 pub returns-then-eq : goal.returns-then-eq
 returns-then-eq c =
