@@ -5,14 +5,13 @@ use Rattle.std.specs.List.{AllByRecursion, list_any}
 use Rattle.std.specs.Ordering.{is_eq, is_lt}
 use Rattle.std.specs.declared.cmp.Ordering.{Ordering}
 use Rattle.std.specs.declared.cmp.Ordering.TheVariants.{Less, Equal, Greater}
-use Rattle.std.proofs.lemmas.List.{drop_all}
 use Rattle.lv_values.specs.declared.value.Value.{Value}
 use Rattle.lv_values.specs.Order.{row_eq}
 use Rattle.lv_values.specs.OrderLaws.{row_exact, row_total}
 use Rattle.lv_schema.specs.declared.action.Action.{Action}
 use Rattle.lv_schema.specs.Keys.{left_by}
 use Rattle.lv_schema.specs.Once.{Ascends}
-use Rattle.lv_condense.specs.Touches.{Alike, ATouch, IsLastOf, key_of, touch_cmp, found_in, left_in, of_key, then_by}
+use Rattle.lv_condense.specs.Touches.{Alike, ATouch, HasNoneBehind, IsLastOf, key_of, touch_cmp, found_in, left_in, of_key, then_by}
 
 abbrev Key : Type 0
 Key = List Value
@@ -151,12 +150,21 @@ none_from k [] i t n at off none = absurd (omega arith)
 none_from k (y ∷ ys) zero t n at off none = ap (λ b. cond b (y ∷ of_key k ys) (of_key k ys)) (ap (λ (u : ATouch). row_eq k (key_of u)) (sym at) ∙ off) ∙ none
 none_from k (y ∷ ys) (suc i) t n at off none = none_from k ys i t (omega arith) at off none
 
-pub none_behind_all : (k : Key) (xs : List ATouch) (i : ℕ) → suc i ≡ length xs → of_key k (drop (suc i) xs) ≡ []
-none_behind_all k xs i n = ap (of_key k) (drop_all (suc i) xs (omega arith))
-
 -- the last touch of a key ends with a later action on it
 pub alike_lengthened : (xs : List ATouch) (i : ℕ) (t x : ATouch) (rest : List ATouch) → t ≡ get_or xs i t → IsLastOf (key_of x) xs i → Alike (slice_set xs i (then_by t x.last) ++ rest) (xs ++ x ∷ rest)
 alike_lengthened xs i t x rest at last = alike_at xs i t x rest last.within at (sym (last.here t at)) last.behind
+
+-- the touch that the latest action ends has none of its key behind it
+pub latest_ended : (k : Key) (xs : List ATouch) (i : ℕ) (t : ATouch) (a : Action) → t ≡ get_or xs i t → IsLastOf k xs i → HasNoneBehind (slice_set xs i (then_by t a)) i
+latest_ended k [] i t a at last = absurd (let within = last.within in omega (arith, within))
+latest_ended k (y ∷ ys) zero t a at last = λ x is. ap (λ (q : Key). of_key q ys) (ap key_of is ∙ last.here t at) ∙ last.behind
+latest_ended k (y ∷ ys) (suc i) t a at last =
+    let within = last.within in
+    latest_ended k ys i t a at (record { within = omega (arith, within); here = last.here; behind = last.behind })
+
+pub latest_here : (k : Key) (xs : List ATouch) (i : ℕ) (t : ATouch) → i < length xs → t ≡ get_or xs i t → row_eq k (key_of t) ≡ true → HasNoneBehind xs i → IsLastOf k xs i
+latest_here k xs i t n at on none =
+    last_here k xs i t n at on (ap (λ (q : Key). of_key q (drop (suc i) xs)) (row_exact k (key_of t) (equal_from _ on)) ∙ none t at)
 
 -- ---- touches each of a lower key than the next one
 abbrev Below : ATouch → List ATouch → Type 0

@@ -79,6 +79,10 @@ pub record IsLastOf (k : List Value) (xs : List ATouch) (i : ℕ) : Type 0 where
   pub here : (x : ATouch) → x ≡ slice_index_or xs i x → key_of x ≡ k
   pub behind : of_key k (drop (suc i) xs) ≡ []
 
+-- no touch behind the one at i is of its key
+abbrev pub HasNoneBehind : List ATouch → ℕ → Type 0
+HasNoneBehind xs i = (x : ATouch) → x ≡ slice_index_or xs i x → of_key (key_of x) (drop (suc i) xs) ≡ []
+
 -- touches that come to the same at each key
 pub record Alike (xs ys : List ATouch) : Type 0 where
   pub keys : (k : List Value) → list_any (row_eq k) (map key_of xs) ≡ list_any (row_eq k) (map key_of ys)

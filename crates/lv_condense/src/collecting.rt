@@ -3,7 +3,7 @@ ghost use Rattle.std.specs.Prelude.{◌≡◌, ℕ, ◌<◌, ◌≤◌, true, �
 ghost use Rattle.lv_values.specs.declared.value.Value.TheVariants.{Num};
 ghost use Rattle.lv_schema.specs.declared.action.DeltaEntry.{DeltaEntry};
 ghost use Rattle.lv_schema.specs.Once.{Ascends};
-ghost use Rattle.lv_condense.specs.Touches.{Alike, ATouch, IsLastOf, key_of, touch_cmp, touched};
+ghost use Rattle.lv_condense.specs.Touches.{Alike, ATouch, HasNoneBehind, IsLastOf, key_of, touch_cmp, touched};
 
 use crate::touch::Touch;
 use lv_schema::{Action, DeltaEntry, TableDef};
@@ -13,11 +13,13 @@ use std::alloc::Global;
 /// The longest list of touches that is searched for an action's key.
 const SHORT: usize = 16;
 
-/// The touches of a table in the order of its actions, and whether each is of a lower key than the next one.
+/// The touches of a table in the order of its actions, the place of the one that the latest action ends, and whether each
+/// is of a lower key than the next one.
 #[derive(Drop)]
 pub(crate) struct Touches<'a> {
     pub list: Vec<Touch<'a>>,
     pub ascend: bool,
+    latest: usize,
 }
 
 impl<'a> Touches<'a> {
@@ -29,6 +31,7 @@ impl<'a> Touches<'a> {
         Touches {
             list: Vec::new(alloc),
             ascend: true,
+            latest: 0,
         }
     }
 
@@ -38,21 +41,20 @@ impl<'a> Touches<'a> {
         ensures alike { IsLastOf (key_of later.now) self.old.list.items at
             → (rest : List ATouch) → Alike (self.new.list.items ++ rest) (self.old.list.items ++ later.now ∷ rest) }
         ensures ascend { (self.old.ascend ≡ true → Ascends touch_cmp self.old.list.items) → self.new.ascend ≡ true → Ascends touch_cmp self.new.list.items }
+        ensures latest { IsLastOf (key_of later.now) self.old.list.items at → HasNoneBehind self.new.list.items self.new.latest }
     {
         self.list[at].end_with(later);
+        self.latest = at;
     }
 
-    /// The last touch's place, if it is of a touch's key.
+    /// The place of the touch that the latest action ends, if it is of a touch's key.
     fn end_on(&self, touch: &Touch<'a>) -> Option<usize>
+        requires { HasNoneBehind self.now.list.items self.now.latest }
         ensures { IfSome result (λ at. IsLastOf (key_of touch.now) self.now.list.items at) }
     {
         let list: &[Touch<'a>] = &self.list;
-        if list.is_empty() {
-            return None;
-        }
-        let at = list.len() - 1;
-        if *touch == list[at] {
-            return Some(at);
+        if self.latest < list.len() && *touch == list[self.latest] {
+            return Some(self.latest);
         }
         None
     }
@@ -78,26 +80,39 @@ impl<'a> Touches<'a> {
         list[list.len() - 1].cmp(touch).is_lt()
     }
 
-    /// Adds the touch by an action: the last touch of its key ends with it, where that is the last of all or is found; else
-    /// it is one more. Cost: the last touch's key is tested, and compared while the keys ascend; that of `search` where the
-    /// touch's key is not above it.
+    /// Puts a touch behind the others.
+    fn push(&mut self, touch: Touch<'a>) -> Result<(), NoMemory>
+        ensures list { OnOk result (self.new.list.items ≡ self.old.list.items ++ touch.entry ∷ []) }
+        ensures ascend { OnOk result (self.new.ascend ≡ self.old.ascend) }
+        ensures latest { OnOk result (HasNoneBehind self.new.list.items self.new.latest) }
+    {
+        self.latest = self.list.len();
+        self.list.push(touch)?;
+        Ok(())
+    }
+
+    /// Adds the touch by an action: the last touch of its key ends with it, where that is the latest or is found; else it is
+    /// one more. Cost: a test of the latest one's key, a comparison of the last one's while the keys ascend, and that of
+    /// `search` where the touch's key is not above it.
     fn add(&mut self, touch: Touch<'a>) -> Result<(), NoMemory>
+        requires { HasNoneBehind self.old.list.items self.old.latest }
         ensures alike { OnOk result ((rest : List ATouch) → Alike (self.new.list.items ++ rest) (self.old.list.items ++ touch.entry ∷ rest)) }
         ensures ascend { OnOk result ((self.old.ascend ≡ true → Ascends touch_cmp self.old.list.items) → self.new.ascend ≡ true → Ascends touch_cmp self.new.list.items) }
+        ensures latest { OnOk result (HasNoneBehind self.new.list.items self.new.latest) }
     {
         if let Some(at) = self.end_on(&touch) {
             self.lengthen(at, &touch);
             return Ok(());
         }
         if self.ascend && self.ends_below(&touch) {
-            self.list.push(touch)?;
+            self.push(touch)?;
             return Ok(());
         }
         if let Some(at) = self.search(&touch) {
             self.lengthen(at, &touch);
             return Ok(());
         }
-        self.list.push(touch)?;
+        self.push(touch)?;
         self.ascend = false;
         Ok(())
     }
