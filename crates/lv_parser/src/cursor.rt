@@ -30,6 +30,7 @@ impl Model for Cursor {
     ghost invariant = { λ c. AreSmall c.rest };
 }
 
+#[inline(always)]
 fn same_class(a: Class, b: Class) -> bool
     ensures { result ≡ same a b }
 {
@@ -65,6 +66,7 @@ impl Cursor {
     }
 
     /// The next token.
+    #[inline(always)]
     fn next(&self) -> Option<&Terminal>
         ensures { option_copied result ≡ next self.now }
     {
@@ -72,6 +74,7 @@ impl Cursor {
     }
 
     /// Whether a token of this class comes next.
+    #[inline(always)]
     pub fn sees(&self, class: Class) -> bool
         ensures { result ≡ sees class self.now }
     {
@@ -102,6 +105,7 @@ impl Cursor {
     }
 
     /// Takes the next token, where there is one.
+    #[inline(always)]
     fn take(&mut self) -> Option<Terminal>
         ensures taken { MatchOption result ((self.old ≡ []) × (self.new ≡ [])) (λ t. self.old ≡ t ∷ self.new) }
         ensures small { IfSome result IsSmall }
@@ -110,6 +114,7 @@ impl Cursor {
     }
 
     /// Takes the next token, which is to be of this class. Else it stays.
+    #[inline(always)]
     pub fn expect(&mut self, class: Class) -> Result<Terminal, Stop>
         ensures given { Gives (expect class self.old) result self.new }
         ensures small { IfOk result IsSmall }

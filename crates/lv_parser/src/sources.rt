@@ -14,12 +14,43 @@ use crate::tree::{CondTree, CondTrees, Named, RefTree, RefTrees};
 use lv_lexer::Class;
 use lv_values::{Items, NoMemory};
 use std::alloc::Global;
+use std::marker::Model;
 
 /// A table or view after FROM, with its ON condition, where it has one.
 #[derive(Drop)]
 pub(crate) struct Joined {
     pub table: RefTree,
     pub on: Option<CondTree>,
+}
+
+/// What stands after FROM, seen as the list of it all. The first table has no ON condition. Where it stands alone, as
+/// mostly, no list is made.
+#[derive(Drop)]
+pub(crate) struct Sources {
+    first: RefTree,
+    others: Items<Joined>,
+}
+
+impl Model for Sources {
+    ghost use Rattle.std.specs.Prelude.{List, ◌∷◌, None};
+    ghost use Rattle.std.specs.Coded.{codes};
+    ghost use Rattle.lv_parser.specs.declared.sources.Joined.{Joined};
+    ghost use Rattle.lv_parser.specs.contracts.tree.CondTree as condition;
+
+    ghost Value = { List Joined };
+
+    ghost coded = { Prim.hlevel (codes, condition.the_row.coded) };
+
+    ghost view = { λ s. let alone : Joined = record { table = s.first; on = None } in alone ∷ s.others };
+}
+
+impl Sources {
+    /// Puts a table behind the others.
+    fn push(&mut self, next: Joined) -> Result<(), NoMemory>
+        ensures { OnOk result (self.new ≡ self.old ++ next ∷ []) }
+    {
+        self.others.push(next)
+    }
 }
 
 /// Whether another name for a table comes.
@@ -107,8 +138,8 @@ fn more_joined(
     alloc: Global,
     cursor: &mut Cursor,
     within: Within,
-    found: Items<Joined>,
-) -> Result<Items<Joined>, Stop>
+    found: Sources,
+) -> Result<Sources, Stop>
     ensures { Gives (many_more read.is_more (read.joined within) found cursor.old) result cursor.new }
 {
     let mut found = found;
@@ -124,20 +155,15 @@ fn more_joined(
 
 /// FROM and its tables. Cost: linear in the tokens.
 #[tactic(auto, unfolding(crate::specs::Read::from))]
-pub(crate) fn from(
-    alloc: Global,
-    cursor: &mut Cursor,
-    within: Within,
-) -> Result<Items<Joined>, Stop>
+pub(crate) fn from(alloc: Global, cursor: &mut Cursor, within: Within) -> Result<Sources, Stop>
     ensures { Gives (read.from within cursor.old) result cursor.new }
 {
     cursor.expect(Class::From)?;
     let first = table(cursor)?;
-    let mut found = Items::new(alloc);
-    found.push(Joined {
-        table: first,
-        on: None,
-    })?;
+    let found = Sources {
+        first,
+        others: Items::new(alloc),
+    };
     more_joined(alloc, cursor, within, found)
 }
 
@@ -151,29 +177,70 @@ fn push_if(parts: &mut CondTrees, part: Option<CondTree>) -> Result<(), NoMemory
     }
 }
 
-/// The tables, apart from the ON conditions.
-fn split(alloc: Global, joined: Items<Joined>) -> Result<(RefTrees, CondTrees), NoMemory>
-    ensures { IfOk result (λ r. (r.0 ≡ tree.tables_of joined) × (r.1 ≡ tree.parts_of joined None)) }
+/// The list of one table.
+fn only_table(alloc: Global, table: RefTree) -> Result<RefTrees, NoMemory>
+    ensures { IfOk result (λ r. r ≡ table ∷ []) }
 {
-    let mut tables = Items::new(alloc);
+    let mut tables = Vec::with_capacity(alloc, 1)?;
+    tables.push_reserved(table);
+    Ok(Items::from_vec(tables))
+}
+
+/// The tables, apart from the ON conditions.
+fn split(
+    alloc: Global,
+    first: RefTree,
+    others: Items<Joined>,
+) -> Result<(RefTrees, CondTrees), NoMemory>
+    ensures { IfOk result (λ r. (r.0 ≡ first ∷ tree.tables_of others) × (r.1 ≡ tree.parts_of others None)) }
+{
+    let mut tables = only_table(alloc, first)?;
     let mut parts = Items::new(alloc);
-    'each: for item in joined.into_vec() {
+    'each: for item in others.into_vec() {
         tables.push(item.table)?;
         push_if(&mut parts, item.on)?;
     }
     Ok((tables, parts))
 }
 
-/// The tables, and the whole condition: the And of the ON conditions in order and then of WHERE.
-pub(crate) fn tables_and_condition(
+/// The tables, and the whole condition, where more than one table stands.
+fn several(
     alloc: Global,
-    joined: Items<Joined>,
+    first: RefTree,
+    others: Items<Joined>,
     filter: Option<CondTree>,
 ) -> Result<(RefTrees, CondTree), NoMemory>
-    ensures { IfOk result (λ r. (r.0 ≡ tree.tables_of joined) × (r.1 ≡ tree.condition_of joined filter)) }
+    ensures { IfOk result (λ r. (r.0 ≡ first ∷ tree.tables_of others) × (r.1 ≡ tree.condition_of others filter)) }
 {
-    let (tables, parts) = split(alloc, joined)?;
+    let (tables, parts) = split(alloc, first, others)?;
     let mut parts = parts;
     push_if(&mut parts, filter)?;
     Ok((tables, all_of(parts)))
+}
+
+/// The condition of WHERE, where no other stands before it.
+fn filter_alone(filter: Option<CondTree>) -> CondTree
+    ensures { result ≡ tree.condition_of [] filter }
+{
+    match filter {
+        None => CondTree::True,
+        Some(found) => found,
+    }
+}
+
+/// The tables, and the whole condition: the And of the ON conditions in order and then of WHERE. Cost: linear in the
+/// tables.
+pub(crate) fn tables_and_condition(
+    alloc: Global,
+    sources: Sources,
+    filter: Option<CondTree>,
+) -> Result<(RefTrees, CondTree), NoMemory>
+    ensures { IfOk result (λ r. (r.0 ≡ tree.tables_of sources) × (r.1 ≡ tree.condition_of sources filter)) }
+{
+    let Sources { first, others } = sources;
+    if !others.is_empty() {
+        return several(alloc, first, others, filter);
+    }
+    let tables = only_table(alloc, first)?;
+    Ok((tables, filter_alone(filter)))
 }

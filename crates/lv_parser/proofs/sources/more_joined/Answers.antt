@@ -18,7 +18,7 @@ returns-in_err-item c =
 
 pub each-preserved : goal.each-preserved
 each-preserved c =
-    rw c.in_ok-push.ensures.added
+    rw c.in_ok-push.ensures
     (loop_goes_on is_more (joined c.args.within) c.len-end.result c.each.counter c.each.found c.each.cursor _ _ _ c.each-test.true
     (sym c.is_more.ensures ∙ c.if-not-is_more.false) c.in_ok-item.ensures c.each.invariant)
 
