@@ -6,6 +6,7 @@ ghost use Rattle.lv_lexer.specs.Signs.{first_fit, long_signs, short_signs, sign_
 use crate::terminals::Class;
 
 /// The sign of two bytes that these are.
+#[inline(always)]
 fn long_sign(first: u8, second: u8) -> Option<(Class, usize)>
     ensures { result ≡ first_fit long_signs (first ∷ second ∷ []) }
 {
@@ -19,6 +20,7 @@ fn long_sign(first: u8, second: u8) -> Option<(Class, usize)>
 }
 
 /// The sign of one byte that this is.
+#[inline(always)]
 fn short_sign(byte: u8) -> Option<(Class, usize)>
     ensures { result ≡ first_fit short_signs (byte ∷ []) }
 {
@@ -39,6 +41,7 @@ fn short_sign(byte: u8) -> Option<(Class, usize)>
 }
 
 /// The longest sign that begins the bytes, with its length.
+#[inline(always)]
 pub(crate) fn sign_at(bytes: &[u8]) -> Option<(Class, usize)>
     ensures value { result ≡ sign_at bytes.now }
     ensures within { IfSome result (λ found. (0 < found.1) × (found.1 ≤ length bytes.now)) }
