@@ -4,7 +4,7 @@ ghost use Rattle.std.specs.Prelude.{◌≡◌};
 ghost use Rattle.lv_parser.specs.Reading.{Gives};
 ghost use Rattle.lv_parser.specs.Read as read;
 
-use crate::conditions::{Within, filter};
+use crate::conditions::{Within, cond};
 use crate::cursor::Cursor;
 use crate::lists::{Part, separated};
 use crate::names::{literal, name};
@@ -121,14 +121,15 @@ pub(crate) fn update(alloc: Global, cursor: &mut Cursor) -> Result<Stmt, Stop>
 }
 
 /// The condition of UPDATE and DELETE: `True` where there is none.
-#[tactic(auto, unfolding(crate::specs::Read::condition))]
+#[tactic(auto, unfolding(crate::specs::Read::condition, crate::specs::Read::filter))]
 fn condition(alloc: Global, cursor: &mut Cursor) -> Result<CondTree, Stop>
     ensures { Gives (read.condition cursor.old) result cursor.new }
 {
-    match filter(alloc, cursor, Within::Query)? {
-        None => Ok(CondTree::True),
-        Some(found) => Ok(found),
+    if !cursor.sees(Class::Where) {
+        return Ok(CondTree::True);
     }
+    cursor.expect(Class::Where)?;
+    cond(alloc, cursor, Within::Query)
 }
 
 /// DELETE.

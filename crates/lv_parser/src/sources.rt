@@ -204,6 +204,7 @@ fn split(
 }
 
 /// The tables, and the whole condition, where more than one table stands.
+#[inline(never)]
 fn several(
     alloc: Global,
     first: RefTree,
