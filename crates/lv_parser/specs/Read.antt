@@ -87,6 +87,18 @@ conj_of unit = gathered c.And <$> separated k.And unit
 unfoldable pub cond_of : Reader CondTree → Reader CondTree
 cond_of unit = gathered c.Or <$> separated k.Or (conj_of unit)
 
+-- NOT and the unit behind it
+unfoldable pub negation : Reader CondTree → Reader CondTree
+negation unit = expect k.Not >> c.Not <$> unit
+
+-- a condition in parentheses
+unfoldable pub bracketed : Reader CondTree → Reader CondTree
+bracketed unit = do
+  expect k.LeftParen
+  inner ← cond_of unit
+  expect k.RightParen
+  pure inner
+
 unfoldable pub unit : Within → ℕ → Reader CondTree
 unit within zero = comparison within
 unit within (suc depth) =

@@ -220,8 +220,43 @@ fn cond_within(
     Ok(one_of(parts))
 }
 
+/// NOT and the unit behind it.
+#[cycle(condition)]
+#[inline(never)]
+#[tactic(auto, unfolding(crate::specs::Read::negation))]
+fn negation(
+    alloc: Global,
+    cursor: &mut Cursor,
+    within: Within,
+    depth: u32,
+) -> Result<CondTree, Stop>
+    ensures { Gives (read.negation (read.unit within depth) cursor.old) result cursor.new }
+{
+    cursor.expect(Class::Not)?;
+    let inner = unit(alloc, cursor, within, depth)?;
+    Ok(CondTree::Not(Boxed::new(alloc, inner)?))
+}
+
+/// A condition in parentheses.
+#[cycle(condition)]
+#[inline(never)]
+#[tactic(auto, unfolding(crate::specs::Read::bracketed))]
+fn bracketed(
+    alloc: Global,
+    cursor: &mut Cursor,
+    within: Within,
+    depth: u32,
+) -> Result<CondTree, Stop>
+    ensures { Gives (read.bracketed (read.unit within depth) cursor.old) result cursor.new }
+{
+    cursor.expect(Class::LeftParen)?;
+    let inner = cond_within(alloc, cursor, within, depth)?;
+    cursor.expect(Class::RightParen)?;
+    Ok(inner)
+}
+
 /// NOT of a unit, a condition in parentheses, or a comparison, with at most so many levels of them. At level 0 only
-/// a comparison can stand.
+/// a comparison can stand. A comparison, the usual case, is handed on as it is read.
 #[cycle(condition)]
 #[tactic(auto, unfolding(crate::specs::Read::unit))]
 fn unit(alloc: Global, cursor: &mut Cursor, within: Within, depth: u32) -> Result<CondTree, Stop>
@@ -231,14 +266,9 @@ fn unit(alloc: Global, cursor: &mut Cursor, within: Within, depth: u32) -> Resul
         return comparison(cursor, within);
     }
     if cursor.sees(Class::Not) {
-        cursor.expect(Class::Not)?;
-        let inner = unit(alloc, cursor, within, depth - 1)?;
-        Ok(CondTree::Not(Boxed::new(alloc, inner)?))
+        negation(alloc, cursor, within, depth - 1)
     } else if cursor.sees(Class::LeftParen) {
-        cursor.expect(Class::LeftParen)?;
-        let inner = cond_within(alloc, cursor, within, depth - 1)?;
-        cursor.expect(Class::RightParen)?;
-        Ok(inner)
+        bracketed(alloc, cursor, within, depth - 1)
     } else {
         comparison(cursor, within)
     }

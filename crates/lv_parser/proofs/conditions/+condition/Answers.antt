@@ -1,10 +1,10 @@
 use Rattle.std.proofs.Common.{◌≡◌, suc, ◌-◌, ◌∙◌, sym, arith}
 use Rattle.std.proofs.lemmas.Result.{err_from_is_err_and}
 use Rattle.lv_lexer.specs.declared.terminals.Class.TheVariants as k
-use Rattle.lv_parser.specs.Reading.{sees, expect, behind}
+use Rattle.lv_parser.specs.Reading.{sees, behind}
 use Rattle.lv_parser.specs.Read as read
 use Rattle.lv_parser.proofs.Loops.{loop_begins, loop_goes_on, loop_stops, loop_done, loop_full, gives_err}
-use Rattle.lv_parser.proofs.Units.{conj_alone, cond_alone, unit_other, unit_unclosed}
+use Rattle.lv_parser.proofs.Units.{conj_alone, cond_alone, unit_negation, unit_bracketed, unit_other}
 use Rattle.lv_parser.proofs.conditions.+condition.Goals as goal
 use Rattle.lv_parser.proofs.conditions.+condition.Goals.{more_conjs-else-each-test, more_conjs-then-each-test+then-not-sees, more_units-else-each-test, more_units-then-each-test+then-not-sees}
 
@@ -59,14 +59,16 @@ more_conjs-returns t c =
           (sym w.sees.ensures ∙ w.if-not-sees.true) c.each.invariant
     ]
 
-pub unit-returns-in_err-expect-3 : goal.unit-returns-in_err-expect-3
-unit-returns-in_err-expect-3 t c =
-    let p = err_from_is_err_and c.from_residual-in_err-expect-3.result c.from_residual-in_err-expect-3.ensures.1 in
+pub unit-returns-then-sees : goal.unit-returns-then-sees
+unit-returns-then-sees t c =
     let e : c.args.depth ≡ suc (c.args.depth - 1) = omega arith in
-    rw (p.1, p.2)
-    (gives_err (expect k.RightParen c.cond_within.new.cursor) c.in_err-expect-3.field-0.0 c.expect-then-sees-2-2.new.self _ c.in_err-expect-3.ensures.given
-    (λ h. unit_unclosed c.args.within (c.args.depth - 1) c.args.depth c.args.cursor.now _ _ _ _ _ e (sym c.sees.ensures ∙ c.if-sees.false)
-    (sym c.sees-else-sees.ensures ∙ c.if-sees-2.true) c.in_ok-expect-2.ensures.given c.in_ok-inner-2.ensures h))
+    rw (unit_negation c.args.within (c.args.depth - 1) c.args.depth c.args.cursor.now e (sym c.sees.ensures ∙ c.if-sees.true)) c.negation.ensures
+
+pub unit-returns-then-sees-2 : goal.unit-returns-then-sees-2
+unit-returns-then-sees-2 t c =
+    let e : c.args.depth ≡ suc (c.args.depth - 1) = omega arith in
+    rw (unit_bracketed c.args.within (c.args.depth - 1) c.args.depth c.args.cursor.now e (sym c.sees.ensures ∙ c.if-sees.false)
+    (sym c.sees-else-sees.ensures ∙ c.if-sees-2.true)) c.bracketed.ensures
 
 pub unit-returns-else-sees-2 : goal.unit-returns-else-sees-2
 unit-returns-else-sees-2 t c =

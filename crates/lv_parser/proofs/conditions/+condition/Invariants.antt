@@ -5,25 +5,31 @@ use Rattle.lv_parser.specs.Read as read
 use Rattle.lv_parser.proofs.conditions.+condition.Given as goal
 
 abbrev pub decreases-cond_within : goal.decreases-cond_within
-decreases-cond_within l = 7 * l.depth + 6
+decreases-cond_within l = 8 * l.depth + 6
 
 abbrev pub decreases-more_conjs : goal.decreases-more_conjs
-decreases-more_conjs l = 7 * l.depth + 5
+decreases-more_conjs l = 8 * l.depth + 5
 
 abbrev pub decreases-next_conj : goal.decreases-next_conj
-decreases-next_conj l = 7 * l.depth + 4
+decreases-next_conj l = 8 * l.depth + 4
 
 abbrev pub decreases-conj : goal.decreases-conj
-decreases-conj l = 7 * l.depth + 3
+decreases-conj l = 8 * l.depth + 3
 
 abbrev pub decreases-more_units : goal.decreases-more_units
-decreases-more_units l = 7 * l.depth + 2
+decreases-more_units l = 8 * l.depth + 2
 
 abbrev pub decreases-next_unit : goal.decreases-next_unit
-decreases-next_unit l = 7 * l.depth + 1
+decreases-next_unit l = 8 * l.depth + 1
+
+abbrev pub decreases-negation : goal.decreases-negation
+decreases-negation l = 8 * l.depth + 7
+
+abbrev pub decreases-bracketed : goal.decreases-bracketed
+decreases-bracketed l = 8 * l.depth + 7
 
 abbrev pub decreases-unit : goal.decreases-unit
-decreases-unit l = 7 * l.depth
+decreases-unit l = 8 * l.depth
 
 abbrev pub invariant-more_units-each : goal.invariant-more_units-each
 invariant-more_units-each l =
