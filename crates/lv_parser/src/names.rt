@@ -60,18 +60,19 @@ pub(crate) fn col(cursor: &mut Cursor) -> Result<ColName, Stop>
 fn number(cursor: &mut Cursor) -> Result<Literal, Stop>
     ensures { Gives (read.number cursor.old) result cursor.new }
 {
-    let minus = cursor.allow(Class::Minus);
-    let token = cursor.expect(Class::Number)?;
-    match minus {
-        None => Ok(Literal {
-            value: Value::Num(token.number as i128),
-            byte: token.byte,
-        }),
-        Some(minus) => Ok(Literal {
+    if cursor.sees(Class::Minus) {
+        let minus = cursor.expect(Class::Minus)?;
+        let token = cursor.expect(Class::Number)?;
+        return Ok(Literal {
             value: Value::Num(-(token.number as i128)),
             byte: minus.byte,
-        }),
+        });
     }
+    let token = cursor.expect(Class::Number)?;
+    Ok(Literal {
+        value: Value::Num(token.number as i128),
+        byte: token.byte,
+    })
 }
 
 /// A value.
