@@ -1,5 +1,5 @@
 -- What a unit is by its first token, and where a part of a condition stands alone.
-use Rattle.std.proofs.Common.{◌≡◌, ℕ, suc, true, false, List, Ok, Err, refl}
+use Rattle.std.proofs.Common.{◌≡◌, ℕ, suc, true, false, List, Ok, refl}
 use Rattle.lv_lexer.specs.declared.terminals.Class.TheVariants.{And, Or, Not, LeftParen}
 use Rattle.lv_lexer.specs.declared.terminals.Terminal.{Terminal}
 use Rattle.lv_parser.specs.declared.conditions.Within.{Within}
