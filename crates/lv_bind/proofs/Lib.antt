@@ -1,4 +1,5 @@
 pub mod FaultLemmas
+pub mod FaultlessLemmas
 pub mod NarrowLemmas
 pub mod BoundChanges
 pub mod BoundQueries

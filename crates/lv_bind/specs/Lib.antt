@@ -1,6 +1,7 @@
 pub mod Ambiguous
 pub mod Assigned
 pub mod Binding
+pub mod Faultless
 pub mod Faults
 pub mod InUse
 pub mod Kinds
@@ -10,6 +11,7 @@ pub mod Profile
 pub mod Ranges
 pub mod Rights
 pub mod Seen
+pub mod Rels
 pub mod Sources
 pub mod Unknown
 pub mod Spoken

@@ -27,7 +27,7 @@ fn is_named<T: Entry>(entries: &[T], name: &Text) -> bool
 }
 
 /// The first name that stands before in the list.
-fn repeated<T: Entry>(entries: &[T]) -> Option<&Text>
+pub(crate) fn repeated<T: Entry>(entries: &[T]) -> Option<&Text>
     ensures { option_copied result ≡ first (repeated (map T.name_of entries.now)) }
 {
     for (at, entry) in entries.iter().enumerate() {

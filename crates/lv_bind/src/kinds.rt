@@ -12,7 +12,7 @@ use lv_parser::{Assign, AssignValue, ColName, ItemTree, Literal, OperandTree, St
 use lv_schema::{Column, Kind, Rel, Schema};
 use lv_values::Value;
 
-fn is_text(kind: Kind) -> bool
+pub(crate) fn is_text(kind: Kind) -> bool
     ensures { result ≡ is_text kind }
 {
     match kind {
@@ -21,7 +21,7 @@ fn is_text(kind: Kind) -> bool
     }
 }
 
-fn value_is_text(value: &Value) -> bool
+pub(crate) fn value_is_text(value: &Value) -> bool
     ensures { result ≡ value_is_text value.now }
 {
     match value {
@@ -132,7 +132,7 @@ fn tuple_kinds(columns: &[Column], tuple: &Tuple) -> Option<u32>
 }
 
 /// The first tuple of another length, or value that its column does not hold.
-fn inserted_kinds(columns: &[Column], tuples: &[Tuple]) -> Option<u32>
+pub(crate) fn inserted_kinds(columns: &[Column], tuples: &[Tuple]) -> Option<u32>
     ensures { result ≡ first (flat_map (tuple_kinds columns.now) tuples.now) }
 {
     for tuple in tuples {

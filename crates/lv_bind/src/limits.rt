@@ -45,7 +45,7 @@ fn is_longer(text: &Text, most: usize) -> bool
 }
 
 /// Whether one of the names is longer.
-fn has_longer<T: Entry>(entries: &[T], most: usize) -> bool
+pub(crate) fn has_longer<T: Entry>(entries: &[T], most: usize) -> bool
     ensures { result ≡ list_any (nat_lt most) (lengths (map T.name_of entries.now)) }
 {
     for entry in entries {
@@ -56,7 +56,7 @@ fn has_longer<T: Entry>(entries: &[T], most: usize) -> bool
     false
 }
 
-fn is_long_value(value: &Value) -> bool
+pub(crate) fn is_long_value(value: &Value) -> bool
     ensures { result ≡ list_any (nat_lt 256) (lengths (value_texts value.now)) }
 {
     match value {
@@ -76,7 +76,7 @@ fn has_long_value(values: &[Literal]) -> bool
     false
 }
 
-fn has_long_tuple(tuples: &[Tuple]) -> bool
+pub(crate) fn has_long_tuple(tuples: &[Tuple]) -> bool
     ensures { result ≡ list_any (nat_lt 256) (lengths (flat_map tuple_texts tuples.now)) }
 {
     for tuple in tuples {
@@ -184,7 +184,7 @@ fn view_limit(
 }
 
 /// Whether a query lists more than 64 columns.
-fn is_long_list(scope: &Scope<'_>, list: &Option<ColNames>) -> bool
+pub(crate) fn is_long_list(scope: &Scope<'_>, list: &Option<ColNames>) -> bool
     ensures { result ≡ nat_lt 64 (list_length (aliases scope.now) list.now) }
 {
     match list {
