@@ -2,6 +2,7 @@
 ghost use Rattle.std.specs.Prelude.{◌≡◌, ◌++◌, ◌∷◌, [], map, position, slice_index_or, OnOk, IfOk};
 ghost use Rattle.std.specs.Str.{bytes_eq};
 ghost use Rattle.std.specs.Option.{option_copied};
+ghost use Rattle.lv_bind.specs.Rels.{rels_in, rels_of};
 ghost use Rattle.lv_bind.specs.Sources.{AreNarrow, no_column, sources_of, source_of, alias_of, columns_of, target_of, places, place_of, fit_of, place_in, goes_by, kind_at, column_named};
 ghost use Rattle.lv_bind.specs.Seen.{alias_seen, aliases, column_seen};
 ghost use Rattle.lv_schema.specs.declared.table.Column.{Column};
@@ -63,6 +64,7 @@ fn push_source<'a>(
 ) -> Result<(), NoMemory>
     ensures added { OnOk result (let seen = map (alias_seen schema.now.tables schema.now.views) in seen out.new ≡ seen out.old ++ record { name = alias.now; columns = columns_of schema.now.tables schema.now.views rel } ∷ []) }
     ensures narrow { OnOk result (let seen = map (alias_seen schema.now.tables schema.now.views) in AreNarrow (seen out.old) → AreNarrow (seen out.new)) }
+    ensures rels { OnOk result (map (λ s. s.rel) out.new ≡ map (λ s. s.rel) out.old ++ rel ∷ []) }
 {
     let _tables = schema.tables();
     out.push(Source { alias, rel })
@@ -76,6 +78,7 @@ fn push_refs<'a>(
 ) -> Result<(), NoMemory>
     ensures added { OnOk result (let seen = map (alias_seen schema.now.tables schema.now.views) in seen out.new ≡ seen out.old ++ map (source_of schema.now.tables schema.now.views) refs.now) }
     ensures narrow { OnOk result (let seen = map (alias_seen schema.now.tables schema.now.views) in AreNarrow (seen out.old) → AreNarrow (seen out.new)) }
+    ensures rels { OnOk result (map (λ s. s.rel) out.new ≡ map (λ s. s.rel) out.old ++ rels_in schema.now.tables schema.now.views refs.now) }
 {
     for table in refs {
         push_source(
@@ -99,6 +102,7 @@ pub(crate) fn sources<'a>(
     requires { target ≡ target_of schema.now.tables schema.now.views stmt.now }
     ensures are { IfOk result (λ found. map (alias_seen schema.now.tables schema.now.views) found ≡ sources_of schema.now.tables schema.now.views stmt.now) }
     ensures narrow { IfOk result (λ found. AreNarrow (map (alias_seen schema.now.tables schema.now.views) found)) }
+    ensures rels { IfOk result (λ found. map (λ s. s.rel) found ≡ rels_of schema.now.tables schema.now.views stmt.now) }
 {
     let mut out = Items::new(alloc);
     match stmt {

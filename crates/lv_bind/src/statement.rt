@@ -1,7 +1,8 @@
 //! Binding of a statement.
-ghost use Rattle.std.specs.Prelude.{◌≡◌, ◌∷◌, IfOk, None, Ok, Err};
+ghost use Rattle.std.specs.Prelude.{◌≡◌, ◌∷◌, map, IfOk, None, Ok, Err};
 ghost use Rattle.lv_bind.specs.Binding.{IsNarrow, IsSmallTable, IsSmallView, bound_among};
 ghost use Rattle.lv_bind.specs.Faults.{lowest, reading_faults, profile_fault, later_faults, bound_of};
+ghost use Rattle.lv_bind.specs.Rels.{rels_of};
 ghost use Rattle.lv_bind.specs.Seen.{aliases, tables_of, views_of};
 ghost use Rattle.lv_bind.specs.Spoken.{IsSpoken};
 ghost use Rattle.lv_schema.specs.Bound.{IsBound};
@@ -12,6 +13,7 @@ use crate::binding::{
     bound_cond, bound_list, bound_order, bound_rels, bound_rows, bound_sets, table_number,
 };
 use crate::creating::{bound_table, bound_view};
+use crate::faultless::is_faultless;
 use crate::pieces::{columns_in, comparisons_in};
 use crate::profile::profile;
 use crate::refusals::{later_fault, reading_fault};
@@ -105,12 +107,17 @@ fn bound_among(alloc: Global, scope: &Scope<'_>, stmt: &Stmt) -> Result<Bound, N
     }
 }
 
-/// The lowest of the faults 2 to 6 of a statement with these aliases.
+/// The lowest of the faults 2 to 6 of a statement with these aliases. They are searched only where one look does not show
+/// that there is none.
 fn early_fault(alloc: Global, scope: &Scope<'_>, stmt: &Stmt) -> Result<Option<Fault>, NoMemory>
     requires sources { aliases scope.now ≡ sources_of (tables_of scope.now) (views_of scope.now) stmt.now }
     requires target { scope.now.target ≡ target_of (tables_of scope.now) (views_of scope.now) stmt.now }
+    requires rels { map (λ s. s.rel) scope.now.sources.now ≡ rels_of (tables_of scope.now) (views_of scope.now) stmt.now }
     ensures { IfOk result (λ found. found ≡ lowest (reading_faults (tables_of scope.now) (views_of scope.now) stmt.now)) }
 {
+    if is_faultless(scope, stmt) {
+        return Ok(None);
+    }
     let comparisons = comparisons_in(alloc, stmt)?;
     let columns = columns_in(alloc, stmt, comparisons.as_slice())?;
     reading_fault(
