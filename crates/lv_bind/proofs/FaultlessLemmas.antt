@@ -1,12 +1,11 @@
 -- A statement whose parts show no fault has none of the faults 2 to 6.
-use Rattle.std.proofs.Common.{◌≡◌, ◌≤◌, ◌++◌, ◌&&◌, ◌||◌, ℕ, suc, Bool, true, false, not, cond, List, [], ◌∷◌, map, length, Option, Some, None, refl, sym, ap, ap₂, subst, ◌∙◌, arith}
+use Rattle.std.proofs.Common.{◌≡◌, ◌≤◌, ◌++◌, ◌&&◌, ◌||◌, ℕ, suc, Bool, true, false, not, cond, List, [], ◌∷◌, map, length, Option, Some, None, refl, sym, ap, subst, ◌∙◌}
 use Rattle.std.specs.Prelude.{is_some, nat_lt, unwrap_or}
-use Rattle.std.specs.List.{AllByRecursion, cons_option, flat_map, list_all, list_any}
+use Rattle.std.specs.List.{cons_option, flat_map, list_all, list_any}
 use Rattle.std.specs.Option.{option_map}
 use Rattle.std.specs.Str.{bytes_eq}
 use Rattle.std.proofs.lemmas.Bool.{and_from, and_parts, not-true, or_from, or_parts, le-ltb}
 use Rattle.std.proofs.lemmas.List.Folds.{list_all-append, list_all-map}
-use Rattle.lv_values.specs.declared.value.Value.{Value}
 use Rattle.lv_parser.specs.declared.tree.Assign.{Assign}
 use Rattle.lv_parser.specs.declared.tree.AssignValue.{AssignValue}
 use Rattle.lv_parser.specs.declared.tree.AssignValue.TheVariants as value
@@ -28,18 +27,17 @@ use Rattle.lv_schema.specs.declared.table.TableDef.{TableDef}
 use Rattle.lv_schema.specs.declared.view.ViewDef.{ViewDef}
 use Rattle.lv_schema.specs.Catalog.{rel_named}
 use Rattle.lv_bind.specs.declared.limits.Measure.{Measure}
-use Rattle.lv_bind.specs.declared.sources.Fit.{Fit}
 use Rattle.lv_bind.specs.declared.sources.Fit.TheVariants.{One}
 use Rattle.lv_bind.specs.declared.sources.Place.{Place}
 use Rattle.lv_bind.specs.Ambiguous.{ambiguous, ambiguous_columns, is_several}
-use Rattle.lv_bind.specs.Faultless.{is_one, is_known, is_short, side_is_sound, sides_are_sound, IsSoundCond, value_is_sound, assign_is_sound, AreSoundSets, AreSoundTuples, AreSoundRefs, IsSoundList, IsSoundOrder}
+use Rattle.lv_bind.specs.Faultless.{is_one, is_known, side_is_sound, sides_are_sound, IsSoundCond, value_is_sound, assign_is_sound, AreSoundSets, AreSoundTuples, AreSoundRefs, IsSoundList, IsSoundOrder}
 use Rattle.lv_bind.specs.Faults.{lowest, reading_faults}
 use Rattle.lv_bind.specs.InUse.{in_use}
 use Rattle.lv_bind.specs.Kinds.{assign_byte, assign_fits, assign_kinds, both_or_none, compared_kinds, insert_columns, kind_of, kinds, side_byte, side_is_text}
 use Rattle.lv_bind.specs.Limits.{alias_names, assign_texts, compared_texts, lengths, limits, list_length, measured, passed_limits, side_texts, tuple_texts, value_texts}
 use Rattle.lv_bind.specs.Pieces.{Sides, assign_columns, compared_columns, listed_columns, side_columns, sides_of, source_columns, unqualified}
 use Rattle.lv_bind.specs.Rels.{rels_of}
-use Rattle.lv_bind.specs.Sources.{Alias, column_named, first, fit_of, goes_by, place_at, place_in, place_of, places, places_from, shown_unless, source_of, sources_of, target_of}
+use Rattle.lv_bind.specs.Sources.{Alias, column_named, first, fit_of, place_at, place_of, places, places_from, shown_unless, source_of, sources_of, target_of}
 use Rattle.lv_bind.specs.Unknown.{is_nil, is_table, unknown, unknown_columns, unknown_in, unknown_qualifier, unknown_refs}
 
 -- ---- lists

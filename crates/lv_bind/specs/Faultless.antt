@@ -1,6 +1,6 @@
 -- Parts of a statement that show at one look that none of the faults 2 to 6 is in them. They need not hold where there is
 -- no fault.
-use Rattle.std.specs.Prelude.{◌≡◌, ◌+◌, ◌≤◌, ℕ, Bool, true, false, not, ◌&&◌, is_some, nat_lt, List, map, length, Option, None}
+use Rattle.std.specs.Prelude.{◌≡◌, ◌+◌, ◌≤◌, ℕ, Bool, true, false, not, ◌&&◌, is_some, nat_lt, List, length, Option, None}
 use Rattle.std.specs.List.{flat_map, list_all, list_any}
 use Rattle.lv_values.specs.declared.value.Value.{Value}
 use Rattle.lv_parser.specs.declared.tree.Assign.{Assign}
