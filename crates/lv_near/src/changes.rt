@@ -1,5 +1,5 @@
 //! What changes of the tables of a view between two commits.
-ghost use Rattle.std.specs.Prelude.{◌≡◌, ◌<◌, ◌≤◌, ℕ, true, Some, None, length, map, nat_lt, IfOk};
+ghost use Rattle.std.specs.Prelude.{◌≡◌, ◌<◌, ◌≤◌, ℕ, true, Some, None, length, map, nat_lt, slice_index_or, take, IfOk, IfSome};
 ghost use Rattle.std.specs.List.{list_all, AllByRecursion};
 ghost use Rattle.lv_near.specs.Small.{StaysSame, change_in};
 ghost use Rattle.lv_reach.specs.Within.{OnlyChanges};
@@ -7,7 +7,7 @@ ghost use Rattle.lv_reach.specs.Within.{OnlyChanges};
 use crate::source::TablesBetween;
 use lv_condense::condense;
 use lv_schema::{Net, Part, Parts};
-use lv_values::{NoMemory, Rows};
+use lv_values::{Copying, NoMemory, Rows};
 use std::alloc::Global;
 
 /// The net change of a table, without its rows. Cost: the condensing of the entries between the commits.
@@ -24,14 +24,49 @@ fn change_of(alloc: Global, at: &TablesBetween<'_>, table: u32) -> Result<Part, 
     })
 }
 
-/// The net change of each table, without its rows.
+/// An earlier alias of the same table as an alias, if there is one. Cost: a test of each alias before it.
+fn same_before(tables: &[u32], alias: usize) -> Option<usize>
+    requires { alias < length tables.now }
+    ensures within { IfSome result (λ i. i < alias) }
+    ensures same { IfSome result (λ i. slice_index_or tables.now i 0 ≡ slice_index_or tables.now alias 0) }
+{
+    for earlier in 0..alias {
+        if tables[earlier] == tables[alias] {
+            return Some(earlier);
+        }
+    }
+    None
+}
+
+/// The net change of the table of an alias, without its rows, behind those of the aliases before it. Cost: a copy of an
+/// earlier one of the same table, or else the condensing of the entries between the commits.
+fn change_behind(
+    alloc: Global,
+    at: &TablesBetween<'_>,
+    changes: &[Part],
+    alias: usize,
+) -> Result<Part, NoMemory>
+    requires tables { list_all (λ t. nat_lt t (length at.now.base.now.tables)) at.now.tables.now ≡ true }
+    requires alias { alias < length at.now.tables.now }
+    requires changes { changes.now ≡ map (change_in at.now.base.now at.now.lo at.now.hi) (take alias at.now.tables.now) }
+    ensures { IfOk result (λ change. change ≡ change_in at.now.base.now at.now.lo at.now.hi (slice_index_or at.now.tables.now alias 0)) }
+{
+    match same_before(at.tables, alias) {
+        Some(earlier) => changes[earlier].copy(alloc),
+        None => change_of(alloc, at, at.tables[alias]),
+    }
+}
+
+/// The net change of each table, without its rows. Cost: the condensing of the entries between the commits, once for each
+/// table, and a copy of the change for each alias more.
 pub(crate) fn changes_between(alloc: Global, at: &TablesBetween<'_>) -> Result<Parts, NoMemory>
     requires { list_all (λ t. nat_lt t (length at.now.base.now.tables)) at.now.tables.now ≡ true }
     ensures { IfOk result (λ changes. changes ≡ map (change_in at.now.base.now at.now.lo at.now.hi) at.now.tables.now) }
 {
     let mut changes = Parts::new(alloc);
-    for table in at.tables {
-        changes.push(change_of(alloc, at, *table)?)?;
+    for alias in 0..at.tables.len() {
+        let change = change_behind(alloc, at, changes.as_slice(), alias)?;
+        changes.push(change)?;
     }
     Ok(changes)
 }
