@@ -1,134 +1,143 @@
-use Rattle.std.proofs.Common.{◌≡◌, ◌-◌, suc, false, List, set, sym, ap, subst, ◌∙◌, arith}
-use Rattle.lv_values.specs.declared.value.Value.{Value}
+use Rattle.std.proofs.Common.{◌≡◌, ◌-◌, suc, sym, ap, subst, ◌∙◌, arith}
 use Rattle.lv_values.specs.Order.{row_eq}
-use Rattle.lv_schema.specs.declared.signed.SignedRow.{SignedRow}
 use Rattle.lv_shelf.specs.Cuts.{IsCut}
-use Rattle.lv_shelf.specs.Shelves.{ChangesOnly}
-use Rattle.lv_shelf.proofs.Cutting.{cut_long, got}
-use Rattle.lv_viewrows.specs.Kept.{version_from}
-use Rattle.lv_viewrows.specs.Standing.{comes_before, ended, has_no_end, is_current, joined, not_ended_before}
-use Rattle.lv_viewrows.proofs.Ending.{both, counted, current_in_front, ended_current, ended_has_end, ends_only, none_in_front, other_in_front}
-use Rattle.lv_viewrows.proofs.NotEnded.{before_after, before_next}
-use Rattle.lv_viewrows.proofs.changing.end_current.Goals as goal
+use Rattle.lv_shelf.proofs.Cutting.{cut_long}
+use Rattle.lv_viewrows.specs.Standing.{comes_before, has_no_end, not_ended_before}
+use Rattle.lv_viewrows.proofs.Ending.{both, counted}
+use Rattle.lv_viewrows.proofs.NotEnded.{before_next}
+use Rattle.lv_viewrows.proofs.Replacing.{cut_followed, cut_left, follows, goes, place_followed, place_left}
+use Rattle.lv_viewrows.proofs.changing.change_current.Goals as goal
 
-pub get-version-requires : goal.get-version-requires
-get-version-requires c =
+pub get-requires : goal.get-requires
+get-requires c =
     let long = cut_long (comes_before c.args.change.row c.args.number) c.args.front.all c.args.versions.now.list c.requires.cut in
-    omega (arith, long, c.if-at-eq0.false)
-
-pub returns-then-at-eq0-clause-joined : goal.returns-then-at-eq0-clause-joined
-returns-then-at-eq0-clause-joined c =
-    let s = c.args.change in
-    let none = none_in_front c.args.number s c.args.versions.now.list c.requires.order c.requires.meets c.args.front.all c.requires.cut (version_from c.args.number s) c.if-at-eq0.true in
-    ap (λ groups. joined groups s) (sym none.0)
-
-pub returns-then-at-eq0-clause-ended : goal.returns-then-at-eq0-clause-ended
-returns-then-at-eq0-clause-ended c =
-    let s = c.args.change in
-    let none = none_in_front c.args.number s c.args.versions.now.list c.requires.order c.requires.meets c.args.front.all c.requires.cut (version_from c.args.number s) c.if-at-eq0.true in
-    sym none.1
-
-pub returns-then-not-is_current-clause-joined : goal.returns-then-not-is_current-clause-joined
-returns-then-not-is_current-clause-joined c =
-    let s = c.args.change in
-    let at = c.args.front.all in
-    let is : suc (at - 1) ≡ at = let h = c.if-at-eq0.false in omega arith in
-    let other = other_in_front c.args.number s c.args.versions.now.list c.requires.order c.requires.meets at c.requires.cut (at - 1) c.get-version.result.now is c.get-version.ensures (sym c.is_current.ensures ∙ c.if-not-is_current.true) in
-    ap (λ groups. joined groups s) (sym other.0)
-
-pub returns-then-not-is_current-clause-ended : goal.returns-then-not-is_current-clause-ended
-returns-then-not-is_current-clause-ended c =
-    let at = c.args.front.all in
-    let is : suc (at - 1) ≡ at = let h = c.if-at-eq0.false in omega arith in
-    let other = other_in_front c.args.number c.args.change c.args.versions.now.list c.requires.order c.requires.meets at c.requires.cut (at - 1) c.get-version.result.now is c.get-version.ensures (sym c.is_current.ensures ∙ c.if-not-is_current.true) in
-    sym other.1
+    omega (arith, long, c.requires.some)
 
 pub with_group-group-requires : goal.with_group-group-requires
 with_group-group-requires c =
-    counted c.args.number c.args.change c.args.versions.now.list c.requires.meets (c.args.front.all - 1) c.get-version.result.now c.get-version.ensures (sym c.is_current.ensures ∙ c.if-not-is_current.false)
-
-pub returns-clause-joined : goal.returns-clause-joined
-returns-clause-joined c =
-    let s = c.args.change in
-    let at = c.args.front.all in
-    let is : suc (at - 1) ≡ at = let h = c.if-at-eq0.false in omega arith in
-    let found = current_in_front c.args.number s c.args.versions.now.list c.requires.order c.requires.meets at c.requires.cut (at - 1) c.get-version.result.now is c.get-version.ensures (sym c.is_current.ensures ∙ c.if-not-is_current.false) in
-    c.with_group-group.ensures ∙ ap (λ groups. joined groups s) (sym found.0)
+    let item = c.get.result.now in
+    counted c.args.number c.args.change c.args.versions.now.list c.requires.meets (c.args.front.all - 1) item c.get.ensures (c.requires.current item c.get.ensures)
 
 pub overflow_sub-not_ended : goal.overflow_sub-not_ended
 overflow_sub-not_ended c =
+    let number = c.args.number in
+    let s = c.args.change in
     let vs = c.args.versions.now.list in
-    let at = c.args.front.all in
-    let item = c.get-version.result.now in
-    let is : suc (at - 1) ≡ at = let h = c.if-at-eq0.false in omega arith in
-    let lives = (both (has_no_end item) (row_eq c.args.change.row item.group.row) (sym c.is_current.ensures ∙ c.if-not-is_current.false)).0 in
-    let here = c.requires.place ∙ ap (λ n. not_ended_before n vs) (sym is) ∙ before_next has_no_end (at - 1) vs item c.get-version.ensures lives in
-    omega (arith, here)
+    let n = c.args.front.all in
+    let is : suc (n - 1) ≡ n = let h = c.requires.some in omega arith in
+    let item = c.get.result.now in
+    let get = c.get.ensures in
+    let here = c.requires.current item get in
+    let lives = (both (has_no_end item) (row_eq s.row item.group.row) here).0 in
+    let more = c.requires.place ∙ ap (λ k. not_ended_before k vs) (sym is) ∙ before_next has_no_end (n - 1) vs item get lives in
+    omega (arith, more)
 
 pub end-requires-clause-at : goal.end-requires-clause-at
 end-requires-clause-at c =
     let long = cut_long (comes_before c.args.change.row c.args.number) c.args.front.all c.args.versions.now.list c.requires.cut in
-    omega (arith, long, c.if-at-eq0.false)
-
-pub end-requires-clause-place : goal.end-requires-clause-place
-end-requires-clause-place c =
-    let vs = c.args.versions.now.list in
-    let at = c.args.front.all in
-    let item = c.get-version.result.now in
-    let is : suc (at - 1) ≡ at = let h = c.if-at-eq0.false in omega arith in
-    let lives = (both (has_no_end item) (row_eq c.args.change.row item.group.row) (sym c.is_current.ensures ∙ c.if-not-is_current.false)).0 in
-    let more = before_next has_no_end (at - 1) vs item c.get-version.ensures lives in
-    let here = c.requires.place ∙ ap (λ n. not_ended_before n vs) (sym is) ∙ more in
-    omega (arith, here)
+    omega (arith, long, c.requires.some)
 
 pub end-requires-clause-current : goal.end-requires-clause-current
 end-requires-clause-current c = λ v e.
-    let vs = c.args.versions.now.list in
-    let at = c.args.front.all in
-    let item = c.get-version.result.now in
-    let same : item ≡ v = sym (got vs (at - 1) item item c.get-version.ensures) ∙ got vs (at - 1) v item e in
-    let row = ap (λ (g : SignedRow). g.row) c.with_group-group.ensures in
-    ap (λ (r : List Value). is_current r v) row ∙ ap (is_current c.args.change.row) (sym same) ∙ sym c.is_current.ensures ∙ c.if-not-is_current.false
+    (both (has_no_end v) (row_eq c.args.change.row v.group.row) (c.requires.current v e)).0
 
-pub end-requires-clause-only : goal.end-requires-clause-only
-end-requires-clause-only c =
-    let vs = c.args.versions.now.list in
-    let at = c.args.front.all in
-    let s = c.args.change in
-    let is : suc (at - 1) ≡ at = let h = c.if-at-eq0.false in omega arith in
-    let row = ap (λ (g : SignedRow). g.row) c.with_group-group.ensures in
-    subst (λ (r : List Value). ChangesOnly (ended c.args.number r) (at - 1) vs) (sym row)
-    (ends_only c.args.number s (at - 1) vs c.requires.order c.requires.meets (subst (λ n. IsCut (comes_before s.row c.args.number) n vs) (sym is) c.requires.cut))
+pub replace-requires-clause-at : goal.replace-requires-clause-at
+replace-requires-clause-at c =
+    let long = cut_long (comes_before c.args.change.row c.args.number) c.args.front.all c.args.versions.now.list c.requires.cut in
+    omega (arith, long, c.requires.some)
 
-pub returns-clause-ended : goal.returns-clause-ended
-returns-clause-ended c =
-    let vs = c.args.versions.now.list in
-    let at = c.args.front.all in
+pub replace-requires-clause-current : goal.replace-requires-clause-current
+replace-requires-clause-current c = λ v e.
+    (both (has_no_end v) (row_eq c.args.change.row v.group.row) (c.requires.current v e)).0
+
+pub end-requires-clause-place : goal.end-requires-clause-place
+end-requires-clause-place c =
+    let number = c.args.number in
     let s = c.args.change in
-    let item = c.get-version.result.now in
-    let is : suc (at - 1) ≡ at = let h = c.if-at-eq0.false in omega arith in
-    let current = sym c.is_current.ensures ∙ c.if-not-is_current.false in
-    let found = current_in_front c.args.number s vs c.requires.order c.requires.meets at c.requires.cut (at - 1) item is c.get-version.ensures current in
-    let row = ap (λ (g : SignedRow). g.row) c.with_group-group.ensures in
-    c.end.ensures.ended item c.get-version.ensures
-    ∙ ap (λ (r : List Value). set vs (at - 1) (ended c.args.number r item)) row
-    ∙ ap (set vs (at - 1)) (ended_current c.args.number s.row item current)
-    ∙ sym found.1
+    let vs = c.args.versions.now.list in
+    let n = c.args.front.all in
+    let is : suc (n - 1) ≡ n = let h = c.requires.some in omega arith in
+    let item = c.get.result.now in
+    let get = c.get.ensures in
+    let here = c.requires.current item get in
+    let lives = (both (has_no_end item) (row_eq s.row item.group.row) here).0 in
+    let more = c.requires.place ∙ ap (λ k. not_ended_before k vs) (sym is) ∙ before_next has_no_end (n - 1) vs item get lives in
+    omega (arith, more)
+
+pub returns-then-not-has_tuples-clause-changed : goal.returns-then-not-has_tuples-clause-changed
+returns-then-not-has_tuples-clause-changed c =
+    let number = c.args.number in
+    let s = c.args.change in
+    let vs = c.args.versions.now.list in
+    let n = c.args.front.all in
+    let is : suc (n - 1) ≡ n = let h = c.requires.some in omega arith in
+    let item = c.get.result.now in
+    let get = c.get.ensures in
+    let here = c.requires.current item get in
+    c.end.ensures.ended item get ∙ goes number s vs c.requires.order c.requires.meets n c.requires.cut (n - 1) item is get here c.with_group-group.result c.with_group-group.ensures (sym c.has_tuples.ensures ∙ c.if-not-has_tuples.true)
+
+pub returns-then-not-has_tuples-clause-cut : goal.returns-then-not-has_tuples-clause-cut
+returns-then-not-has_tuples-clause-cut c =
+    let number = c.args.number in
+    let s = c.args.change in
+    let vs = c.args.versions.now.list in
+    let n = c.args.front.all in
+    let is : suc (n - 1) ≡ n = let h = c.requires.some in omega arith in
+    let item = c.get.result.now in
+    let get = c.get.ensures in
+    let here = c.requires.current item get in
+    subst (IsCut (comes_before s.row number) n) (sym (c.end.ensures.ended item get)) (cut_left number s vs c.requires.order c.requires.meets n c.requires.cut (n - 1) item is get here c.with_group-group.result c.with_group-group.ensures)
+
+pub returns-then-not-has_tuples-clause-place : goal.returns-then-not-has_tuples-clause-place
+returns-then-not-has_tuples-clause-place c =
+    let number = c.args.number in
+    let s = c.args.change in
+    let vs = c.args.versions.now.list in
+    let n = c.args.front.all in
+    let is : suc (n - 1) ≡ n = let h = c.requires.some in omega arith in
+    let item = c.get.result.now in
+    let get = c.get.ensures in
+    let here = c.requires.current item get in
+    let lives = (both (has_no_end item) (row_eq s.row item.group.row) here).0 in
+    let more = c.requires.place ∙ ap (λ k. not_ended_before k vs) (sym is) ∙ before_next has_no_end (n - 1) vs item get lives in
+    let left = ap (not_ended_before n) (c.end.ensures.ended item get) ∙ place_left number s vs c.requires.order c.requires.meets n c.requires.cut (n - 1) item is get here c.with_group-group.result c.with_group-group.ensures in
+    omega (arith, more, left)
+
+pub returns-clause-changed : goal.returns-clause-changed
+returns-clause-changed c =
+    let number = c.args.number in
+    let s = c.args.change in
+    let vs = c.args.versions.now.list in
+    let n = c.args.front.all in
+    let is : suc (n - 1) ≡ n = let h = c.requires.some in omega arith in
+    let item = c.get.result.now in
+    let get = c.get.ensures in
+    let here = c.requires.current item get in
+    c.replace.ensures.replaced item get ∙ follows number s vs c.requires.order c.requires.meets n c.requires.cut (n - 1) item is get here c.with_group-group.result c.with_group-group.ensures (sym c.has_tuples.ensures ∙ c.if-not-has_tuples.false)
+
+pub returns-clause-cut : goal.returns-clause-cut
+returns-clause-cut c =
+    let number = c.args.number in
+    let s = c.args.change in
+    let vs = c.args.versions.now.list in
+    let n = c.args.front.all in
+    let is : suc (n - 1) ≡ n = let h = c.requires.some in omega arith in
+    let item = c.get.result.now in
+    let get = c.get.ensures in
+    let here = c.requires.current item get in
+    subst (IsCut (comes_before s.row number) n) (sym (c.replace.ensures.replaced item get)) (cut_followed number s vs c.requires.order c.requires.meets n c.requires.cut (n - 1) item is get here c.with_group-group.result c.with_group-group.ensures)
 
 pub returns-clause-place : goal.returns-clause-place
 returns-clause-place c =
-    let vs = c.args.versions.now.list in
-    let at = c.args.front.all in
+    let number = c.args.number in
     let s = c.args.change in
-    let item = c.get-version.result.now in
-    let is : suc (at - 1) ≡ at = let h = c.if-at-eq0.false in omega arith in
-    let current = sym c.is_current.ensures ∙ c.if-not-is_current.false in
-    let lives = (both (has_no_end item) (row_eq s.row item.group.row) current).0 in
-    let row = ap (λ (g : SignedRow). g.row) c.with_group-group.ensures in
-    let y = ended c.args.number c.with_group-group.result.row item in
-    let goes : has_no_end y ≡ false = ap (λ (r : List Value). has_no_end (ended c.args.number r item)) row ∙ ended_has_end c.args.number s.row item current in
-    let less = before_after has_no_end (at - 1) vs item y c.get-version.ensures goes in
-    let more = before_next has_no_end (at - 1) vs item c.get-version.ensures lives in
-    let here = c.requires.place ∙ ap (λ n. not_ended_before n vs) (sym is) ∙ more in
-    let now = ap (λ l. not_ended_before at l) (c.end.ensures.ended item c.get-version.ensures) ∙ ap (λ n. not_ended_before n (set vs (at - 1) y)) (sym is) ∙ less in
-    omega (arith, here, now)
+    let vs = c.args.versions.now.list in
+    let n = c.args.front.all in
+    let is : suc (n - 1) ≡ n = let h = c.requires.some in omega arith in
+    let item = c.get.result.now in
+    let get = c.get.ensures in
+    let here = c.requires.current item get in
+    let lives = (both (has_no_end item) (row_eq s.row item.group.row) here).0 in
+    let more = c.requires.place ∙ ap (λ k. not_ended_before k vs) (sym is) ∙ before_next has_no_end (n - 1) vs item get lives in
+    let left = ap (not_ended_before n) (c.replace.ensures.replaced item get) ∙ place_followed number s vs c.requires.order c.requires.meets n c.requires.cut (n - 1) item is get here c.with_group-group.result c.with_group-group.ensures in
+    omega (arith, more, left)
