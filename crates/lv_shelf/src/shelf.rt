@@ -6,7 +6,7 @@ ghost use Rattle.lv_shelf.specs.Shelves.{ChangesOnly, LacksItem, other_at};
 
 use crate::order::{keep_each, keep_taken, make_room};
 use crate::ranked_places::RankedPlaces;
-use crate::slots::{clear_failing, cut_at, cut_near, edit_slot, item_at, set_slot};
+use crate::slots::{clear_failing, cut_at, cut_near, edit_slot, exchange_slot, item_at, set_slot};
 use lv_values::{Edit, NoMemory, Test};
 use std::alloc::Global;
 use std::marker::Model;
@@ -213,6 +213,18 @@ impl<T: Drop> Shelf<T> {
         set_slot(&mut self.slots, self.order.at(at), item);
     }
 
+    /// Puts an element in the place of another one, in every order, with its ranks, and answers that one. It takes no
+    /// memory. Cost: constant.
+    pub fn exchange(&mut self, at: usize, item: T) -> T
+        requires { at < length self.old.list }
+        ensures taken { slice_get self.old.list at ≡ Some result }
+        ensures replaced { self.new.list ≡ slice_set self.old.list at item }
+        ensures others { (f : T → T) → f result ≡ item → ChangesOnly f at self.old.list → self.new.others ≡ map (map f) self.old.others }
+        ensures room { self.new.spare ≡ self.old.spare }
+    {
+        exchange_slot(&mut self.slots, self.order.at(at), item)
+    }
+
     /// Puts the element at a place of the list into a further order that does not have it, with a rank there, before those
     /// from a place of that order on. It takes no memory. Cost: as of `insert`.
     pub fn enter(&mut self, order: usize, place: usize, at: usize, rank: i64)
@@ -260,6 +272,7 @@ impl<T: Drop> Shelf<T> {
         requires { at < length self.old.list }
         ensures edited { (item : T) → slice_get self.old.list at ≡ Some item → self.new.list ≡ slice_set self.old.list at (E.edited edit.now item) }
         ensures others { ChangesOnly (E.edited edit.now) at self.old.list → self.new.others ≡ map (map (E.edited edit.now)) self.old.others }
+        ensures others_by { (f : T → T) (item : T) → slice_get self.old.list at ≡ Some item → f item ≡ E.edited edit.now item → ChangesOnly f at self.old.list → self.new.others ≡ map (map f) self.old.others }
         ensures room { self.new.spare ≡ self.old.spare }
     {
         edit_slot(&mut self.slots, self.order.at(at), edit);

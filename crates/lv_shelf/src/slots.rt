@@ -26,6 +26,15 @@ pub(crate) fn edit_slot<T: Drop, E: Edit<T>>(slots: &mut Vec<Option<T>>, slot: u
     slots[slot as usize] = Some(item);
 }
 
+/// Puts an element into a slot that has one, and answers that one.
+pub(crate) fn exchange_slot<T>(slots: &mut Vec<Option<T>>, slot: u32, item: T) -> T
+    requires { IsHeld slots.old.items slot }
+    ensures taken { slot_of slots.old.items slot ≡ Some result }
+    ensures put { slots.new.items ≡ slice_set slots.old.items slot (Some item) }
+{
+    std::mem::replace(&mut slots[slot as usize], Some(item)).unwrap()
+}
+
 /// Puts an element into a slot, in the place of the one there.
 pub(crate) fn set_slot<T: Drop>(slots: &mut Vec<Option<T>>, slot: u32, item: T)
     requires { slot < length slots.old.items }

@@ -14,7 +14,6 @@ use Rattle.lv_schema.specs.declared.signed.SignedRow.{SignedRow}
 use Rattle.lv_schema.specs.Versions.{end_by}
 use Rattle.lv_schema.proofs.NetsLead.{same_row}
 use Rattle.lv_shelf.specs.Cuts.{Apart, IsCut}
-use Rattle.lv_shelf.specs.Shelves.{ChangesOnly}
 use Rattle.lv_shelf.proofs.Cutting.{all_at, cut_at, cut_long, got, got_within}
 use Rattle.lv_viewrows.specs.declared.version.GroupVersion.{GroupVersion}
 use Rattle.lv_viewrows.specs.Standing.{EndsBy, IsCount, MeetAll, Meets, Precedes, comes_before, current, ended, ended_at, has_no_end, is_current, meets_by, precedes_by}
@@ -45,12 +44,6 @@ pub ended_current : (number : ℕ) (row : List Value) (v : GroupVersion) → is_
 ended_current number row v h =
     let parts = both (has_no_end v) (row_eq row v.group.row) h in
     ap (λ (u : Option ℕ). record v { until = u }) (ap₂ (λ u b. end_by u (not b) number) (no_until v.until parts.0) parts.1)
-
-pub ended_has_end : (number : ℕ) (row : List Value) (v : GroupVersion) → is_current row v ≡ true → has_no_end (ended number row v) ≡ false
-ended_has_end number row v h = ap has_no_end (ended_current number row v h)
-
-pub ended_twice : (number : ℕ) (row : List Value) (v : GroupVersion) → is_current row v ≡ true → ended number row (ended number row v) ≡ ended number row v
-ended_twice number row v h = ended_other number row (ended number row v) (ap (is_current row) (ended_current number row v h))
 
 -- a version that has the row came before
 pub came_before : (number : ℕ) (s : SignedRow) (v : GroupVersion) → Meets number s v → row_cmp v.group.row s.row ≡ Equal → v.from < number
@@ -122,20 +115,6 @@ at_place number s (suc (suc i)) (v ∷ vs) d a m cut =
     let other = earlier_other s.row number v w (all_at (Precedes v) vs i d (omega (arith, long)) a.0) (cut_at p (suc i) i vs d cut.1 (omega arith)) in
     let rest = at_place number s (suc i) vs d a.1 m.1 cut.1 in
     ((λ i. cond (other i) (v ∷ filter (is_current s.row) vs) (filter (is_current s.row) vs)) ∙ rest.0, ap₂ (λ x l. x ∷ l) (ended_other number s.row v other) rest.1)
-
--- the ending of the row's current version leaves each version but that before its place as it was
-others_stay : (number : ℕ) (s : SignedRow) (vs : List GroupVersion) → MeetAll number vs s → AllByRecursion (λ v. comes_before s.row number v ≡ false) vs → AllByRecursion (λ v. ended number s.row v ≡ v) vs
-others_stay number s [] m b = tt
-others_stay number s (v ∷ vs) m b = (ended_other number s.row v (later_other number s v m.0 b.0), others_stay number s vs m.1 b.1)
-
-pub ends_only : (number : ℕ) (s : SignedRow) (i : ℕ) (vs : List GroupVersion) → Apart Precedes vs → MeetAll number vs s → IsCut (comes_before s.row number) (suc i) vs → ChangesOnly (ended number s.row) i vs
-ends_only number s i [] a m cut = absurd cut
-ends_only number s zero (v ∷ vs) a m cut = others_stay number s vs m.1 cut.1
-ends_only number s (suc i) (v ∷ vs) a m cut =
-    let p = comes_before s.row number in
-    let long = cut_long p (suc i) vs cut.1 in
-    let other = earlier_other s.row number v (get_or vs i v) (all_at (Precedes v) vs i v (omega (arith, long)) a.0) (cut_at p (suc i) i vs v cut.1 (omega arith)) in
-    (ended_other number s.row v other, ends_only number s i vs a.1 m.1 cut.1)
 
 -- what the search leaves: no version in front, one in front that is not current, and one that is
 module _ (number : ℕ) (s : SignedRow) (vs : List GroupVersion) (a : Apart Precedes vs) (m : MeetAll number vs s) (at : ℕ) (cut : IsCut (comes_before s.row number) at vs) where

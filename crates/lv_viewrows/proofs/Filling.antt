@@ -1,15 +1,11 @@
 -- What changes make of no versions at all, and versions that are not there yet.
-use Rattle.std.proofs.Common.{◌≡◌, ℕ, ◌<◌, Bool, true, false, cond, List, [], ◌∷◌, ◌++◌, length, map, filter, refl, sym, ap, ap₂, ◌∙◌, subst, arith}
-use Rattle.std.specs.Prelude.{◌&&◌}
+use Rattle.std.proofs.Common.{◌≡◌, ℕ, Bool, true, false, cond, List, [], ◌∷◌, ◌++◌, length, map, filter, refl, sym, ap, ap₂, ◌∙◌, subst, arith}
 use Rattle.std.specs.List.{AllByRecursion}
 use Rattle.std.specs.Ordering.{is_eq, is_gt, nat_cmp, ordering_then}
-use Rattle.std.specs.Cmp.{IsTotalOrder}
-use Rattle.std.specs.declared.cmp.Ordering.{Ordering}
 use Rattle.std.specs.declared.cmp.Ordering.TheVariants.{Less, Equal}
 use Rattle.std.proofs.lemmas.Cmp.{tied_itself}
-use Rattle.lv_values.specs.declared.value.Value.{Value}
 use Rattle.lv_values.specs.Ascending.{placed}
-use Rattle.lv_values.specs.Order.{row_cmp, row_eq}
+use Rattle.lv_values.specs.Order.{row_cmp}
 use Rattle.lv_values.specs.OrderLaws.{row_total}
 use Rattle.lv_schema.specs.declared.signed.SignedRow.{SignedRow}
 use Rattle.lv_schema.proofs.Apart.{all_filter, all_map, all_true, all_weaker}
@@ -18,8 +14,8 @@ use Rattle.lv_shelf.specs.Cuts.{Apart}
 use Rattle.lv_shelf.specs.Shelves.{LacksItem}
 use Rattle.lv_viewrows.specs.declared.version.GroupVersion.{GroupVersion}
 use Rattle.lv_viewrows.specs.Kept.{version_from}
-use Rattle.lv_viewrows.specs.Standing.{IsBy, MeetAll, Meets, Precedes, changed_all, current, ended, has_no_end, is_current, joined, precedes_by, put, version_cmp}
-use Rattle.lv_viewrows.proofs.Changes.{RowsAscend, last_met, ascend_last}
+use Rattle.lv_viewrows.specs.Standing.{IsBy, MeetAll, Meets, Precedes, changed_all, current, ended, is_current, joined, precedes_by, put, version_cmp}
+use Rattle.lv_viewrows.proofs.Changes.{RowsAscend}
 use Rattle.lv_viewrows.proofs.Ending.{came_before, ended_other}
 
 -- ---- a version that is not there

@@ -13,6 +13,7 @@ pub mod NotEnded
 pub mod Order
 pub mod Passing
 pub mod ReadAt
+pub mod Replacing
 pub mod RowsOfJoins
 pub mod Sums
 pub mod Unchanged

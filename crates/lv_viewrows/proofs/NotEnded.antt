@@ -1,11 +1,11 @@
 -- The versions that have not ended, among all: what is done to the list is done to them at the place that counts them.
-use Rattle.std.proofs.Common.{◌≡◌, ℕ, zero, suc, ◌<◌, ◌≤◌, Bool, true, false, cond, List, [], ◌∷◌, ◌++◌, length, map, filter, take, drop, set, Some, refl, sym, ap, ap₂, ◌∙◌, subst, arith}
+use Rattle.std.proofs.Common.{◌≡◌, ℕ, zero, suc, ◌+◌, ◌<◌, ◌≤◌, Bool, true, false, cond, List, [], ◌∷◌, ◌++◌, length, map, filter, take, drop, set, Some, refl, sym, ap, ap₂, ◌∙◌, arith}
 use Rattle.std.specs.Prelude.{slice_get}
 use Rattle.std.specs.List.{AllByRecursion, insert, remove}
 use Rattle.std.proofs.lemmas.List.{take-append-drop}
 use Rattle.std.proofs.lemmas.List.Elements.{filter-append}
-use Rattle.lv_schema.proofs.Apart.{all_filter, apart_filter}
-use Rattle.lv_shelf.specs.Cuts.{Apart, IsCut}
+use Rattle.lv_schema.proofs.Apart.{all_filter}
+use Rattle.lv_shelf.specs.Cuts.{IsCut}
 use Rattle.lv_shelf.specs.Shelves.{ChangesOnly}
 
 -- ---- lists
@@ -28,6 +28,14 @@ same_after : {X : Type 0} (f : X → X) (at : ℕ) (xs : List X) (x : X) → sli
 same_after f at [] x e twice only = cc
 same_after f zero (y ∷ xs) x e twice only = (twice, only)
 same_after f (suc at) (y ∷ xs) x e twice only = (only.0, same_after f at xs x e twice only.1)
+
+-- an element put in front of the one that stands in its place
+pub insert_behind : {X : Type 0} (xs : List X) (i : ℕ) (x y : X) → i < length xs → insert (set xs i y) i x ≡ insert (set xs i x) (i + 1) y
+insert_behind [] i x y lt = absurd (omega arith)
+insert_behind (z ∷ xs) zero x y lt = refl
+insert_behind (z ∷ xs) (suc i) x y lt =
+    let e : suc (i + 1) ≡ suc i + 1 = omega arith in
+    ap (λ l. z ∷ l) (insert_behind xs i x y (omega arith)) ∙ ap (λ n. insert (z ∷ set xs i x) n y) e
 
 pub got_inserted : {X : Type 0} (xs : List X) (i : ℕ) (x : X) → i ≤ length xs → slice_get (insert xs i x) i ≡ Some x
 got_inserted [] zero x le = refl
@@ -176,6 +184,23 @@ module _ {X : Type 0} (q : X → Bool) where
   filter_changed f at xs x e h g twice only =
       ap (map f) (sym (filter_ended at xs x (f x) e h g))
       ∙ all_same f (filter q (set xs at (f x))) (all_filter (λ y. f y ≡ y) q (set xs at (f x)) (same_after f at xs x e twice only))
+
+  -- one that takes the place of another one, where both pass
+  pub filter_replaced : (f : X → X) (at : ℕ) (xs : List X) (x : X) → slice_get xs at ≡ Some x → q x ≡ true → q (f x) ≡ true → ChangesOnly f at xs → map f (filter q xs) ≡ filter q (set xs at (f x))
+  filter_replaced f at [] x e h g only = cc
+  filter_replaced f zero (z ∷ xs) x e h g only = by (q z) refl
+    where
+      there : z ≡ x
+      there = let is : Some z ≡ Some x = e in cc
+
+      by : (b : Bool) → q z ≡ b → map f (cond b (z ∷ filter q xs) (filter q xs)) ≡ cond (q (f x)) (f x ∷ filter q xs) (filter q xs)
+      by true k = ap₂ (λ y l. y ∷ l) (ap f there) (all_same f (filter q xs) (all_filter (λ y. f y ≡ y) q xs only)) ∙ (λ i. cond (sym g i) (f x ∷ filter q xs) (filter q xs))
+      by false k = let is = ap q there in cc
+  filter_replaced f (suc at) (z ∷ xs) x e h g only = by (q z) (filter_replaced f at xs x e h g only.1)
+    where
+      by : (b : Bool) → map f (filter q xs) ≡ filter q (set xs at (f x)) → map f (cond b (z ∷ filter q xs) (filter q xs)) ≡ cond b (z ∷ filter q (set xs at (f x))) (filter q (set xs at (f x)))
+      by true ih = ap₂ (λ y l. y ∷ l) only.0 ih
+      by false ih = ih
 
   -- two tests one after the other
   pub filter_twice : (p : X → Bool) (xs : List X) → filter p (filter q xs) ≡ filter q (filter p xs)

@@ -44,7 +44,7 @@ is_over Equal h = cc
 is_over Greater h = refl
 
 -- one version before another is less
-precedes_less : (v w : GroupVersion) → Precedes v w → version_cmp v w ≡ Less
+pub precedes_less : (v w : GroupVersion) → Precedes v w → version_cmp v w ≡ Less
 precedes_less v w h = by (row_cmp v.group.row w.group.row) refl h
   where
     by : (o : Ordering) → row_cmp v.group.row w.group.row ≡ o → precedes_by o v w → ordering_then (row_cmp v.group.row w.group.row) (nat_cmp v.from w.from) ≡ Less

@@ -5,7 +5,7 @@ ghost use Rattle.lv_viewrows.specs.Beginning.{NoneBegins, column_numbered, first
 ghost use Rattle.lv_viewrows.specs.Standing.{Precedes};
 
 use crate::version::GroupVersion;
-use crate::versions::Listed;
+use crate::versions::Candidates;
 use lv_schema::{Col, Item, ViewDef};
 use lv_values::{Test, Value};
 use std::marker::Model;
@@ -73,7 +73,7 @@ fn has_value(version: &GroupVersion) -> bool
 
 /// Between which places the versions stand whose rows begin with a value. Where a row has no value, these are all.
 /// Cost: two binary searches.
-pub(crate) fn places_of(first: &Value, versions: &Listed<'_>) -> (usize, usize)
+pub(crate) fn places_of(first: &Value, versions: &Candidates<'_>) -> (usize, usize)
     requires { Apart Precedes versions.now }
     ensures order { result.0 ≤ result.1 }
     ensures within { result.1 ≤ length versions.now }

@@ -1,5 +1,5 @@
 //! What changes do to the versions of a view's groups, in place.
-ghost use Rattle.std.specs.Prelude.{◌≡◌, ◌+◌, ◌≤◌, ◌<◌, [], filter, length, map};
+ghost use Rattle.std.specs.Prelude.{◌≡◌, ◌+◌, ◌-◌, ◌≤◌, ◌<◌, [], Some, true, filter, length, map, slice_get};
 ghost use Rattle.std.specs.List.{AllByRecursion};
 ghost use Rattle.lv_values.specs.Ascending.{placed};
 ghost use Rattle.lv_values.specs.Order.{row_cmp};
@@ -9,7 +9,7 @@ ghost use Rattle.lv_shelf.specs.Cuts.{Apart, IsCut};
 ghost use Rattle.lv_shelf.specs.Shelves.{LacksItem};
 ghost use Rattle.lv_group.specs.Gathered.{has_tuples};
 ghost use Rattle.lv_viewrows.specs.Kept.{version_from};
-ghost use Rattle.lv_viewrows.specs.Standing.{IsBy, MeetAll, NoneBefore, Precedes, changed, changed_all, comes_before, current, ended, joined, not_ended, not_ended_before, put, version_cmp};
+ghost use Rattle.lv_viewrows.specs.Standing.{IsBy, MeetAll, NoneBefore, Precedes, changed, changed_all, comes_before, is_current, not_ended, not_ended_before, put, version_cmp};
 
 use crate::numbers::{has_tuples, with_group};
 use crate::searching::place_of;
@@ -77,36 +77,47 @@ fn front_of(row: &Row, number: u64, high: Front, left: usize, versions: &Version
     Front { all, not_ended }
 }
 
-/// Ends the version that has the row of a change and has not ended, if there is one. As many versions as `front` says come
-/// before the row. Answers the change with that version's numbers, and how many of the versions before the row have not
-/// ended now.
-fn end_current(
-    change: SignedRow,
-    number: u64,
-    front: Front,
-    versions: &mut Versions,
-) -> (SignedRow, usize)
+/// Whether the last of the first so many versions has a row and has not ended.
+fn is_current_before(row: &Row, at: usize, versions: &Versions) -> bool
+    requires { at ≤ length versions.now.list }
+    ensures some { result ≡ true → 0 < at }
+    ensures last { (v : GroupVersion) → 0 < at → slice_get versions.now.list (at - 1) ≡ Some v → result ≡ is_current row.now v }
+{
+    if at == 0 {
+        return false;
+    }
+    versions.get(at - 1).is_current(row)
+}
+
+/// Applies a change to the group of its row that is there, whose version is the last of those before `front`: that one ends,
+/// and one of the group with the change takes its place if it has a tuple. Answers how many versions come before the row.
+/// Cost: a move of small numbers.
+fn change_current(change: SignedRow, number: u64, front: Front, versions: &mut Versions) -> Front
     requires order { Apart Precedes versions.old.list }
     requires meets { MeetAll number versions.old.list change }
+    requires some { 0 < front.all }
     requires cut { IsCut (comes_before change.row number) front.all versions.old.list }
     requires place { front.not_ended ≡ not_ended_before front.all versions.old.list }
-    ensures joined { result.0 ≡ joined (current change.row versions.old.list) change }
-    ensures ended { versions.new.list ≡ map (ended number change.row) versions.old.list }
-    ensures place { result.1 ≡ not_ended_before front.all versions.new.list }
-    ensures room { versions.new.spare ≡ versions.old.spare }
+    requires current { (v : GroupVersion) → slice_get versions.old.list (front.all - 1) ≡ Some v → is_current change.row v ≡ true }
+    requires room { 0 < versions.old.spare }
+    ensures changed { versions.new.list ≡ changed number change versions.old.list }
+    ensures cut { IsCut (comes_before change.row number) result.all versions.new.list }
+    ensures place { result.not_ended ≡ not_ended_before result.all versions.new.list }
+    ensures room { versions.old.spare ≤ versions.new.spare + 1 }
 {
-    let at = front.all;
-    if at == 0 {
-        return (change, front.not_ended);
-    }
-    let version = versions.get(at - 1);
-    if !version.is_current(&change.row) {
-        return (change, front.not_ended);
-    }
-    let group = with_group(&version.group, change);
+    let at = front.all - 1;
+    let group = with_group(&versions.get(at).group, change);
     let not_ended = front.not_ended - 1;
-    versions.end(at - 1, not_ended, &group.row, number);
-    (group, not_ended)
+    let after = Front {
+        all: front.all,
+        not_ended,
+    };
+    if !has_tuples(&group) {
+        versions.end(at, not_ended, number);
+        return after;
+    }
+    versions.replace(at, group, number);
+    after
 }
 
 /// Puts a group at its place, from a commit on: as many versions as `at` come before it. Cost: a move of small numbers.
@@ -156,12 +167,11 @@ fn apply(change: SignedRow, number: u64, high: Front, left: usize, versions: &mu
     ensures room { versions.old.spare ≤ versions.new.spare + 1 }
 {
     let front = front_of(&change.row, number, high, left, versions);
-    let (group, not_ended) = end_current(change, number, front, versions);
-    put_change(group, number, front.all, not_ended, versions);
-    Front {
-        all: front.all,
-        not_ended,
+    if is_current_before(&change.row, front.all, versions) {
+        return change_current(change, number, front, versions);
     }
+    put_change(change, number, front.all, front.not_ended, versions);
+    front
 }
 
 /// Applies changes of different rows, from the last one on. Cost: that of `apply` for each.
@@ -204,8 +214,8 @@ fn fill(groups: Signed, number: u64, versions: &mut Versions)
 
 /// Applies changes of different rows, as those of a commit. It takes no memory. Cost: for each a search from the place of
 /// the one before it, which for changes that are spread evenly takes about log (versions / changes) comparisons, the same
-/// among the versions that have not ended where some have, and a move of small numbers in each order; where there is no
-/// version yet, linear in the changes.
+/// among the versions that have not ended where some have, and a move of small numbers, or two for a group that comes; where
+/// there is no version yet, linear in the changes.
 pub(crate) fn apply_all(changes: Signed, number: u64, versions: &mut Versions)
     requires order { Apart Precedes versions.old.list }
     requires each { AllByRecursion (IsBy number) versions.old.list }

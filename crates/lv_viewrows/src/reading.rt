@@ -15,7 +15,7 @@ use crate::numbers::{has_tuples, with_group};
 use crate::searching::{NEAR, end_below};
 use crate::seek::Seek;
 use crate::version::GroupVersion;
-use crate::versions::Listed;
+use crate::versions::Candidates;
 use lv_group::list_into;
 use lv_schema::{Signed, SignedRow, ViewDef};
 use lv_values::{Copying, NoMemory, Row, Rows, Test};
@@ -171,7 +171,7 @@ fn push_unchanged<T: Test<Row>>(
     view: &ViewDef,
     test: &T,
     n: u64,
-    versions: &Listed<'_>,
+    versions: &Candidates<'_>,
     from: usize,
     end: usize,
     out: &mut Listing,
@@ -192,7 +192,7 @@ fn push_compared<T: Test<Row>>(
     view: &ViewDef,
     test: &T,
     n: u64,
-    versions: &Listed<'_>,
+    versions: &Candidates<'_>,
     from: usize,
     end: usize,
     changes: &Signed,
@@ -236,7 +236,7 @@ fn rows_in_order<T: Test<Row>>(
     view: &ViewDef,
     test: &T,
     n: u64,
-    versions: &Listed<'_>,
+    versions: &Candidates<'_>,
     from: usize,
     end: usize,
     changes: &Signed,
@@ -278,7 +278,7 @@ pub(crate) fn rows_passing<T: Seek>(
     view: &ViewDef,
     test: &T,
     n: u64,
-    versions: &Listed<'_>,
+    versions: &Candidates<'_>,
     changes: &Signed,
 ) -> Result<Rows, NoMemory>
     requires order { Apart Precedes versions.now }

@@ -6,7 +6,7 @@ ghost use Rattle.lv_viewrows.specs.Merged.{is_below};
 ghost use Rattle.lv_viewrows.specs.Standing.{NoneBefore, Precedes, comes_before};
 
 use crate::version::ComesBefore;
-use crate::versions::Listed;
+use crate::versions::Candidates;
 use lv_schema::{Signed, SignedRow};
 use lv_values::{Row, Test};
 
@@ -32,7 +32,7 @@ pub(crate) fn place_of(
     number: u64,
     high: usize,
     step: usize,
-    versions: &Listed<'_>,
+    versions: &Candidates<'_>,
 ) -> usize
     requires order { Apart Precedes versions.now }
     requires step { 0 < step }
@@ -71,7 +71,7 @@ pub(crate) fn end_below(
     high: usize,
     changes: &Signed,
     next: usize,
-    versions: &Listed<'_>,
+    versions: &Candidates<'_>,
 ) -> usize
     requires order { Apart Precedes versions.now }
     requires forward { from ≤ high }

@@ -118,30 +118,18 @@ impl Test<GroupVersion> for EndsAfter {
     }
 }
 
-/// Ends a version if it has a row and has not ended.
+/// Ends a version.
 #[derive(Drop)]
-pub(crate) struct EndOf<'a> {
-    pub(crate) row: &'a Row,
+pub(crate) struct EndOf {
     pub(crate) number: u64,
 }
 
-impl<'a> Model for EndOf<'a> {
-    ghost use Rattle.std.specs.Prelude.{ℕ, List};
-    ghost use Rattle.lv_values.specs.declared.value.Value.{Value as AValue};
+impl Edit<GroupVersion> for EndOf {
+    ghost use Rattle.lv_viewrows.specs.Standing.{ended_at};
 
-    ghost Value = { List AValue × ℕ };
-
-    ghost view = { λ e. (e.row.now, e.number) };
-}
-
-impl<'a> Edit<GroupVersion> for EndOf<'a> {
-    ghost use Rattle.lv_viewrows.specs.Standing.{ended};
-
-    ghost edited = { λ e v. ended e.1 e.0 v };
+    ghost edited = { λ e v. ended_at e.number v };
 
     fn edit(&self, version: &mut GroupVersion) {
-        if version.is_current(self.row) {
-            version.until = Some(self.number);
-        }
+        version.until = Some(self.number);
     }
 }

@@ -2,12 +2,14 @@
 ghost use Rattle.std.specs.Prelude.{◌≡◌, ◌+◌, ◌++◌, ◌∷◌, ◌≤◌, ◌<◌, [], Some, true, filter, length, nat_le, slice_get, slice_set, IfOk, OnOk};
 ghost use Rattle.std.specs.List.{insert};
 ghost use Rattle.lv_shelf.specs.Cuts.{Apart, Falls, IsCut};
-ghost use Rattle.lv_shelf.specs.Shelves.{ChangesOnly, LacksItem};
-ghost use Rattle.lv_viewrows.specs.Standing.{Precedes, ended, is_current, not_ended, not_ended_before};
+ghost use Rattle.lv_shelf.specs.Shelves.{LacksItem};
+ghost use Rattle.lv_viewrows.specs.Kept.{version_from};
+ghost use Rattle.lv_viewrows.specs.Standing.{Precedes, ended_at, has_no_end, not_ended, not_ended_before};
 
 use crate::version::{EndOf, GroupVersion};
+use lv_schema::SignedRow;
 use lv_shelf::Shelf;
-use lv_values::{Copying, NoMemory, Row, Test};
+use lv_values::{Copying, NoMemory, Test};
 use std::alloc::Global;
 use std::marker::Model;
 
@@ -30,14 +32,14 @@ impl Model for Versions {
     ghost invariant = { λ v. v.shelf.others ≡ not_ended v.shelf.list ∷ [] };
 }
 
-/// Versions to be looked at in their order: all, or those that have not ended. Contracts see them as a list.
+/// The versions that a read looks at, in their order: all, or those that have not ended. Contracts see them as a list.
 #[derive(Drop)]
-pub(crate) struct Listed<'a> {
+pub(crate) struct Candidates<'a> {
     versions: &'a Versions,
     all: bool,
 }
 
-impl<'a> Model for Listed<'a> {
+impl<'a> Model for Candidates<'a> {
     ghost use Rattle.std.specs.Prelude.{List, if◌then◌else◌};
     ghost use Rattle.lv_viewrows.specs.declared.version.GroupVersion.{GroupVersion as AVersion};
     ghost use Rattle.lv_viewrows.specs.Standing.{not_ended};
@@ -47,7 +49,7 @@ impl<'a> Model for Listed<'a> {
     ghost view = { λ l. if l.all then l.versions.now.list else not_ended l.versions.now.list };
 }
 
-impl<'a> Listed<'a> {
+impl<'a> Candidates<'a> {
     /// The number of these versions.
     pub(crate) fn len(&self) -> usize
         ensures { result ≡ length self.now }
@@ -144,20 +146,20 @@ impl Versions {
     }
 
     /// All versions.
-    pub(crate) fn all(&self) -> Listed<'_>
+    pub(crate) fn all(&self) -> Candidates<'_>
         ensures { result ≡ self.now.list }
     {
-        Listed {
+        Candidates {
             versions: self,
             all: true,
         }
     }
 
     /// Those that have not ended.
-    pub(crate) fn not_ended(&self) -> Listed<'_>
+    pub(crate) fn not_ended(&self) -> Candidates<'_>
         ensures { result ≡ not_ended self.now.list }
     {
-        Listed {
+        Candidates {
             versions: self,
             all: false,
         }
@@ -211,18 +213,35 @@ impl Versions {
         Ok(())
     }
 
-    /// Ends the version at a place, the only one of its row that has not ended, where so many of those before it have not.
-    /// It takes no memory. Cost: a comparison of rows, and a move of small numbers.
-    pub(crate) fn end(&mut self, at: usize, not_ended: usize, row: &Row, number: u64)
+    /// Ends the version at a place, which has not ended, where so many of those before it have not. It takes no memory.
+    /// Cost: a move of small numbers.
+    pub(crate) fn end(&mut self, at: usize, not_ended: usize, number: u64)
         requires at { at < length self.old.list }
         requires place { not_ended ≡ not_ended_before at self.old.list }
-        requires current { (v : GroupVersion) → slice_get self.old.list at ≡ Some v → is_current row.now v ≡ true }
-        requires only { ChangesOnly (ended number row.now) at self.old.list }
-        ensures ended { (v : GroupVersion) → slice_get self.old.list at ≡ Some v → self.new.list ≡ slice_set self.old.list at (ended number row.now v) }
+        requires order { Apart Precedes self.old.list }
+        requires current { (v : GroupVersion) → slice_get self.old.list at ≡ Some v → has_no_end v ≡ true }
+        ensures ended { (v : GroupVersion) → slice_get self.old.list at ≡ Some v → self.new.list ≡ slice_set self.old.list at (ended_at number v) }
         ensures room { self.new.spare ≡ self.old.spare }
     {
         self.shelf.leave(0, not_ended);
-        self.shelf.edit(at, &EndOf { row, number });
+        self.shelf.edit(at, &EndOf { number });
+    }
+
+    /// Ends the version at a place, which has not ended, and puts one of a group from that commit on behind it. The new one
+    /// takes the place of the old one among those that have not ended. It takes no memory. Cost: a move of small numbers.
+    pub(crate) fn replace(&mut self, at: usize, group: SignedRow, number: u64)
+        requires room { 0 < self.old.spare }
+        requires at { at < length self.old.list }
+        requires order { Apart Precedes self.old.list }
+        requires current { (v : GroupVersion) → slice_get self.old.list at ≡ Some v → has_no_end v ≡ true }
+        ensures replaced { (v : GroupVersion) → slice_get self.old.list at ≡ Some v → self.new.list ≡ insert (slice_set self.old.list at (ended_at number v)) (at + 1) (version_from number group) }
+        ensures room { self.new.spare + 1 ≡ self.old.spare }
+    {
+        let mut version = self
+            .shelf
+            .exchange(at, GroupVersion::from_commit(number, group));
+        version.until = Some(number);
+        self.shelf.insert(at, version, 0);
     }
 
     /// Keeps the versions that pass. It takes no memory, and makes room for as many as go. Cost: two passes over four-byte

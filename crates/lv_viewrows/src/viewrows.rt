@@ -19,7 +19,7 @@ use crate::changing::apply_all;
 use crate::reading::rows_passing;
 use crate::seek::Seek;
 use crate::version::{EndsAfter, GroupVersion};
-use crate::versions::{Listed, Versions};
+use crate::versions::{Candidates, Versions};
 use lv_group::Groups;
 use lv_schema::{Signed, SignedRow, Sums, ViewDef};
 use lv_values::{Any, Copying, NoMemory, Row, Rows};
@@ -154,7 +154,7 @@ impl ViewRows {
     }
 
     /// The versions that are looked at for those that are there at a commit: from the point on those that have not ended.
-    fn versions_at(&self, n: u64) -> Listed<'_>
+    fn versions_at(&self, n: u64) -> Candidates<'_>
         ensures { result ≡ read_at self.now.at n self.now.versions }
     {
         if self.at <= n {
@@ -257,7 +257,7 @@ impl ViewRows {
     }
 
     /// Drops the versions that ended at or below a commit. Reads at or above it stay, and those at or above the point. It
-    /// takes no memory. Cost: two passes over four-byte places.
+    /// takes no memory. Cost: two passes over four-byte places, and one over those of the versions that have not ended.
     pub fn prune(&mut self, number: u64)
         ensures def { self.new.def ≡ self.old.def }
         ensures at { self.new.at ≡ self.old.at }

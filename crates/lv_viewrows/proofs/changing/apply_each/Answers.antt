@@ -9,7 +9,7 @@ use Rattle.lv_values.specs.Order.{row_cmp}
 use Rattle.lv_viewrows.specs.Standing.{IsBy, MeetAll, NoneBefore, Precedes, changed_all, comes_before, has_no_end, not_ended}
 use Rattle.lv_viewrows.proofs.Changes.{RowsAscend, ascend_last, changed_each, changed_last, changed_order, last_met, rest_met}
 use Rattle.lv_viewrows.proofs.Galloping.{none_at_end, none_lower, none_passes}
-use Rattle.lv_viewrows.proofs.NotEnded.{before_long, cut_filtered}
+use Rattle.lv_viewrows.proofs.NotEnded.{cut_filtered}
 use Rattle.lv_viewrows.proofs.changing.apply_each.Goals as goal
 
 pub loop-change-init : goal.loop-change-init

@@ -1,4 +1,4 @@
-use Rattle.std.proofs.Common.{◌≡◌, length, sym, ap, subst, ◌∙◌, arith}
+use Rattle.std.proofs.Common.{◌≡◌, length, sym, subst, ◌∙◌}
 use Rattle.lv_schema.proofs.Apart.{apart_filter}
 use Rattle.lv_shelf.specs.Cuts.{Apart, IsCut}
 use Rattle.lv_viewrows.specs.Standing.{Precedes, comes_before, has_no_end, not_ended, not_ended_before}

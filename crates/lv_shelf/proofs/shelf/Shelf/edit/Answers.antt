@@ -63,3 +63,19 @@ returns-clause-others g c = λ only.
     ∙ ap (λ q. map (items_at (set slots q (Some (f slot.item)))) (lists_of s.others.items)) slot.read
     ∙ others_edited slots order f at slot.item (lists_of s.others.items) c.self.invariant.own.all c.self.invariant.own.held (subst (ChangesOnly f at) (sym (ap (λ r. r.list) c.self.view_is)) only) (ap (slot_of slots) (sym slot.read) ∙ slot.there) c.self.invariant.lists
     ∙ ap (λ r. map (map f) r.others) c.self.view_is
+
+pub returns-clause-others_by : goal.returns-clause-others_by
+returns-clause-others_by g c = λ f item e is only.
+    let s = c.self.inside in
+    let slots = s.slots.items in
+    let order = s.order.list in
+    let at = c.args.at in
+    let p = c.at.result in
+    let slot = place_is slots order c.args.self.now.list at p c.self.invariant.own.held (ap (λ r. r.list) c.self.view_is) c.requires c.at.ensures in
+    let there : slot_of slots p ≡ Some item = slot.there ∙ sym slot.seen ∙ e in
+    let ls = lists_of s.others.items in
+    ap (λ l. map (items_at l) ls) (c.edit_slot.ensures.edited item there)
+    ∙ ap (λ y. map (items_at (set slots p (Some y))) ls) (sym is)
+    ∙ ap (λ q. map (items_at (set slots q (Some (f item)))) ls) slot.read
+    ∙ others_edited slots order f at item ls c.self.invariant.own.all c.self.invariant.own.held (subst (ChangesOnly f at) (sym (ap (λ r. r.list) c.self.view_is)) only) (ap (slot_of slots) (sym slot.read) ∙ there) c.self.invariant.lists
+    ∙ ap (λ r. map (map f) r.others) c.self.view_is

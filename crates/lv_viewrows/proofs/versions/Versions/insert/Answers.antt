@@ -1,10 +1,9 @@
-use Rattle.std.proofs.Common.{◌≡◌, ◌≤◌, ◌∷◌, [], length, filter, Some, sym, ap, subst, ◌∙◌}
+use Rattle.std.proofs.Common.{◌≡◌, ◌≤◌, ◌∷◌, [], length, sym, ap, subst, ◌∙◌}
 use Rattle.std.specs.Prelude.{slice_get, slice_set}
 use Rattle.std.specs.List.{insert}
 use Rattle.lv_schema.proofs.Apart.{all_filter}
 use Rattle.lv_shelf.specs.Shelves.{LacksItem, other_at}
 use Rattle.lv_shelf.proofs.Cutting.{got}
-use Rattle.lv_viewrows.specs.declared.version.GroupVersion.{GroupVersion}
 use Rattle.lv_viewrows.specs.Kept.{VersionsKept}
 use Rattle.lv_viewrows.specs.Standing.{has_no_end, not_ended, not_ended_before}
 use Rattle.lv_viewrows.proofs.NotEnded.{filter_inserted, got_inserted}
