@@ -15,10 +15,6 @@ take_rest s i = grind (arith, common_steps, take_whole (drop i s))
 pub drop_twice : (a b : ℕ) (s : List ℕ) → drop (a + b) s ≡ drop b (drop a s)
 drop_twice a b s = grind (arith, common_steps)
 
-module _ (line : List ℕ) (at n : ℕ) (blanks : n ≡ prefix_len is_blank (take (length line - at) (drop at line))) where
-  pub blanks_are : n ≡ prefix_len is_blank (drop at line)
-  blanks_are = blanks ∙ ap (prefix_len is_blank) (take_rest line at)
-
-  -- what stands behind the blanks
-  pub rest_is : take (length line - (at + n)) (drop (at + n) line) ≡ after_blanks (drop at line)
-  rest_is = take_rest line (at + n) ∙ (drop_twice at n line ∙ ap (λ k. drop k (drop at line)) blanks_are)
+-- what stands behind the blanks
+pub rest_is : (line : List ℕ) (at start : ℕ) → start ≡ at + prefix_len is_blank (drop at line) → take (length line - start) (drop start line) ≡ after_blanks (drop at line)
+rest_is line at start blanks = take_rest line start ∙ (ap (λ k. drop k line) blanks ∙ drop_twice at (prefix_len is_blank (drop at line)) line)

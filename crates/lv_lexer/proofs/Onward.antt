@@ -10,34 +10,31 @@ use Rattle.lv_lexer.specs.declared.token.TokenKind.{TokenKind}
 use Rattle.lv_lexer.specs.Cut.{cut}
 use Rattle.lv_lexer.specs.Meaning.{terminal_of}
 use Rattle.lv_lexer.specs.Piece.{piece}
-use Rattle.lv_lexer.specs.Scan.{Scans, IsTokenOf, is_over, after_blanks}
+use Rattle.lv_lexer.specs.Scan.{Scans, is_over, after_blanks}
+use Rattle.lv_lexer.specs.Next.{NextIs, token_at}
 use Rattle.lv_lexer.proofs.Cuts.{cut_scans}
-use Rattle.lv_lexer.proofs.Lines.{blanks_are, rest_is}
+use Rattle.lv_lexer.proofs.Lines.{rest_is}
 use Rattle.lv_lexer.proofs.Spans.{is_token, after, scans_one}
 
 -- The piece behind the blanks is the next token.
-module _ (line : List ℕ) (at n : ℕ) (kind : TokenKind) (len : ℕ) (blanks : n ≡ prefix_len is_blank (take (length line - at) (drop at line)))
-    (comes : is_over (take (length line - (at + n)) (drop (at + n) line)) ≡ false) (found : piece (take (length line - (at + n)) (drop (at + n) line)) ≡ Some (kind, len)) where
+module _ (line : List ℕ) (at start : ℕ) (kind : TokenKind) (len : ℕ) (blanks : start ≡ at + prefix_len is_blank (drop at line))
+    (comes : is_over (take (length line - start) (drop start line)) ≡ false) (found : piece (take (length line - start) (drop start line)) ≡ Some (kind, len)) where
   abbrev pub token : Token
-  token = record { kind = kind; start = at + n; end = at + n + len }
+  token = token_at kind start (start + len)
 
-  found_there : piece (after_blanks (drop at line)) ≡ Some (kind, at + n + len - (at + n))
-  found_there = sym (ap piece (rest_is line at n blanks)) ∙ found ∙ ap (λ (k : ℕ). Some (kind, k)) (omega arith)
+  found_there : piece (after_blanks (drop at line)) ≡ Some (kind, start + len - start)
+  found_there = sym (ap piece (rest_is line at start blanks)) ∙ found ∙ ap (λ (k : ℕ). Some (kind, k)) (omega arith)
 
-  starts_there : at + n ≡ at + prefix_len is_blank (drop at line)
-  starts_there = ap (λ k. at + k) (blanks_are line at n blanks)
-
-  ends_behind : at + n ≤ at + n + len
+  ends_behind : start ≤ start + len
   ends_behind = omega arith
 
-  pub next_is : (at ≤ token.start) × IsTokenOf line token
-      × ((more : List Token) (stopped : Option ℕ) → Scans token.end (drop token.end line) more stopped → Scans at (drop at line) (token ∷ more) stopped)
+  pub next_is : NextIs line at token
   next_is = (
     omega arith,
-    is_token line at (drop at line) refl token found_there starts_there ends_behind,
+    is_token line at (drop at line) refl token found_there blanks ends_behind,
     λ more stopped h.
         let P : List ℕ → Type 0 = λ bytes. Scans token.end bytes more stopped in
-        (sym (ap is_over (rest_is line at n blanks)) ∙ comes, found_there, starts_there, ends_behind, subst P (sym (after line at (drop at line) refl token found_there starts_there ends_behind)) h),
+        (sym (ap is_over (rest_is line at start blanks)) ∙ comes, found_there, blanks, ends_behind, subst P (sym (after line at (drop at line) refl token found_there blanks ends_behind)) h),
   )
 
 -- The line up to this offset is some tokens, which say these terminals.

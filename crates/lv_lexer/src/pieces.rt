@@ -1,12 +1,12 @@
 //! The token that begins some bytes.
 
-ghost use Rattle.std.specs.Prelude.{◌≡◌, ◌+◌, ◌<◌, ◌≤◌, ◌^◌, length, IfSome};
+ghost use Rattle.std.specs.Prelude.{◌≡◌, ◌+◌, ◌<◌, ◌≤◌, ◌^◌, length, drop, IfSome};
 ghost use Rattle.std.specs.Char.{is_ascii_digit};
 ghost use Rattle.std.specs.List.{prefix_len};
 ghost use Rattle.lv_values.specs.Names as names;
 ghost use Rattle.lv_lexer.specs.Piece.{closing, number_of, piece};
 
-use crate::signs::sign_at;
+use crate::signs::sign;
 use crate::token::TokenKind;
 
 /// The most digits that a number has.
@@ -30,6 +30,7 @@ fn is_word_byte(byte: u8) -> bool
     byte.is_ascii_lowercase() || byte.is_ascii_digit() || byte == b'_' || byte.is_ascii_uppercase()
 }
 
+#[inline(always)]
 fn is_blank(byte: u8) -> bool
     ensures { result ≡ names.is_blank byte }
 {
@@ -52,12 +53,22 @@ fn digits_len(bytes: &[u8]) -> usize
     bytes.iter().take_while(|b| b.is_ascii_digit()).count()
 }
 
-/// How many blanks stand in front.
-pub(crate) fn blanks_len(bytes: &[u8]) -> usize
-    ensures value { result ≡ prefix_len names.is_blank bytes.now }
-    ensures within { result ≤ length bytes.now }
+/// Where the blanks end that stand in the line from this byte on.
+#[tactic(auto, using(crate::proofs::Blanks::run_goes_on, crate::proofs::Blanks::run_stops, crate::proofs::Blanks::run_ends))]
+pub(crate) fn blanks_end(line: &[u8], at: usize) -> usize
+    requires { at ≤ length line.now }
+    ensures value { result ≡ at + prefix_len names.is_blank (drop at line.now) }
+    ensures within { result ≤ length line.now }
 {
-    bytes.iter().take_while(|b| is_blank(**b)).count()
+    let mut end = at;
+    'blank: while end < line.len() {
+        if is_blank(line[end]) {
+            end += 1;
+        } else {
+            return end;
+        }
+    }
+    end
 }
 
 /// How many bytes there are up to the closing quote, with it, where there is one.
@@ -112,9 +123,6 @@ pub(crate) fn piece(bytes: &[u8]) -> Option<(TokenKind, usize)>
             Some(len) => Some((TokenKind::Text, 1 + len)),
         }
     } else {
-        match sign_at(bytes) {
-            None => None,
-            Some((_, len)) => Some((TokenKind::Sign, len)),
-        }
+        sign(bytes)
     }
 }

@@ -8,12 +8,12 @@ ghost use Rattle.std.specs.Str.Parse.{digits_value};
 ghost use Rattle.lv_lexer.specs.declared.token.TokenKind.TheVariants as sort;
 ghost use Rattle.lv_lexer.specs.Cut.{cut};
 ghost use Rattle.lv_lexer.specs.Scan.{IsTokenOf, Spells};
-ghost use Rattle.lv_lexer.specs.Meaning.{undoubled, unquoted, plain_at, said, sign_of, terminal_of};
-ghost use Rattle.lv_lexer.specs.Signs as spec;
+ghost use Rattle.lv_lexer.specs.Next.{token_at};
+ghost use Rattle.lv_lexer.specs.Meaning.{undoubled, unquoted, plain_at, said, terminal_of};
 
 use crate::keywords::keyword_of;
 use crate::scanning::{Next, next_token};
-use crate::signs::sign_at;
+use crate::signs::sign_class;
 use crate::terminals::{Class, Terminal, TerminalScan, Terminals};
 use crate::token::{Token, TokenKind};
 use lv_values::{Bytes, NoMemory, Text, TextFault};
@@ -106,17 +106,6 @@ fn number_of(digits: &[u8]) -> u128
     number
 }
 
-/// The sign that the bytes spell.
-fn sign_of(sign: &[u8]) -> Class
-    requires { Spells sign.now sort.Sign }
-    ensures { result ≡ sign_of (spec.sign_at sign.now) }
-{
-    match sign_at(sign) {
-        Some((class, _)) => class,
-        None => Class::Dot,
-    }
-}
-
 /// What a token says that is a word: a keyword, or a name in lower case.
 fn word(alloc: Global, word: &str, byte: u32) -> Result<Terminal, NoMemory>
     ensures { IfOk result (λ t. t ≡ said sort.Word word.now byte) }
@@ -144,32 +133,49 @@ fn plain(alloc: Global, class: Class, byte: u32) -> Result<Terminal, NoMemory>
     })
 }
 
-/// What the spelling of a token of this kind says, which stands at this byte of the line.
-fn read_spelling(
+/// What a token of the line says that has this kind, and stands from one byte up to another.
+fn read_between(
     alloc: Global,
-    spelling: &str,
+    line: &Text,
     kind: TokenKind,
-    byte: u32,
+    start: usize,
+    end: usize,
 ) -> Result<Terminal, NoMemory>
-    requires { Spells spelling.now kind }
-    ensures said { IfOk result (λ t. t ≡ said kind spelling.now byte) }
+    requires token { IsTokenOf line.now (token_at kind start end) }
+    requires end { end < 2 ^ 32 }
+    ensures said { IfOk result (λ t. t ≡ terminal_of line.now (token_at kind start end)) }
     ensures small { IfOk result (λ t. t.number < 10 ^ 38) }
 {
+    let text = line.as_str();
+    let bytes = line.as_bytes();
+    let byte = start as u32 + 1;
     match kind {
-        TokenKind::Word => word(alloc, spelling, byte),
-        TokenKind::Number => Ok(Terminal {
-            class: Class::Number,
-            text: Text::from_str(alloc, "")?,
-            number: number_of(spelling.as_bytes()),
-            byte,
-        }),
-        TokenKind::Text => Ok(Terminal {
-            class: Class::Quoted,
-            text: unquote(alloc, spelling)?,
-            number: 0,
-            byte,
-        }),
-        TokenKind::Sign => plain(alloc, sign_of(spelling.as_bytes()), byte),
+        TokenKind::Word => {
+            let name = &text[start..end];
+            word(alloc, name, byte)
+        }
+        TokenKind::Number => {
+            let digits = &bytes[start..end];
+            Ok(Terminal {
+                class: Class::Number,
+                text: Text::from_str(alloc, "")?,
+                number: number_of(digits),
+                byte,
+            })
+        }
+        TokenKind::Text => {
+            let quoted = &text[start..end];
+            Ok(Terminal {
+                class: Class::Quoted,
+                text: unquote(alloc, quoted)?,
+                number: 0,
+                byte,
+            })
+        }
+        TokenKind::Sign => {
+            let sign = &bytes[start..end];
+            plain(alloc, sign_class(sign), byte)
+        }
     }
 }
 
@@ -179,8 +185,13 @@ pub fn read_token(alloc: Global, line: &Text, token: &Token) -> Result<Terminal,
     ensures said { IfOk result (λ t. t ≡ terminal_of line.now token.now) }
     ensures small { IfOk result (λ t. t.number < 10 ^ 38) }
 {
-    let spelling = &line.as_str()[token.start as usize..token.end as usize];
-    read_spelling(alloc, spelling, token.kind, token.start + 1)
+    read_between(
+        alloc,
+        line,
+        token.kind,
+        token.start as usize,
+        token.end as usize,
+    )
 }
 
 /// What the tokens of the line say, in their order. Cost: linear in the line.
@@ -213,9 +224,9 @@ pub fn line_terminals(alloc: Global, line: &Text) -> Result<TerminalScan, NoMemo
     let mut at = 0;
     'each: loop {
         match next_token(line.as_bytes(), at) {
-            Next::Token(token) => {
-                list.push(read_token(alloc, line, &token)?)?;
-                at = token.end as usize;
+            Next::Token(kind, start, end) => {
+                list.push(read_between(alloc, line, kind, start, end)?)?;
+                at = end;
             }
             Next::End(stopped) => return Ok(TerminalScan { list, stopped }),
         }

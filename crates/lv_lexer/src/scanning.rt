@@ -5,8 +5,8 @@ ghost use Rattle.lv_lexer.specs.declared.token.Token.{Token};
 ghost use Rattle.lv_lexer.specs.Next.{IsNext};
 ghost use Rattle.lv_lexer.specs.Scan.{Scans, IsTokenOf, AreInOrder, is_over};
 
-use crate::pieces::{blanks_len, piece};
-use crate::token::{Scan, Token, Tokens};
+use crate::pieces::{blanks_end, piece};
+use crate::token::{Scan, Token, TokenKind, Tokens};
 use lv_values::{NoMemory, Text};
 use std::alloc::Global;
 
@@ -23,8 +23,8 @@ fn is_over(bytes: &[u8]) -> bool
 
 /// What comes next in a line.
 pub(crate) enum Next {
-    /// A token.
-    Token(Token),
+    /// A token of this kind, from this byte up to that one, without it.
+    Token(TokenKind, usize, usize),
     /// No token: the line is over, or what stands at this byte is none.
     End(Option<u32>),
 }
@@ -35,18 +35,14 @@ pub(crate) fn next_token(line: &[u8], at: usize) -> Next
     requires at { at ≤ length line.now }
     ensures { IsNext line.now at result }
 {
-    let start = at + blanks_len(&line[at..]);
+    let start = blanks_end(line, at);
     let rest = &line[start..];
     if is_over(rest) {
         return Next::End(None);
     }
     match piece(rest) {
         None => Next::End(Some(start as u32)),
-        Some((kind, len)) => Next::Token(Token {
-            kind,
-            start: start as u32,
-            end: (start + len) as u32,
-        }),
+        Some((kind, len)) => Next::Token(kind, start, start + len),
     }
 }
 
@@ -60,9 +56,13 @@ fn scan(alloc: Global, line: &[u8]) -> Result<Scan, NoMemory>
     let mut at = 0;
     'each: loop {
         match next_token(line, at) {
-            Next::Token(token) => {
-                list.push(token)?;
-                at = token.end as usize;
+            Next::Token(kind, start, end) => {
+                list.push(Token {
+                    kind,
+                    start: start as u32,
+                    end: end as u32,
+                })?;
+                at = end;
             }
             Next::End(stopped) => return Ok(Scan { list, stopped }),
         }
