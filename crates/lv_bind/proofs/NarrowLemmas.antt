@@ -114,3 +114,11 @@ pub narrow_pushed : (tables : List TableDef) (views : List ViewDef) (old new : L
     → AreNarrow (map (alias_seen tables views) old) → AreNarrow (map (alias_seen tables views) new)
 narrow_pushed tables views old new s sound n h =
     rw (n, map-append (alias_seen tables views) old (s ∷ [])) (push_narrow (map (alias_seen tables views) old) (alias_seen tables views s) h (rel_narrow tables views sound s.rel))
+
+-- one alias alone
+pub narrow_one : (tables : List TableDef) (views : List ViewDef) (s : Source) → IsSchema tables views → AreNarrow (alias_seen tables views s ∷ [])
+narrow_one tables views s sound = (rel_narrow tables views sound s.rel, tt)
+
+-- few aliases
+pub narrow_few : (tables : List TableDef) (views : List ViewDef) (xs : List Source) → length xs ≤ 4 → AreNarrow (map (alias_seen tables views) xs) → IsNarrow (map (alias_seen tables views) xs)
+narrow_few tables views xs few narrow = record { few = rw (length-map xs (alias_seen tables views)) few; narrow = narrow }

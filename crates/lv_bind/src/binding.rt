@@ -1,17 +1,16 @@
 //! The bound statement: names are numbers.
 ghost use Rattle.std.specs.Prelude.{◌≡◌, ◌++◌, map, IfOk, OnOk};
-ghost use Rattle.lv_bind.specs.Binding.{IsNarrow, bound_col, bound_literal, bound_side, bound_op, bound_cond, bound_rows, bound_value, bound_set, bound_order, columns_from, bound_list, bound_rels, table_number};
+ghost use Rattle.lv_bind.specs.Binding.{IsNarrow, bound_col, bound_literal, bound_side, bound_op, bound_cond, bound_rows, bound_value, bound_set, bound_order, columns_from, bound_list, rel_of, table_number};
 ghost use Rattle.std.specs.List.{range_with_len};
 ghost use Rattle.lv_bind.specs.Seen.{aliases, column_seen};
 
 use crate::pieces::Mention;
-use crate::sources::{Scope, place_of};
+use crate::sources::{Scope, Source, place_of};
 use lv_parser::{
-    Assign, AssignValue, ColName, ColNames, CondTree, Literal, OperandTree, RefTree, Sign, Tuple,
+    Assign, AssignValue, ColName, ColNames, CondTree, Literal, OperandTree, Sign, Tuple,
 };
 use lv_schema::{
-    Col, Cols, Cond, Conds, Op, Operand, OrderCol, OrderCols, Rel, Rels, Schema, Set, SetValue,
-    Sets,
+    Col, Cols, Cond, Conds, Op, Operand, OrderCol, OrderCols, Rel, Rels, Set, SetValue, Sets,
 };
 use lv_values::{Boxed, Copying, Items, NoMemory, Row, Rows, Value};
 use std::alloc::Global;
@@ -29,7 +28,7 @@ pub(crate) fn bound_col(scope: &Scope<'_>, column: Mention<'_>) -> Col
     }
 }
 
-fn bound_literal(alloc: Global, value: &Value) -> Result<Operand, NoMemory>
+pub(crate) fn bound_literal(alloc: Global, value: &Value) -> Result<Operand, NoMemory>
     ensures { IfOk result (λ operand. operand ≡ bound_literal value.now) }
 {
     match value {
@@ -48,7 +47,7 @@ fn bound_side(alloc: Global, scope: &Scope<'_>, side: &OperandTree) -> Result<Op
     }
 }
 
-fn bound_op(sign: Sign) -> Op
+pub(crate) fn bound_op(sign: Sign) -> Op
     ensures { result ≡ bound_op sign }
 {
     match sign {
@@ -203,7 +202,7 @@ fn push_each(alias: u8, width: u8, out: &mut Cols) -> Result<(), NoMemory>
 
 /// All columns of all aliases, which `*` lists.
 #[tactic(auto, using(crate::proofs::NarrowLemmas::narrow_width))]
-fn every_col(alloc: Global, scope: &Scope<'_>) -> Result<Cols, NoMemory>
+pub(crate) fn every_col(alloc: Global, scope: &Scope<'_>) -> Result<Cols, NoMemory>
     requires { IsNarrow (aliases scope.now) }
     ensures { IfOk result (λ cols. cols ≡ columns_from 0 (aliases scope.now)) }
 {
@@ -229,13 +228,13 @@ pub(crate) fn bound_list(
     }
 }
 
-/// What the aliases of a FROM stand for.
-pub(crate) fn bound_rels(alloc: Global, schema: &Schema, refs: &[RefTree]) -> Result<Rels, NoMemory>
-    ensures { IfOk result (λ rels. rels ≡ bound_rels schema.now.tables schema.now.views refs.now) }
+/// What the aliases stand for.
+pub(crate) fn bound_rels(alloc: Global, sources: &[Source<'_>]) -> Result<Rels, NoMemory>
+    ensures { IfOk result (λ rels. rels ≡ map (λ s. rel_of s.rel) sources.now) }
 {
     let mut out = Rels::new(alloc);
-    for table in refs {
-        out.push(schema.find(&table.name.name).unwrap_or(Rel::Table(0)))?;
+    for source in sources {
+        out.push(source.rel.unwrap_or(Rel::Table(0)))?;
     }
     Ok(out)
 }

@@ -1,5 +1,5 @@
 //! The aliases of a statement, and where a column that it names is.
-ghost use Rattle.std.specs.Prelude.{◌≡◌, ◌++◌, ◌∷◌, [], map, position, slice_index_or, OnOk, IfOk};
+ghost use Rattle.std.specs.Prelude.{◌≡◌, ◌++◌, ◌∷◌, [], map, position, slice_index_or, OnOk, IfOk, IfSome};
 ghost use Rattle.std.specs.Str.{bytes_eq};
 ghost use Rattle.std.specs.Option.{option_copied};
 ghost use Rattle.lv_bind.specs.Rels.{rels_in, rels_of};
@@ -115,6 +115,33 @@ pub(crate) fn sources<'a>(
         _ => (),
     }
     Ok(out)
+}
+
+/// The alias of a statement that changes this table, or that reads one table or view; none for other statements. Cost: a
+/// look-up of the name in FROM.
+pub(crate) fn one_source<'a>(
+    schema: &Schema,
+    target: Option<Rel>,
+    stmt: &'a Stmt,
+) -> Option<Source<'a>>
+    requires { target ≡ target_of schema.now.tables schema.now.views stmt.now }
+    ensures is { IfSome result (λ s. alias_seen schema.now.tables schema.now.views s ∷ [] ≡ sources_of schema.now.tables schema.now.views stmt.now) }
+    ensures rels { IfSome result (λ s. s.rel ∷ [] ≡ rels_of schema.now.tables schema.now.views stmt.now) }
+{
+    match stmt {
+        Stmt::Update { table, .. } | Stmt::Delete { table, .. } => Some(Source {
+            alias: &table.name,
+            rel: target,
+        }),
+        Stmt::Select { refs, .. } => match refs.as_slice() {
+            [table] => Some(Source {
+                alias: &alias_of(table).name,
+                rel: schema.find(&table.name.name),
+            }),
+            _ => None,
+        },
+        _ => None,
+    }
 }
 
 /// Where a column is: the number of its alias, and its number there.
@@ -310,8 +337,8 @@ fn place_in(
     })
 }
 
-/// What a column fits among the aliases. Cost: a look-up among the columns of each.
-pub(crate) fn resolve(scope: &Scope<'_>, column: Mention<'_>) -> Fit
+/// What a column fits among the aliases, each of which is looked at.
+fn resolve_among(scope: &Scope<'_>, column: Mention<'_>) -> Fit
     ensures { result ≡ fit_of (places (aliases scope.now) (column_seen column.entry)) }
 {
     let mut found = None;
@@ -330,9 +357,21 @@ pub(crate) fn resolve(scope: &Scope<'_>, column: Mention<'_>) -> Fit
     }
 }
 
-/// Where a column is, once it fits one place; else where it fits first, or at the first place of all. Cost: a look-up
-/// among the columns of each alias, up to the one that it fits.
-pub(crate) fn place_of(scope: &Scope<'_>, column: Mention<'_>) -> Place
+/// What a column fits among the aliases, of which there is mostly one. Cost: a look-up among the columns of each.
+pub(crate) fn resolve(scope: &Scope<'_>, column: Mention<'_>) -> Fit
+    ensures { result ≡ fit_of (places (aliases scope.now) (column_seen column.entry)) }
+{
+    match scope.sources {
+        [source] => match place_in(scope.schema, 0, source, column) {
+            None => Fit::Nothing,
+            Some(place) => Fit::One(place),
+        },
+        _ => resolve_among(scope, column),
+    }
+}
+
+/// Where a column fits first, or the first place of all. Each alias is looked at, up to the one that it fits.
+fn place_among(scope: &Scope<'_>, column: Mention<'_>) -> Place
     ensures { result ≡ place_of (aliases scope.now) (column_seen column.entry) }
 {
     for (number, source) in scope.sources.iter().enumerate() {
@@ -343,5 +382,22 @@ pub(crate) fn place_of(scope: &Scope<'_>, column: Mention<'_>) -> Place
     Place {
         alias: 0,
         column: 0,
+    }
+}
+
+/// Where a column is, once it fits one place; else where it fits first, or at the first place of all. Cost: a look-up
+/// among the columns of each alias, up to the one that it fits.
+pub(crate) fn place_of(scope: &Scope<'_>, column: Mention<'_>) -> Place
+    ensures { result ≡ place_of (aliases scope.now) (column_seen column.entry) }
+{
+    match scope.sources {
+        [source] => match place_in(scope.schema, 0, source, column) {
+            None => Place {
+                alias: 0,
+                column: 0,
+            },
+            Some(place) => place,
+        },
+        _ => place_among(scope, column),
     }
 }

@@ -1,25 +1,25 @@
 //! Binding of a statement.
-ghost use Rattle.std.specs.Prelude.{◌≡◌, ◌∷◌, map, IfOk, None, Ok, Err};
+ghost use Rattle.std.specs.Prelude.{◌≡◌, ◌∷◌, [], Bool, map, IfOk, OnOk, None, Ok, Err};
 ghost use Rattle.lv_bind.specs.Binding.{IsNarrow, IsSmallTable, IsSmallView, bound_among};
 ghost use Rattle.lv_bind.specs.Faults.{lowest, reading_faults, profile_fault, later_faults, bound_of};
 ghost use Rattle.lv_bind.specs.Rels.{rels_of};
-ghost use Rattle.lv_bind.specs.Seen.{aliases, tables_of, views_of};
+ghost use Rattle.lv_bind.specs.Seen.{alias_seen, aliases, tables_of, views_of};
 ghost use Rattle.lv_bind.specs.Spoken.{IsSpoken};
 ghost use Rattle.lv_schema.specs.Bound.{IsBound};
 ghost use Rattle.lv_bind.specs.Sources.{AreNarrow, sources_of, target_of};
 ghost use Rattle.lv_schema.specs.declared.fault.Fault.{Fault};
 
+use crate::at_once::{Stop, bound_at_once};
 use crate::binding::{
     bound_cond, bound_list, bound_order, bound_rels, bound_rows, bound_sets, table_number,
 };
 use crate::creating::{bound_table, bound_view};
-use crate::faultless::is_faultless;
 use crate::pieces::{columns_in, comparisons_in};
 use crate::profile::profile;
 use crate::refusals::{later_fault, reading_fault};
-use crate::sources::{Scope, sources, target};
+use crate::sources::{Scope, Source, one_source, sources, target};
 use lv_parser::Stmt;
-use lv_schema::{Bound, Change, Fault, Query, Schema};
+use lv_schema::{Bound, Change, Fault, Query, Rel, Schema};
 use lv_values::NoMemory;
 use std::alloc::Global;
 use thiserror::Error;
@@ -47,10 +47,12 @@ impl From<NoMemory> for BindFault {
 }
 
 /// What a statement with these aliases is bound to, once none of the faults 2 to 6 refuses it.
+#[tactic(auto, using(crate::proofs::SourceLemmas::rels_bound))]
 fn bound_among(alloc: Global, scope: &Scope<'_>, stmt: &Stmt) -> Result<Bound, NoMemory>
     requires narrow { IsNarrow (aliases scope.now) }
     requires small { IsSmallTable stmt.now }
     requires target { scope.now.target ≡ target_of (tables_of scope.now) (views_of scope.now) stmt.now }
+    requires rels { map (λ s. s.rel) scope.now.sources.now ≡ rels_of (tables_of scope.now) (views_of scope.now) stmt.now }
     ensures { IfOk result (λ b. b ≡ bound_among (tables_of scope.now) (views_of scope.now) (aliases scope.now) stmt.now) }
 {
     match stmt {
@@ -91,11 +93,11 @@ fn bound_among(alloc: Global, scope: &Scope<'_>, stmt: &Stmt) -> Result<Bound, N
         })),
         Stmt::Select {
             list,
-            refs,
             cond,
             order,
+            ..
         } => Ok(Bound::Query(Query {
-            rels: bound_rels(alloc, scope.schema, refs.as_slice())?,
+            rels: bound_rels(alloc, scope.sources)?,
             cond: bound_cond(alloc, scope, cond)?,
             list: bound_list(alloc, scope, list)?,
             order: bound_order(alloc, scope, order.as_slice())?,
@@ -107,17 +109,12 @@ fn bound_among(alloc: Global, scope: &Scope<'_>, stmt: &Stmt) -> Result<Bound, N
     }
 }
 
-/// The lowest of the faults 2 to 6 of a statement with these aliases. They are searched only where one look does not show
-/// that there is none.
+/// The lowest of the faults 2 to 6 of a statement with these aliases.
 fn early_fault(alloc: Global, scope: &Scope<'_>, stmt: &Stmt) -> Result<Option<Fault>, NoMemory>
     requires sources { aliases scope.now ≡ sources_of (tables_of scope.now) (views_of scope.now) stmt.now }
     requires target { scope.now.target ≡ target_of (tables_of scope.now) (views_of scope.now) stmt.now }
-    requires rels { map (λ s. s.rel) scope.now.sources.now ≡ rels_of (tables_of scope.now) (views_of scope.now) stmt.now }
     ensures { IfOk result (λ found. found ≡ lowest (reading_faults (tables_of scope.now) (views_of scope.now) stmt.now)) }
 {
-    if is_faultless(scope, stmt) {
-        return Ok(None);
-    }
     let comparisons = comparisons_in(alloc, stmt)?;
     let columns = columns_in(alloc, stmt, comparisons.as_slice())?;
     reading_fault(
@@ -149,9 +146,42 @@ fn late_fault(
     later_fault(alloc, scope, setup, live, stmt, bound)
 }
 
-/// Binds a statement with these aliases, which none of the faults 2 to 6 refuses.
-#[tactic(auto, using(crate::proofs::FaultLemmas::small_table))]
-fn bind_readable(
+/// What a statement with these aliases is bound to, unless one of the faults 2 to 6, which are searched, refuses it.
+fn bound_searched(alloc: Global, scope: &Scope<'_>, stmt: &Stmt) -> Result<Bound, BindFault>
+    requires sources { aliases scope.now ≡ sources_of (tables_of scope.now) (views_of scope.now) stmt.now }
+    requires narrow { AreNarrow (aliases scope.now) }
+    requires target { scope.now.target ≡ target_of (tables_of scope.now) (views_of scope.now) stmt.now }
+    requires rels { map (λ s. s.rel) scope.now.sources.now ≡ rels_of (tables_of scope.now) (views_of scope.now) stmt.now }
+    ensures bound { IfOk result (λ b. b ≡ bound_among (tables_of scope.now) (views_of scope.now) (aliases scope.now) stmt.now) }
+    ensures readable { OnOk result (lowest (reading_faults (tables_of scope.now) (views_of scope.now) stmt.now) ≡ None) }
+    ensures refused { (setup live : Bool) (fault : Fault) → result ≡ Err (BindFault.Stmt fault) → bound_of (tables_of scope.now) (views_of scope.now) setup live stmt.now ≡ Err fault }
+{
+    match early_fault(alloc, scope, stmt)? {
+        Some(fault) => Err(BindFault::Stmt(fault)),
+        None => Ok(bound_among(alloc, scope, stmt)?),
+    }
+}
+
+/// What a statement with these aliases is bound to, unless one of the faults 2 to 6 refuses it. They are searched only
+/// where one look does not show that there is none.
+fn bound_readable(alloc: Global, scope: &Scope<'_>, stmt: &Stmt) -> Result<Bound, BindFault>
+    requires sources { aliases scope.now ≡ sources_of (tables_of scope.now) (views_of scope.now) stmt.now }
+    requires narrow { AreNarrow (aliases scope.now) }
+    requires target { scope.now.target ≡ target_of (tables_of scope.now) (views_of scope.now) stmt.now }
+    requires rels { map (λ s. s.rel) scope.now.sources.now ≡ rels_of (tables_of scope.now) (views_of scope.now) stmt.now }
+    ensures bound { IfOk result (λ b. b ≡ bound_among (tables_of scope.now) (views_of scope.now) (aliases scope.now) stmt.now) }
+    ensures readable { OnOk result (lowest (reading_faults (tables_of scope.now) (views_of scope.now) stmt.now) ≡ None) }
+    ensures refused { (setup live : Bool) (fault : Fault) → result ≡ Err (BindFault.Stmt fault) → bound_of (tables_of scope.now) (views_of scope.now) setup live stmt.now ≡ Err fault }
+{
+    match bound_at_once(alloc, scope, stmt) {
+        Ok(bound) => Ok(bound),
+        Err(Stop::NoMemory) => Err(BindFault::NoMemory),
+        Err(Stop::Doubt) => bound_searched(alloc, scope, stmt),
+    }
+}
+
+/// Binds a statement with these aliases.
+fn bind_among(
     alloc: Global,
     scope: &Scope<'_>,
     setup: bool,
@@ -161,15 +191,42 @@ fn bind_readable(
     requires sources { aliases scope.now ≡ sources_of (tables_of scope.now) (views_of scope.now) stmt.now }
     requires narrow { AreNarrow (aliases scope.now) }
     requires target { scope.now.target ≡ target_of (tables_of scope.now) (views_of scope.now) stmt.now }
-    requires readable { lowest (reading_faults (tables_of scope.now) (views_of scope.now) stmt.now) ≡ None }
+    requires rels { map (λ s. s.rel) scope.now.sources.now ≡ rels_of (tables_of scope.now) (views_of scope.now) stmt.now }
     ensures found { IfOk result (λ b. bound_of (tables_of scope.now) (views_of scope.now) setup live stmt.now ≡ Ok b) }
     ensures refused { (fault : Fault) → result ≡ Err (BindFault.Stmt fault) → bound_of (tables_of scope.now) (views_of scope.now) setup live stmt.now ≡ Err fault }
 {
-    let bound = bound_among(alloc, scope, stmt)?;
+    let bound = bound_readable(alloc, scope, stmt)?;
     match late_fault(alloc, scope, setup, live, stmt, &bound)? {
         Some(fault) => Err(BindFault::Stmt(fault)),
         None => Ok(bound),
     }
+}
+
+/// Binds a statement with this one alias. Cost: no list of aliases is made.
+#[tactic(auto, using(crate::proofs::NarrowLemmas::narrow_one))]
+fn bind_one(
+    alloc: Global,
+    schema: &Schema,
+    target: Option<Rel>,
+    source: Source<'_>,
+    setup: bool,
+    live: bool,
+    stmt: &Stmt,
+) -> Result<Bound, BindFault>
+    requires source { alias_seen schema.now.tables schema.now.views source ∷ [] ≡ sources_of schema.now.tables schema.now.views stmt.now }
+    requires target { target ≡ target_of schema.now.tables schema.now.views stmt.now }
+    requires rels { source.rel ∷ [] ≡ rels_of schema.now.tables schema.now.views stmt.now }
+    ensures found { IfOk result (λ b. bound_of schema.now.tables schema.now.views setup live stmt.now ≡ Ok b) }
+    ensures refused { (fault : Fault) → result ≡ Err (BindFault.Stmt fault) → bound_of schema.now.tables schema.now.views setup live stmt.now ≡ Err fault }
+{
+    let _tables = schema.tables();
+    let sources = [source];
+    let scope = Scope {
+        schema,
+        target,
+        sources: &sources,
+    };
+    bind_among(alloc, &scope, setup, live, stmt)
 }
 
 /// Binds a statement against a schema, for the setup or for another session, with a live transaction or without one: its
@@ -197,14 +254,14 @@ pub fn bind(
 {
     let _tables = schema.tables();
     let target = target(schema, stmt);
+    if let Some(source) = one_source(schema, target, stmt) {
+        return bind_one(alloc, schema, target, source, setup, live, stmt);
+    }
     let found = sources(alloc, schema, target, stmt)?;
     let scope = Scope {
         schema,
         target,
         sources: found.as_slice(),
     };
-    match early_fault(alloc, &scope, stmt)? {
-        Some(fault) => Err(BindFault::Stmt(fault)),
-        None => bind_readable(alloc, &scope, setup, live, stmt),
-    }
+    bind_among(alloc, &scope, setup, live, stmt)
 }

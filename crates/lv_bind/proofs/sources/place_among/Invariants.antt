@@ -1,7 +1,7 @@
 use Rattle.std.proofs.Common.{◌≡◌, map, drop}
 use Rattle.lv_bind.specs.Seen.{alias_seen, aliases, column_seen, tables_of, views_of}
 use Rattle.lv_bind.specs.Sources.{first, places, places_from}
-use Rattle.lv_bind.proofs.sources.place_of.Given as goal
+use Rattle.lv_bind.proofs.sources.place_among.Given as goal
 
 abbrev pub invariant-loop-number : goal.invariant-loop-number
 invariant-loop-number l =

@@ -1,9 +1,0 @@
-use Rattle.std.proofs.Common.{◌≡◌, drop}
-use Rattle.std.specs.List.{list_all}
-use Rattle.lv_bind.specs.Faultless.{assign_is_sound}
-use Rattle.lv_bind.specs.Seen.{aliases}
-use Rattle.lv_bind.proofs.faultless.are_sound_assigns.Given as goal
-
-abbrev pub invariant-loop-assign : goal.invariant-loop-assign
-invariant-loop-assign l =
-    list_all (assign_is_sound (aliases l.scope)) (drop l.assign-index l.sets) ≡ list_all (assign_is_sound (aliases l.scope)) l.sets
