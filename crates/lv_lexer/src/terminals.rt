@@ -85,14 +85,14 @@ pub enum Class {
 /// A token with its class, what it says, and the place of its first byte in the line, from 1.
 #[derive(Drop)]
 pub struct Terminal {
-    /// The class.
-    pub class: Class,
-    /// A name in lower case, or what stands between the quotes of a text, two quotes being one; else empty.
-    pub text: Text,
     /// The value of a number; else 0.
     pub number: u128,
+    /// A name in lower case, or what stands between the quotes of a text, two quotes being one; else empty.
+    pub text: Text,
     /// The place.
     pub byte: u32,
+    /// The class.
+    pub class: Class,
 }
 
 /// Tokens as a grammar sees them, in their order.
