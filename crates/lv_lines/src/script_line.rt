@@ -6,6 +6,7 @@ ghost use Rattle.lv_values.specs.Names as names;
 ghost use Rattle.lv_lines.specs.ScriptLine as spec;
 
 use lv_values::NoMemory;
+use memchr::memchr;
 use std::alloc::Global;
 
 /// The line without the carriage return at its end.
@@ -19,11 +20,15 @@ pub(crate) fn without_return(line: &[u8]) -> &[u8]
 }
 
 /// How many bytes stand before the first line feed.
+#[tactic(auto, using(crate::proofs::Feeds::met, crate::proofs::Feeds::not_met))]
 fn piece_len(bytes: &[u8]) -> usize
     ensures value { result ≡ spec.piece_len bytes.now }
     ensures within { result ≤ length bytes.now }
 {
-    bytes.iter().take_while(|byte| **byte != b'\n').count()
+    match memchr(b'\n', bytes) {
+        Some(at) => at,
+        None => bytes.len(),
+    }
 }
 
 /// The first piece of the bytes, and what stands behind its line feed. There is a byte.

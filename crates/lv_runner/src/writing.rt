@@ -46,7 +46,7 @@ impl From<Failed> for Stop {
 }
 
 /// How many bytes the text of most entries has at most.
-const SHORT: usize = 64;
+const SHORT: usize = 256;
 
 /// The text of the last entry, none where there is no entry.
 fn last_text<D: Disk>(alloc: Global, core: &Core<D>, names: &Names) -> Result<Bytes, NoMemory>
