@@ -23,16 +23,16 @@ pub(crate) struct Touches<'a> {
 }
 
 impl<'a> Touches<'a> {
-    /// No touches. It takes no memory.
-    fn new(alloc: Global) -> Touches<'a>
-        ensures list { result.list.items ≡ [] }
-        ensures ascend { result.ascend ≡ true }
+    /// No touches, with room for so many, which is taken once.
+    fn with_room(alloc: Global, room: usize) -> Result<Touches<'a>, NoMemory>
+        ensures list { IfOk result (λ touches. touches.list.items ≡ []) }
+        ensures ascend { IfOk result (λ touches. touches.ascend ≡ true) }
     {
-        Touches {
-            list: Vec::new(alloc),
+        Ok(Touches {
+            list: Vec::with_capacity(alloc, room)?,
             ascend: true,
             latest: 0,
-        }
+        })
     }
 
     /// Ends a touch of a key with a later touch of it.
@@ -157,7 +157,23 @@ fn last_of<'a>(touches: &[Touch<'a>], touch: &Touch<'a>) -> Option<usize>
     }
 }
 
-/// The touches of a table by the actions of entries.
+/// How many of the entries are of actions on a table: so many touches there are at most.
+fn count_of(table: u32, entries: &[DeltaEntry]) -> usize {
+    entries
+        .iter()
+        .filter(|entry| entry.action.table == table)
+        .count()
+}
+
+/// How many of the actions are on a table.
+fn count_in(table: u32, actions: &[Action]) -> usize {
+    actions
+        .iter()
+        .filter(|action| action.table == table)
+        .count()
+}
+
+/// The touches of a table by the actions of entries. Their list takes its room once.
 pub(crate) fn touches_of<'a>(
     alloc: Global,
     table: &'a TableDef,
@@ -166,7 +182,8 @@ pub(crate) fn touches_of<'a>(
     ensures alike { IfOk result (λ touches. Alike touches.list.items (touched table.now.key table.now.no (map (λ (e : DeltaEntry). e.action) entries.now))) }
     ensures ascend { IfOk result (λ touches. touches.ascend ≡ true → Ascends touch_cmp touches.list.items) }
 {
-    let mut touches = Touches::new(alloc);
+    let room = count_of(table.no, entries);
+    let mut touches = Touches::with_room(alloc, room)?;
     for entry in entries {
         if table.no == entry.action.table {
             touches.add(Touch::by(table.key.as_slice(), &entry.action))?;
@@ -175,7 +192,7 @@ pub(crate) fn touches_of<'a>(
     Ok(touches)
 }
 
-/// The touches of a table by actions.
+/// The touches of a table by actions. Their list takes its room once.
 pub(crate) fn touches_in<'a>(
     alloc: Global,
     table: &'a TableDef,
@@ -184,7 +201,8 @@ pub(crate) fn touches_in<'a>(
     ensures alike { IfOk result (λ touches. Alike touches.list.items (touched table.now.key table.now.no actions.now)) }
     ensures ascend { IfOk result (λ touches. touches.ascend ≡ true → Ascends touch_cmp touches.list.items) }
 {
-    let mut touches = Touches::new(alloc);
+    let room = count_in(table.no, actions);
+    let mut touches = Touches::with_room(alloc, room)?;
     for action in actions {
         if table.no == action.table {
             touches.add(Touch::by(table.key.as_slice(), action))?;

@@ -3,6 +3,8 @@
 
 mod collecting;
 mod condensing;
+mod net_rows;
 mod touch;
 
-pub use condensing::{condense, condense_actions};
+pub use condensing::{condense, condense_actions, condense_in_place};
+pub use net_rows::NetRows;

@@ -1,15 +1,19 @@
-use Rattle.std.proofs.Common.{List, ◌++◌, [], ap, ◌∙◌, arith}
+use Rattle.std.proofs.Common.{List, ◌++◌, [], map, Bor, ap, ◌∙◌, arith}
 use Rattle.std.specs.List.{cons_option}
 use Rattle.lv_values.specs.declared.value.Value.{Value}
 use Rattle.lv_condense.specs.Touches.{by_key, gained_in, lost_in}
 use Rattle.lv_condense.proofs.Runs.{ascends_from, Falls, gather_step, rises_on, run_falls}
 use Rattle.lv_condense.proofs.condensing.gather.Goals as goal
 
+-- the rows that references see
+abbrev seen : List (Bor (List Value)) → List (List Value)
+seen rows = map (λ row. row.now) rows
+
 pub loop-at-init : goal.loop-at-init
 loop-at-init c = record {
   within = omega arith;
-  lost = ap (λ (l : List (List Value)). l ++ by_key lost_in c.args.touches.now) (c.from_vec.ensures ∙ c.in_ok-with_capacity.ensures.items);
-  gained = ap (λ (l : List (List Value)). l ++ by_key gained_in c.args.touches.now) (c.from_vec-2.ensures ∙ c.in_ok-with_capacity-2.ensures.items);
+  lost = ap (λ l. seen l ++ by_key lost_in c.args.touches.now) c.in_ok-minus.ensures.items;
+  gained = ap (λ l. seen l ++ by_key gained_in c.args.touches.now) c.in_ok-plus.ensures.items;
   rises = c.requires.rises;
 }
 
@@ -41,9 +45,9 @@ loop-at-preserved c =
     let within = (front c).within in
     record {
       within = omega (arith, c.split_at.ensures.back_len, within);
-      lost = gather_step lost_in c.args.touches.now es c.loop-at.at n c.loop-at.net.minus c.push_run.new.net.minus back (front c) c.loop-at.invariant.lost
-          (c.in_ok-push_run.ensures.lost ∙ ap (λ r. c.loop-at.net.minus ++ cons_option (lost_in r) []) c.split_at-in-loop-at.ensures.front);
-      gained = gather_step gained_in c.args.touches.now es c.loop-at.at n c.loop-at.net.plus c.push_run.new.net.plus back (front c) c.loop-at.invariant.gained
-          (c.in_ok-push_run.ensures.gained ∙ ap (λ r. c.loop-at.net.plus ++ cons_option (gained_in r) []) c.split_at-in-loop-at.ensures.front);
+      lost = gather_step lost_in c.args.touches.now es c.loop-at.at n (seen c.loop-at.minus.items) (seen c.push_run.new.minus.items) back (front c) c.loop-at.invariant.lost
+          (c.in_ok-push_run.ensures.lost ∙ ap (λ r. seen c.loop-at.minus.items ++ cons_option (lost_in r) []) c.split_at-in-loop-at.ensures.front);
+      gained = gather_step gained_in c.args.touches.now es c.loop-at.at n (seen c.loop-at.plus.items) (seen c.push_run.new.plus.items) back (front c) c.loop-at.invariant.gained
+          (c.in_ok-push_run.ensures.gained ∙ ap (λ r. seen c.loop-at.plus.items ++ cons_option (gained_in r) []) c.split_at-in-loop-at.ensures.front);
       rises = rises_on c.args.touches.now es c.loop-at.at n back (front c).rest;
     }

@@ -1,4 +1,4 @@
-use Rattle.std.proofs.Common.{◌≡◌, ◌-◌, ◌++◌, suc, [], length, sym, ap, ap₂, ◌∙◌, subst, arith}
+use Rattle.std.proofs.Common.{◌≡◌, ◌-◌, ◌++◌, suc, [], length, map, sym, ap, ap₂, ◌∙◌, subst, arith}
 use Rattle.std.specs.Prelude.{None, Option, List, OnOk}
 use Rattle.std.specs.List.{cons_option}
 use Rattle.lv_values.specs.declared.value.Value.{Value}
@@ -18,8 +18,8 @@ left c =
     ap (λ (x : ATouch). left_by x.last.kind x.last.row) c.last.view_is ∙ sym (left_last None c.args.run.now (length c.args.run.now - 1) c.index-run-run.result last c.index-run-run.is)
 
 pub returns-clause-lost : goal.returns-clause-lost
-returns-clause-lost c = on_ok c.push_gained.result _ (c.in_ok-push_lost.ensures ∙ ap (λ o. c.args.net.now.minus ++ cons_option o []) (ap₂ unless (found c) (left c)))
+returns-clause-lost c = on_ok c.push_gained.result _ (c.in_ok-push_lost.ensures ∙ ap (λ o. map (λ row. row.now) c.args.minus.now.items ++ cons_option o []) (ap₂ unless (found c) (left c)))
 
 pub returns-clause-gained : goal.returns-clause-gained
 returns-clause-gained c =
-    subst (λ (o : Option (List Value)). OnOk c.push_gained.result (c.push_gained.new.rows ≡ c.args.net.now.plus ++ cons_option o [])) (ap₂ unless (left c) (found c)) c.push_gained.ensures
+    subst (λ (o : Option (List Value)). OnOk c.push_gained.result (map (λ row. row.now) c.push_gained.new.rows.items ≡ map (λ row. row.now) c.args.plus.now.items ++ cons_option o [])) (ap₂ unless (left c) (found c)) c.push_gained.ensures
