@@ -5,6 +5,9 @@ use Rattle.std.specs.List.{list_any, AllByRecursion}
 use Rattle.lv_values.specs.declared.value.Value.{Value}
 use Rattle.lv_values.specs.Order.{row_eq}
 use Rattle.lv_values.specs.Rows.{values_at}
+use Rattle.lv_schema.specs.declared.action.Action.{Action}
+use Rattle.lv_schema.specs.declared.action.ActionKind.{ActionKind}
+use Rattle.lv_schema.specs.declared.action.ActionKind.TheVariants.{Insert, Delete}
 use Rattle.lv_schema.specs.declared.cond.Col.{Col}
 use Rattle.lv_schema.specs.declared.part.Part.{Part}
 use Rattle.lv_schema.specs.declared.table.TableDef.{TableDef}
@@ -56,6 +59,14 @@ AliasesKeepLinks links defs tables before after =
 -- aliases.
 abbrev pub KeepsLinks : List Link → List TableDef → List ℕ → Db → Db → Type 0
 KeepsLinks links defs tables before after = IsOfOneTable links tables ⊎ AliasesKeepLinks links defs tables before after
+
+-- whether a row goes, and whether an action takes a row of a table away
+abbrev pub is_delete : ActionKind → Bool
+is_delete Insert = false
+is_delete Delete = true
+
+abbrev pub takes_from : ℕ → Action → Bool
+takes_from table a = (table == a.table) && is_delete a.kind
 
 -- whether the rows of the one list have stand-ins among those of the other, in their order
 abbrev pub are_met : List ℕ → List ℕ → List (List Value) → List (List Value) → Bool

@@ -1,13 +1,14 @@
 //! Rows that stand for others: those of the same key with the same values in the linked columns.
-ghost use Rattle.std.specs.Prelude.{◌≡◌, ◌↔◌, ◌++◌, List, true, IfOk, OnOk};
+ghost use Rattle.std.specs.Prelude.{◌≡◌, ◌↔◌, ◌++◌, List, map, true, IfOk, OnOk};
 ghost use Rattle.lv_values.specs.declared.value.Value.{Value as AValue};
 ghost use Rattle.lv_values.specs.Rows.{key_cmp};
 ghost use Rattle.lv_schema.specs.Nets.{net_of};
 ghost use Rattle.lv_schema.specs.Once.{Ascends};
 ghost use Rattle.lv_joining.specs.Joining.{HaveStandIns, are_met, if_of, linked_columns, stands_for};
 
+use lv_condense::NetRows;
 use lv_reach::Link;
-use lv_schema::{Col, Net};
+use lv_schema::Col;
 use lv_values::{Bytes, NoMemory, Row, compare_keys};
 use std::alloc::Global;
 
@@ -42,12 +43,12 @@ fn stands_for(key: &[u8], columns: &[u8], row: &Row, new: &Row) -> bool
 }
 
 /// Whether the rows have stand-ins among the others, in their order. Cost: linear in both.
-fn are_met(key: &[u8], columns: &[u8], rows: &[Row], others: &[Row]) -> bool
-    ensures { result ≡ are_met key.now columns.now rows.now others.now }
+fn are_met(key: &[u8], columns: &[u8], rows: &[&Row], others: &[&Row]) -> bool
+    ensures { result ≡ are_met key.now columns.now (map (λ row. row.now) rows.now) (map (λ row. row.now) others.now) }
 {
     let mut met = 0;
     for new in others {
-        if met < rows.len() && stands_for(key, columns, &rows[met], new) {
+        if met < rows.len() && stands_for(key, columns, rows[met], new) {
             met += 1;
         }
     }
@@ -61,16 +62,11 @@ pub(crate) fn have_stand_ins(
     links: &[Link],
     alias: u8,
     key: &[u8],
-    net: &Net,
+    net: &NetRows<'_>,
 ) -> Result<bool, NoMemory>
     ensures { (before after : List (List AValue)) → Ascends (key_cmp key.now) before → Ascends (key_cmp key.now) after → net.now ≡ net_of before after
         → IfOk result (λ keeps. (keeps ≡ true) ↔ HaveStandIns key.now (linked_columns links.now alias) before after) }
 {
     let columns = linked_columns(alloc, links, alias)?;
-    Ok(are_met(
-        key,
-        columns.as_slice(),
-        net.minus.as_slice(),
-        net.plus.as_slice(),
-    ))
+    Ok(are_met(key, columns.as_slice(), net.minus(), net.plus()))
 }

@@ -1,32 +1,54 @@
 //! Steps that keep links, told from the committed states.
-ghost use Rattle.std.specs.Prelude.{◌≡◌, ◌↔◌, ◌<◌, ◌≤◌, Some, length, nat_lt, slice_get, true, IfOk};
-ghost use Rattle.std.specs.List.{list_all};
+ghost use Rattle.std.specs.Prelude.{◌≡◌, ◌↔◌, ◌<◌, ◌≤◌, Some, length, map, nat_lt, slice_get, true, IfOk};
+ghost use Rattle.std.specs.List.{list_all, list_any};
+ghost use Rattle.lv_schema.specs.declared.action.DeltaEntry.{DeltaEntry};
 ghost use Rattle.lv_schema.specs.Condensed.{condensed};
 ghost use Rattle.lv_schema.specs.Databases.{rows_of};
 ghost use Rattle.lv_schema.specs.World.{World, snap, table_at, view_at};
-ghost use Rattle.lv_stands.specs.Moves.{actions_kept};
-ghost use Rattle.lv_base.specs.Bases.{base_of, defs_of};
-ghost use Rattle.lv_joining.specs.Joining.{AliasesKeepLinks, HaveStandIns, IsOfOneTable, linked_columns};
+ghost use Rattle.lv_base.specs.Bases.{defs_of};
+ghost use Rattle.lv_joining.specs.Joining.{AliasesKeepLinks, HaveStandIns, IsOfOneTable, linked_columns, takes_from};
 ghost use Rattle.lv_joining.specs.Kept.{IsKeptStep, KeepsLinksBetween};
 
 use crate::stand_ins::have_stand_ins;
 use lv_base::Base;
-use lv_condense::condense;
+use lv_condense::{NetRows, condense_in_place};
 use lv_reach::{Link, links};
-use lv_schema::{Forced, Net, ViewDef};
+use lv_schema::{Action, ActionKind, DeltaEntry, Forced, ViewDef};
 use lv_values::NoMemory;
 use std::alloc::Global;
 
-/// The net change of a table in a step. Cost: the condensing of the entries between its commits.
-fn change_of(alloc: Global, base: &Base, table: u32, step: Forced) -> Result<Net, NoMemory>
-    requires { table < length base.now.tables }
-    ensures { IfOk result (λ net. net ≡ condensed (defs_of base.now) (actions_kept (base_of base.now).entries step.lo step.hi) table) }
+/// Whether an action takes a row of a table away.
+fn takes_from(table: u32, action: &Action) -> bool
+    ensures { result ≡ takes_from table action.now }
 {
-    let entries = base.deltas().between(step.lo, step.hi);
-    condense(alloc, base.versions(table).def(), entries)
+    table == action.table
+        && match action.kind {
+            ActionKind::Insert => false,
+            ActionKind::Delete => true,
+        }
 }
 
-/// Whether the rows of an alias keep links in a step.
+/// Whether one of the entries takes a row of a table away. Cost: a test of each entry up to the first that does.
+fn take_away(table: u32, entries: &[DeltaEntry]) -> bool
+    ensures { result ≡ list_any (λ (e : DeltaEntry). takes_from table e.action) entries.now }
+{
+    entries.iter().any(|entry| takes_from(table, &entry.action))
+}
+
+/// The rows of the net change that entries make of a table, where they lie. Cost: the condensing of the entries.
+fn change_of<'a>(
+    alloc: Global,
+    base: &'a Base,
+    table: u32,
+    entries: &'a [DeltaEntry],
+) -> Result<NetRows<'a>, NoMemory>
+    requires { table < length base.now.tables }
+    ensures { IfOk result (λ net. net ≡ condensed (defs_of base.now) (map (λ (e : DeltaEntry). e.action) entries.now) table) }
+{
+    condense_in_place(alloc, base.versions(table).def(), entries)
+}
+
+/// Whether the rows of an alias keep links in a step: where no entry takes a row of its table away, each stays.
 fn alias_keeps_links(
     alloc: Global,
     base: &Base,
@@ -39,7 +61,11 @@ fn alias_keeps_links(
     ensures { (w : World) → IsKeptStep w base.now step → slice_get (view_at w.visible.views step.view).tables alias ≡ Some table
         → IfOk result (λ keeps. (keeps ≡ true) ↔ HaveStandIns (table_at w.visible.tables table).key (linked_columns links.now alias) (rows_of (snap w.visible step.lo) table) (rows_of (snap w.visible step.hi) table)) }
 {
-    let net = change_of(alloc, base, table, step)?;
+    let entries = base.deltas().between(step.lo, step.hi);
+    if !take_away(table, entries) {
+        return Ok(true);
+    }
+    let net = change_of(alloc, base, table, entries)?;
     let def = base.versions(table).def();
     have_stand_ins(alloc, links, alias, def.key.as_slice(), &net)
 }
@@ -75,8 +101,8 @@ fn is_of_one_table(links: &[Link], def: &ViewDef) -> bool
 }
 
 /// Whether a step of a view keeps links: in each alias of the view no row goes for good, and none changes its values in
-/// the linked columns; each step of a view of one table does. Cost: for a view of one table constant, else for each alias the
-/// condensing of the entries between the step's commits.
+/// the linked columns; each step of a view of one table does. Cost: for a view of one table constant, else for each alias a
+/// test of the entries between the step's commits, and where one takes a row of its table away the condensing of them.
 pub fn step_keeps_links(
     alloc: Global,
     base: &Base,
