@@ -1,5 +1,5 @@
 -- An entry that goes to its place is put into the list; and where the last place is.
-use Rattle.std.proofs.Common.{◌≡◌, ℕ, zero, suc, ◌-◌, ◌<◌, ◌≤◌, true, false, List, [], ◌∷◌, ◌++◌, length, get_or, refl, sym, ap, ◌∙◌, subst, arith, add-one}
+use Rattle.std.proofs.Common.{◌≡◌, ℕ, zero, suc, ◌-◌, ◌<◌, ◌≤◌, true, false, List, [], ◌∷◌, ◌++◌, ◌+◌, drop, length, length-drop, get_or, refl, sym, ap, ◌∙◌, subst, arith, add-one}
 use Rattle.std.proofs.Math.ListN.{set}
 use Rattle.std.specs.Prelude.{slice_get}
 use Rattle.std.specs.List.{insert, AllByRecursion}
@@ -9,6 +9,7 @@ use Rattle.std.specs.declared.cmp.Ordering.{Ordering}
 use Rattle.std.specs.declared.cmp.Ordering.TheVariants.{Less, Equal, Greater}
 use Rattle.std.specs.FinMap.Entries.{by_order}
 use Rattle.std.proofs.lemmas.Cmp.{upto}
+use Rattle.std.proofs.lemmas.List.{drop_more}
 use Rattle.lv_values.specs.Order.{row_cmp, row_eq}
 use Rattle.lv_values.specs.OrderLaws.{row_total, row_exact}
 use Rattle.lv_schema.specs.declared.signed.SignedRow.{SignedRow}
@@ -184,3 +185,32 @@ place_from row list zero le h = all_from (λ (r : SignedRow). is_gt (row_cmp row
 place_from row [] (suc i) le h = absurd (omega arith)
 place_from row (r ∷ list) (suc i) le h =
     (h.0 0 r (omega arith) (omega arith), place_from row list i (omega arith) ((λ k d a b. h.0 (suc k) d (omega arith) (omega arith)), (λ k d a b. h.1 (suc k) d (omega arith) (omega arith))))
+
+-- ---- entries that rise
+all_above : (s r : SignedRow) (list : List SignedRow) → row_cmp s.row r.row ≡ Less → AllByRecursion (λ (q : SignedRow). row_cmp r.row q.row ≡ Less) list → AllByRecursion (λ (q : SignedRow). row_cmp s.row q.row ≡ Less) list
+all_above s r [] less a = tt
+all_above s r (q ∷ list) less a = (row_total.trans s.row r.row q.row less a.0, all_above s r list less a.1)
+
+pub rises_alone : (list : List SignedRow) (i : ℕ) → i + 1 ≡ length list → Rising (drop i list)
+rises_alone list i e = by (drop i list) (omega (arith, length-drop i list))
+  where
+    by : (rest : List SignedRow) → length rest ≡ 1 → Rising rest
+    by [] h = tt
+    by (s ∷ []) h = (tt, tt)
+    by (s ∷ r ∷ rest) h = absurd (let n = h in omega (arith, n))
+
+pub rises_on : (list : List SignedRow) (i : ℕ) (s r : SignedRow) → i + 1 < length list → s ≡ get_or list i s → r ≡ get_or list (i + 1) r → is_lt (row_cmp s.row r.row) ≡ true → Rising (drop (i + 1) list) → Rising (drop i list)
+rises_on list i s r lt here next less up =
+    let first : drop i list ≡ s ∷ drop (i + 1) list = drop_more list i s (omega (arith, lt)) ∙ ap (λ q. q ∷ drop (i + 1) list) (sym here) in
+    let second : drop (i + 1) list ≡ r ∷ drop (i + 1 + 1) list = drop_more list (i + 1) r lt ∙ ap (λ q. q ∷ drop (i + 1 + 1) list) (sym next) in
+    let above = subst Rising second up in
+    let is : row_cmp s.row r.row ≡ Less = lower (row_cmp s.row r.row) less in
+    subst Rising (sym (first ∙ ap (λ l. s ∷ l) second)) ((is, all_above s r (drop (i + 1 + 1) list) is above.0), above)
+  where
+    lower : (o : Ordering) → is_lt o ≡ true → o ≡ Less
+    lower Less h = refl
+    lower Equal h = cc
+    lower Greater h = cc
+
+pub entry_on : (list : List SignedRow) (i : ℕ) (s : SignedRow) → i < length list → s ≡ get_or list i s → (P : SignedRow → Type 0) → P s → AllByRecursion P (drop (i + 1) list) → AllByRecursion P (drop i list)
+entry_on list i s lt here P p rest = subst (AllByRecursion P) (sym (drop_more list i s lt ∙ ap (λ q. q ∷ drop (i + 1) list) (sym here))) (p, rest)

@@ -142,6 +142,10 @@ tallied_rising n (s ∷ list) up e = tallied_more n s list e.0 ∙ ap (put s) (t
     front s [] a = refl
     front s (r ∷ rs) a = λ i. by_order (a.0 i) (s ∷ r ∷ rs) (both_of s r ∷ rs) (r ∷ put s rs)
 
+pub entries_of_width : (n : ℕ) (list : List SignedRow) → AllByRecursion (λ (s : SignedRow). length s.sums ≡ n) list → AllByRecursion (λ (s : SignedRow). IsEntry (length s.sums) s) list → AllByRecursion (IsEntry n) list
+entries_of_width n [] wide e = tt
+entries_of_width n (s ∷ list) wide e = (subst (λ m. IsEntry m s) wide.0 e.0, entries_of_width n list wide.1 e.1)
+
 -- ---- numbers of 128 bits
 pub fits_all : (xs : List ℤ) → All (FitsSigned w128) xs → AllByRecursion (λ x. int_wrap w128 x ≡ x) xs
 fits_all xs h = weaker xs (recursion_from_All (FitsSigned w128) xs h)

@@ -1,13 +1,13 @@
 //! Signed rows added up.
-ghost use Rattle.std.specs.Prelude.{◌≡◌, ◌++◌, ◌-◌, pos, length, filter, slice_get, IfOk, OnOk};
-ghost use Rattle.std.specs.List.{list_all};
+ghost use Rattle.std.specs.Prelude.{◌≡◌, true, ◌++◌, ◌+◌, ◌-◌, ◌<◌, pos, drop, length, filter, slice_get, IfOk, OnOk};
+ghost use Rattle.std.specs.List.{AllByRecursion, list_all};
 ghost use Rattle.std.specs.List.Sorted.{IsPermutation, IsSortedByKey};
 ghost use Rattle.std.specs.Ordering.{int_eq};
 ghost use Rattle.lv_values.specs.Order.{row_cmp};
 ghost use Rattle.lv_schema.specs.Differences.{is_change};
 ghost use Rattle.lv_schema.specs.SignedRows.{netted};
 ghost use Rattle.lv_bags.specs.Bags.{HaveSums, CountsFit, width};
-ghost use Rattle.lv_bags.specs.Tallies.{AtMost, Rising, is_of, put, tallied};
+ghost use Rattle.lv_bags.specs.Tallies.{AtMost, IsEntry, Rising, is_of, put, tallied};
 
 use crate::adding::{both_of, is_at, is_entry};
 use lv_schema::{Signed, SignedRow};
@@ -48,12 +48,44 @@ fn put_last(list: &mut Vec<SignedRow>, s: SignedRow) -> Result<(), NoMemory>
     Ok(())
 }
 
-/// The entries of each row as one, of entries in the order of their rows. Cost: one pass.
+/// Whether an entry's row is below that of the next one, if there is one.
+fn is_below_next(list: &[SignedRow], at: usize) -> bool
+    requires { at < length list.now }
+    ensures { result ≡ true → Rising (drop (at + 1) list.now) → Rising (drop at list.now) }
+{
+    if at + 1 == list.len() {
+        return true;
+    }
+    list[at].row.cmp(&list[at + 1].row).is_lt()
+}
+
+/// Whether each entry's row is below that of the next one. Cost: a comparison for each entry from the last one on, up to
+/// the first that is not.
+fn rises(list: &[SignedRow]) -> bool
+    ensures rising { result ≡ true → Rising list.now }
+    ensures entries { result ≡ true → AllByRecursion (λ s. IsEntry (length s.sums) s) list.now }
+{
+    let mut at = list.len();
+    while at > 0 {
+        at -= 1;
+        is_entry(&list[at]);
+        if !is_below_next(list, at) {
+            return false;
+        }
+    }
+    true
+}
+
+/// The entries of each row as one, of entries in the order of their rows. Cost: one pass, and no memory where each row is
+/// there once.
 fn tally(alloc: Global, sorted: Vec<SignedRow>) -> Result<Vec<SignedRow>, NoMemory>
     requires sorted { IsSortedByKey (λ s. s.row) row_cmp sorted.items }
     requires sums { HaveSums (width sorted.items) sorted.items }
     ensures { IfOk result (λ out. out.items ≡ tallied (width sorted.items) sorted.items) }
 {
+    if rises(&sorted) {
+        return Ok(sorted);
+    }
     let mut out = Vec::new(alloc);
     for s in sorted {
         is_entry(&s);

@@ -1,4 +1,5 @@
 use Rattle.std.proofs.Common.{◌≡◌, ℕ, false, [], ◌∷◌, ◌++◌, length, sym, ap, ◌∙◌, subst, append_assoc}
+use Rattle.std.specs.List.{AllByRecursion}
 use Rattle.std.specs.Ordering.{is_gt}
 use Rattle.lv_values.specs.Order.{row_cmp}
 use Rattle.lv_schema.specs.declared.signed.SignedRow.{SignedRow}
@@ -7,8 +8,13 @@ use Rattle.lv_bags.specs.Bags.{HaveSums, width}
 use Rattle.lv_bags.specs.Tallies.{put, AtMost, IsEntry, Rising}
 use Rattle.lv_bags.proofs.AddedUp.{tally_rises, tally_rows, tally_has_sums, tallied_last}
 use Rattle.lv_bags.proofs.Placing.{climbs_from_sorted, most_before, one_of}
-use Rattle.lv_bags.proofs.Tallies.{tallied_more}
+use Rattle.lv_bags.proofs.Tallies.{entries_of_width, tallied_more, tallied_rising}
 use Rattle.lv_bags.proofs.netting.tally.Goals as goal
+
+pub returns-then-rises : goal.returns-then-rises
+returns-then-rises c =
+    let sorted = c.args.sorted.items in
+    sym (tallied_rising (width sorted) sorted (subst Rising c.deref.ensures.value (c.rises.ensures.rising c.if-rises.true)) (entries_of_width (width sorted) sorted c.requires.sums (subst (AllByRecursion (λ (s : SignedRow). IsEntry (length s.sums) s)) c.deref.ensures.value (c.rises.ensures.entries c.if-rises.true))))
 
 pub put_last-requires-clause-rising : goal.put_last-requires-clause-rising
 put_last-requires-clause-rising c =
