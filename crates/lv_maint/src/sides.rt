@@ -52,10 +52,11 @@ fn rows_without<'a>(alloc: Global, rows: &'a [Row], minus: &[Row]) -> Result<Vec
     Ok(kept)
 }
 
-/// Puts references to rows behind others. Cost: one for each row.
+/// Puts references to rows behind others, in room that is taken once. Cost: one for each row.
 fn add_references<'a>(rows: &'a [Row], refs: &mut Vec<&'a Row>) -> Result<(), NoMemory>
     ensures { OnOk result (seen refs.new.items ≡ seen refs.old.items ++ rows.now) }
 {
+    refs.reserve(rows.len())?;
     for row in rows {
         refs.push(row)?;
     }
