@@ -1,5 +1,5 @@
 //! Condensing.
-ghost use Rattle.std.specs.Prelude.{◌≡◌, true, ◌<◌, ◌≤◌, ◌++◌, ◌∷◌, List, [], length, map, IfOk, OnOk};
+ghost use Rattle.std.specs.Prelude.{◌≡◌, true, ◌<◌, ◌≤◌, ◌++◌, List, [], length, map, IfOk, OnOk};
 ghost use Rattle.std.specs.List.{cons_option, prefix_len};
 ghost use Rattle.std.specs.Ordering.{is_eq};
 ghost use Rattle.lv_schema.specs.declared.action.DeltaEntry.{DeltaEntry};
@@ -15,10 +15,10 @@ ghost use Rattle.lv_schema.specs.World.{table_at};
 ghost use Rattle.lv_condense.specs.Touches.{Alike, by_key, gained_in, lost_in, Rises, run_of, touch_cmp, touched};
 
 use crate::collecting::{Touches, touches_in, touches_of};
-use crate::net_rows::NetRows;
+use crate::net_rows::{Gathers, NetRows};
 use crate::touch::Touch;
 use lv_schema::{Action, ActionKind, DeltaEntry, Net, TableDef};
-use lv_values::{NoMemory, Row};
+use lv_values::NoMemory;
 use std::alloc::Global;
 
 /// How many touches from the front on are of the first one's key.
@@ -46,97 +46,100 @@ fn first_run(touches: &[Touch<'_>], ascend: bool) -> usize
     1 + run_len(&touches[0], touches.split_at(1).1)
 }
 
-/// Puts a reference to a row behind the others.
-fn push<'a>(row: &'a Row, rows: &mut Vec<&'a Row>) -> Result<(), NoMemory>
-    ensures { OnOk result (map (λ row. row.now) rows.new.items ≡ map (λ row. row.now) rows.old.items ++ row.now ∷ []) }
-{
-    rows.push(row)?;
-    Ok(())
-}
-
 /// Adds the row that a key has lost, by the first action on it and the last one.
-fn push_lost<'a>(first: &'a Action, last: &Action, rows: &mut Vec<&'a Row>) -> Result<(), NoMemory>
-    ensures { OnOk result (map (λ row. row.now) rows.new.items ≡ map (λ row. row.now) rows.old.items ++ cons_option (unless (found_by first.now.kind first.now.row) (left_by last.now.kind last.now.row)) []) }
+fn push_lost<'a, G: Gathers<'a>>(
+    alloc: Global,
+    first: &'a Action,
+    last: &Action,
+    net: &mut G,
+) -> Result<(), NoMemory>
+    ensures lost { OnOk result ((G.net net.new).minus ≡ (G.net net.old).minus ++ cons_option (unless (found_by first.now.kind first.now.row) (left_by last.now.kind last.now.row)) []) }
+    ensures gained { (G.net net.new).plus ≡ (G.net net.old).plus }
 {
     match (first.kind, last.kind) {
         (ActionKind::Insert, _) => Ok(()),
-        (ActionKind::Delete, ActionKind::Delete) => push(&first.row, rows),
+        (ActionKind::Delete, ActionKind::Delete) => net.lose(alloc, first),
         (ActionKind::Delete, ActionKind::Insert) => {
             if first.row.cmp(&last.row).is_eq() {
                 return Ok(());
             }
-            push(&first.row, rows)
+            net.lose(alloc, first)
         }
     }
 }
 
 /// Adds the row that a key has gained, by the first action on it and the last one.
-fn push_gained<'a>(
+fn push_gained<'a, G: Gathers<'a>>(
+    alloc: Global,
     first: &Action,
     last: &'a Action,
-    rows: &mut Vec<&'a Row>,
+    net: &mut G,
 ) -> Result<(), NoMemory>
-    ensures { OnOk result (map (λ row. row.now) rows.new.items ≡ map (λ row. row.now) rows.old.items ++ cons_option (unless (left_by last.now.kind last.now.row) (found_by first.now.kind first.now.row)) []) }
+    ensures lost { (G.net net.new).minus ≡ (G.net net.old).minus }
+    ensures gained { OnOk result ((G.net net.new).plus ≡ (G.net net.old).plus ++ cons_option (unless (left_by last.now.kind last.now.row) (found_by first.now.kind first.now.row)) []) }
 {
     match (last.kind, first.kind) {
         (ActionKind::Delete, _) => Ok(()),
-        (ActionKind::Insert, ActionKind::Insert) => push(&last.row, rows),
+        (ActionKind::Insert, ActionKind::Insert) => net.gain(alloc, last),
         (ActionKind::Insert, ActionKind::Delete) => {
             if last.row.cmp(&first.row).is_eq() {
                 return Ok(());
             }
-            push(&last.row, rows)
+            net.gain(alloc, last)
         }
     }
 }
 
 /// Adds what the touches of one key come to.
-fn push_run<'a>(
+fn push_run<'a, G: Gathers<'a>>(
+    alloc: Global,
     run: &[Touch<'a>],
-    minus: &mut Vec<&'a Row>,
-    plus: &mut Vec<&'a Row>,
+    net: &mut G,
 ) -> Result<(), NoMemory>
     requires { 0 < length run.now }
-    ensures lost { OnOk result (map (λ row. row.now) minus.new.items ≡ map (λ row. row.now) minus.old.items ++ cons_option (lost_in run.now) []) }
-    ensures gained { OnOk result (map (λ row. row.now) plus.new.items ≡ map (λ row. row.now) plus.old.items ++ cons_option (gained_in run.now) []) }
+    ensures lost { OnOk result ((G.net net.new).minus ≡ (G.net net.old).minus ++ cons_option (lost_in run.now) []) }
+    ensures gained { OnOk result ((G.net net.new).plus ≡ (G.net net.old).plus ++ cons_option (gained_in run.now) []) }
 {
     let first = &run[0];
     let last = &run[run.len() - 1];
-    push_lost(first.first, last.last, minus)?;
-    push_gained(first.first, last.last, plus)
+    push_lost(alloc, first.first, last.last, net)?;
+    push_gained(alloc, first.first, last.last, net)
 }
 
 /// What touches in the order of their keys come to, key by key, where it is known whether each is of a lower key than the
-/// next one. Each list of references takes its room once.
-fn gather<'a>(alloc: Global, touches: &[Touch<'a>], ascend: bool) -> Result<NetRows<'a>, NoMemory>
+/// next one.
+fn gather<'a, G: Gathers<'a>>(
+    alloc: Global,
+    touches: &[Touch<'a>],
+    ascend: bool,
+) -> Result<G, NoMemory>
     requires rises { Rises touches.now }
     requires ascend { ascend ≡ true → Ascends touch_cmp touches.now }
-    ensures lost { IfOk result (λ net. net.minus ≡ by_key lost_in touches.now) }
-    ensures gained { IfOk result (λ net. net.plus ≡ by_key gained_in touches.now) }
+    ensures lost { IfOk result (λ net. (G.net net).minus ≡ by_key lost_in touches.now) }
+    ensures gained { IfOk result (λ net. (G.net net).plus ≡ by_key gained_in touches.now) }
 {
-    let mut minus = Vec::with_capacity(alloc, touches.len())?;
-    let mut plus = Vec::with_capacity(alloc, touches.len())?;
+    let mut net = G::with_room(alloc, touches.len())?;
     let mut at = 0;
     while at < touches.len() {
         let rest = touches.split_at(at).1;
         let len = first_run(rest, ascend);
-        push_run(rest.split_at(len).0, &mut minus, &mut plus)?;
+        push_run(alloc, rest.split_at(len).0, &mut net)?;
         at += len;
     }
-    Ok(NetRows::new(minus, plus))
+    Ok(net)
 }
 
 /// The net change of the actions on a table from which these touches come.
-fn condense_touches<'a>(
+fn condense_touches<'a, G: Gathers<'a>>(
     alloc: Global,
     table: &TableDef,
     mut touches: Touches<'a>,
-) -> Result<NetRows<'a>, NoMemory>
+) -> Result<G, NoMemory>
     requires { touches.ascend ≡ true → Ascends touch_cmp touches.list.items }
     ensures condensed { IfOk result (λ net. (tables : List TableDef) (actions : List Action) → Alike touches.entry.list.items (touched table.now.key table.now.no actions) → table_at tables table.now.no ≡ table.now
-        → net ≡ condensed tables actions table.now.no) }
+        → G.net net ≡ condensed tables actions table.now.no) }
     ensures net { IfOk result (λ net. (tables : List TableDef) (db : Db) (actions : List Action) → Alike touches.entry.list.items (touched table.now.key table.now.no actions) → IsDatabase tables db → CanAct tables db actions → table.now.no < length tables → table_at tables table.now.no ≡ table.now
-        → net ≡ net_of (rows_of db table.now.no) (rows_of (acted_all tables db actions) table.now.no)) }
+        → G.net net ≡ net_of (rows_of db table.now.no) (rows_of (acted_all tables db actions) table.now.no)) }
 {
     if touches.ascend {
         return gather(alloc, &touches.list, true);
@@ -164,7 +167,7 @@ pub fn condense_actions(
         → net ≡ net_of (rows_of db table.now.no) (rows_of (acted_all tables db actions.now) table.now.no)) }
 {
     let touches = touches_in(alloc, table, actions)?;
-    condense_touches(alloc, table, touches)?.copied(alloc)
+    condense_touches(alloc, table, touches)
 }
 
 /// References to the rows of the net change that `condense` copies, where they lie. Cost: as of `condense_actions`, with a
@@ -191,5 +194,6 @@ pub fn condense(alloc: Global, table: &TableDef, entries: &[DeltaEntry]) -> Resu
     ensures net { IfOk result (λ net. (tables : List TableDef) (db : Db) → IsDatabase tables db → CanAct tables db (map (λ (e : DeltaEntry). e.action) entries.now) → table.now.no < length tables → table_at tables table.now.no ≡ table.now
         → net ≡ net_of (rows_of db table.now.no) (rows_of (acted_all tables db (map (λ (e : DeltaEntry). e.action) entries.now)) table.now.no)) }
 {
-    condense_in_place(alloc, table, entries)?.copied(alloc)
+    let touches = touches_of(alloc, table, entries)?;
+    condense_touches(alloc, table, touches)
 }
