@@ -44,8 +44,9 @@ fn reserve_to(places: &mut Vec<u32>, room: usize) -> Result<(), NoMemory>
     Ok(())
 }
 
-/// Makes room for one slot more, and for its number and rank in every order.
+/// Makes room for so many slots more, and for their numbers and ranks in every order.
 pub(crate) fn make_room<T>(
+    more: usize,
     slots: &mut Vec<Option<T>>,
     order: &mut RankedPlaces,
     free: &mut Vec<u32>,
@@ -55,16 +56,18 @@ pub(crate) fn make_room<T>(
     ensures order { order.new.list ≡ order.old.list }
     ensures free { free.new.items ≡ free.old.items }
     ensures others { lists_of others.new.items ≡ lists_of others.old.items }
-    ensures slots_room { OnOk result (length slots.old.items + 1 ≤ vec_capacity slots.new) }
-    ensures order_room { OnOk result (length slots.old.items + 1 ≤ order.new.room) }
-    ensures free_room { OnOk result (length slots.old.items + 1 ≤ vec_capacity free.new) }
-    ensures others_room { OnOk result (HaveRoom (length slots.old.items + 1) others.new.items) }
+    ensures slots_room { OnOk result (length slots.old.items + more ≤ vec_capacity slots.new) }
+    ensures order_room { OnOk result (length slots.old.items + more ≤ order.new.room) }
+    ensures free_room { OnOk result (length slots.old.items + more ≤ vec_capacity free.new) }
+    ensures others_room { OnOk result (HaveRoom (length slots.old.items + more) others.new.items) }
     ensures order_kept { order.old.room ≤ order.new.room }
     ensures free_kept { vec_capacity free.old ≤ vec_capacity free.new }
     ensures others_kept { (n : ℕ) → HaveRoom n others.old.items → HaveRoom n others.new.items }
 {
-    let room = slots.len() + 1;
-    slots.reserve(1)?;
+    let Some(room) = slots.len().checked_add(more) else {
+        return Err(NoMemory);
+    };
+    slots.reserve(more)?;
     order.reserve(room)?;
     reserve_to(free, room)?;
     reserve_each(others, room)

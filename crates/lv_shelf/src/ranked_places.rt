@@ -68,6 +68,7 @@ impl RankedPlaces {
         ensures kept { self.old.room ≤ self.new.room }
     {
         self.places.reserve(room)?;
+        self.ranks.reserve(room.saturating_sub(self.ranks.len()))?;
         for _ in self.ranks.len()..room {
             self.ranks.push(0)?;
         }

@@ -146,6 +146,7 @@ impl<T: Drop> Shelf<T> {
             return Err(NoMemory);
         };
         make_room(
+            1,
             &mut self.slots,
             &mut self.order,
             &mut self.free,
@@ -156,13 +157,31 @@ impl<T: Drop> Shelf<T> {
         Ok(())
     }
 
-    /// Makes room for `more` elements, in every order. The list stays as it was, and the room never shrinks.
+    /// Takes memory at once for so many slots that are still to be made.
+    fn make_room(&mut self, more: usize) -> Result<(), NoMemory>
+        ensures same { self.new.list ≡ self.old.list }
+        ensures others { self.new.others ≡ self.old.others }
+        ensures kept { self.new.spare ≡ self.old.spare }
+    {
+        make_room(
+            more,
+            &mut self.slots,
+            &mut self.order,
+            &mut self.free,
+            &mut self.others,
+        )
+    }
+
+    /// Makes room for `more` elements, in every order: each list takes its memory once. The list stays as it was, and the
+    /// room never shrinks.
     pub fn reserve(&mut self, more: u64) -> Result<(), NoMemory>
         ensures same { self.new.list ≡ self.old.list }
         ensures others { self.new.others ≡ self.old.others }
         ensures room { OnOk result (more ≤ self.new.spare) }
         ensures kept { self.old.spare ≤ self.new.spare }
     {
+        let missing = more.saturating_sub(self.spare());
+        self.make_room(missing as usize)?;
         for _ in self.spare()..more {
             self.add_slot()?;
         }
