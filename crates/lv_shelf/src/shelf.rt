@@ -181,7 +181,9 @@ impl<T: Drop> Shelf<T> {
         ensures kept { self.old.spare ≤ self.new.spare }
     {
         let missing = more.saturating_sub(self.spare());
-        self.make_room(missing as usize)?;
+        if missing > 1 {
+            self.make_room(missing as usize)?;
+        }
         for _ in self.spare()..more {
             self.add_slot()?;
         }
