@@ -8,7 +8,7 @@ use Rattle.std.specs.List.{AllByRecursion}
 use Rattle.std.specs.Ordering.{is_gt, is_lt, ordering_then}
 use Rattle.std.specs.declared.cmp.Ordering.{Ordering}
 use Rattle.std.specs.declared.cmp.Ordering.TheVariants.{Less, Equal, Greater}
-use Rattle.std.proofs.lemmas.Cmp.{tied_itself, upto}
+use Rattle.std.proofs.lemmas.Cmp.{upto}
 use Rattle.lv_values.specs.declared.value.Value.{Value}
 use Rattle.lv_values.specs.Order.{row_cmp, value_cmp}
 use Rattle.lv_values.specs.OrderLaws.{value_exact, value_total}
@@ -23,7 +23,7 @@ use Rattle.lv_group.specs.Gathered.{group_value, listed_values}
 use Rattle.lv_shelf.specs.Cuts.{Apart, Falls, IsCut}
 use Rattle.lv_shelf.proofs.Cutting.{got, got_within}
 use Rattle.lv_viewrows.specs.declared.version.GroupVersion.{GroupVersion}
-use Rattle.lv_viewrows.specs.Beginning.{AllBegin, IsFirst, NoneBegins, NonePasses, begins_below, begins_up_to, column_numbered, first_column, first_listed, is_plain}
+use Rattle.lv_viewrows.specs.Beginning.{AllAbove, AllBelow, IsFirst, NonePasses, begins_below, begins_up_to, column_numbered, first_column, first_listed, is_plain}
 use Rattle.lv_viewrows.specs.Kept.{row_listed}
 use Rattle.lv_viewrows.specs.Standing.{Precedes, precedes_by}
 use Rattle.lv_viewrows.proofs.Galloping.{none_passes}
@@ -84,46 +84,44 @@ pub all_have_values : (vs : List GroupVersion) → Apart Precedes vs → ((v : G
 all_have_values [] a head = tt
 all_have_values (v ∷ vs) a head = let here = head v refl in (here, all_weaker (Precedes v) (λ w. 0 < length w.group.row) (λ w r. has_value v w here r) vs a.0)
 
--- ---- which versions begin with a value
-is_tied : (first : Value) → value_cmp first first ≡ Equal
-is_tied first = tied_itself value_total first
+-- ---- which versions begin below a value, and which above one
+begins_lower : (low : Value) (row : List Value) → 0 < length row → begins_below low row ≡ true → is_lt (value_cmp (value_in row 0) low) ≡ true
+begins_lower low [] lt t = absurd (omega (arith, lt))
+begins_lower low (v ∷ row) lt t = t
 
-below_is_other : (first : Value) (row : List Value) → 0 < length row → begins_below first row ≡ true → value_in row 0 ≡ first → ⊥
-below_is_other first [] lt t e = absurd (omega (arith, lt))
-below_is_other first (v ∷ row) lt t e = let tied = ap (λ x. value_cmp x first) e ∙ is_tied first in let less = ap is_lt tied in cc
+un_true : (b : Bool) → not b ≡ false → b ≡ true
+un_true true e = refl
+un_true false e = cc
 
-over_is_other : (first : Value) (row : List Value) → begins_up_to first row ≡ false → value_in row 0 ≡ first → ⊥
-over_is_other first [] t e = cc
-over_is_other first (v ∷ row) t e = let tied = ap (λ x. value_cmp x first) e ∙ is_tied first in let over = ap (λ o. not (is_gt o)) tied in cc
+begins_higher : (high : Value) (row : List Value) → begins_up_to high row ≡ false → is_gt (value_cmp (value_in row 0) high) ≡ true
+begins_higher high [] t = cc
+begins_higher high (v ∷ row) t = un_true (is_gt (value_cmp v high)) t
 
-pub none_before : (first : Value) (i : ℕ) (vs : List GroupVersion) → AllByRecursion (λ v. 0 < length v.group.row) vs → IsCut (λ v. begins_below first v.group.row) i vs → NoneBegins first (take i vs)
-none_before first zero vs a h = tt
-none_before first (suc i) [] a h = absurd h
-none_before first (suc i) (v ∷ vs) a h = (below_is_other first v.group.row a.0 h.0, none_before first i vs a.1 h.1)
+pub all_before : (low : Value) (i : ℕ) (vs : List GroupVersion) → AllByRecursion (λ v. 0 < length v.group.row) vs → IsCut (λ v. begins_below low v.group.row) i vs → AllBelow (Some low) (take i vs)
+all_before low zero vs a h = tt
+all_before low (suc i) [] a h = absurd h
+all_before low (suc i) (v ∷ vs) a h = (begins_lower low v.group.row a.0 h.0, all_before low i vs a.1 h.1)
 
-pub none_behind : (first : Value) (i : ℕ) (vs : List GroupVersion) → IsCut (λ v. begins_up_to first v.group.row) i vs → NoneBegins first (drop i vs)
-none_behind first i vs h = all_weaker (λ (v : GroupVersion). begins_up_to first v.group.row ≡ false) (λ v. value_in v.group.row 0 ≡ first → ⊥) (λ v t. over_is_other first v.group.row t) (drop i vs) (none_passes (λ v. begins_up_to first v.group.row) i vs h)
+pub all_behind_of : (high : Value) (i : ℕ) (vs : List GroupVersion) → IsCut (λ v. begins_up_to high v.group.row) i vs → AllAbove (Some high) (drop i vs)
+all_behind_of high i vs h = all_weaker (λ (v : GroupVersion). begins_up_to high v.group.row ≡ false) (λ v. is_gt (value_cmp (value_in v.group.row 0) high) ≡ true) (λ v t. begins_higher high v.group.row t) (drop i vs) (none_passes (λ v. begins_up_to high v.group.row) i vs h)
 
-below_is_up_to : (first : Value) (row : List Value) → begins_below first row ≡ true → begins_up_to first row ≡ true
-below_is_up_to first [] t = refl
-below_is_up_to first (v ∷ row) t = ap (λ o. not (is_gt o)) (is_less (value_cmp v first) t)
+pub all_take_less : {X : Type 0} (P : X → Type 0) (i j : ℕ) (xs : List X) → j ≤ i → AllByRecursion P (take i xs) → AllByRecursion P (take j xs)
+all_take_less P i zero xs le a = tt
+all_take_less P zero (suc j) xs le a = absurd (omega (arith, le))
+all_take_less P (suc i) (suc j) [] le a = tt
+all_take_less P (suc i) (suc j) (x ∷ xs) le a = (a.0, all_take_less P i j xs (omega (arith, le)) a.1)
 
-pub cuts_in_order : (first : Value) (i j : ℕ) (vs : List GroupVersion) → IsCut (λ v. begins_below first v.group.row) i vs → IsCut (λ v. begins_up_to first v.group.row) j vs → i ≤ j
-cuts_in_order first zero j vs h k = omega arith
-cuts_in_order first (suc i) j [] h k = absurd h
-cuts_in_order first (suc i) zero (v ∷ vs) h k = let t = below_is_up_to first v.group.row h.0 in let f = k.0 in cc
-cuts_in_order first (suc i) (suc j) (v ∷ vs) h k = let le = cuts_in_order first i j vs h.1 k.1 in omega (arith, le)
-
--- ---- what passes begins with the value
-pub none_pass : (view : ViewDef) (p : List Value → Bool) (first : Value) (vs : List GroupVersion) → AllBegin view p first → NoneBegins first vs → NonePasses view p vs
-none_pass view p first vs only none = all_weaker (λ (v : GroupVersion). value_in v.group.row 0 ≡ first → ⊥) (λ v. (group : SignedRow) → group.row ≡ v.group.row → p (row_listed view group) ≡ false) fails vs none
+-- ---- what passes begins between the values
+pub none_pass : (view : ViewDef) (p : List Value → Bool) (out : Value → Bool) (vs : List GroupVersion) → ((group : SignedRow) → p (row_listed view group) ≡ true → out (value_in group.row 0) ≡ false)
+    → AllByRecursion (λ (v : GroupVersion). out (value_in v.group.row 0) ≡ true) vs → NonePasses view p vs
+none_pass view p out vs only outside = all_weaker (λ (v : GroupVersion). out (value_in v.group.row 0) ≡ true) (λ v. (group : SignedRow) → group.row ≡ v.group.row → p (row_listed view group) ≡ false) fails vs outside
   where
-    fails : (v : GroupVersion) → (value_in v.group.row 0 ≡ first → ⊥) → (group : SignedRow) → group.row ≡ v.group.row → p (row_listed view group) ≡ false
-    fails v other group same = by (p (row_listed view group)) refl
+    fails : (v : GroupVersion) → out (value_in v.group.row 0) ≡ true → (group : SignedRow) → group.row ≡ v.group.row → p (row_listed view group) ≡ false
+    fails v is_out group same = by (p (row_listed view group)) refl
       where
         by : (b : Bool) → p (row_listed view group) ≡ b → b ≡ false
         by false e = refl
-        by true e = absurd (other (ap (λ r. value_in r 0) (sym same) ∙ only group e))
+        by true e = let inside = only group e in let here = ap (λ r. out (value_in r 0)) same ∙ is_out in cc
 
 -- ---- the column that lists it
 pub listed_plain : (first : Col) (more : List Col) (group : SignedRow) (items : List Item) (sums : List ℤ) (at : ℕ) (d : Item) → at < length items → is_plain (get_or items at d) first ≡ true → value_in (listed_values (first ∷ more) group items sums) at ≡ value_in group.row 0

@@ -14,9 +14,22 @@ use Rattle.lv_schema.specs.declared.view.ViewDef.{ViewDef}
 use Rattle.lv_viewrows.specs.declared.version.GroupVersion.{GroupVersion}
 use Rattle.lv_viewrows.specs.Kept.{row_listed}
 
--- a group of which a view lists a row that passes has this value first
-abbrev pub AllBegin : ViewDef → (List Value → Bool) → Value → Type 0
-AllBegin view p first = (group : SignedRow) → p (row_listed view group) ≡ true → value_in group.row 0 ≡ first
+-- whether a value is below the lowest one, and whether it is above the highest one, where there is one
+abbrev pub lies_below : Option Value → Value → Bool
+lies_below None v = false
+lies_below (Some low) v = is_lt (value_cmp v low)
+
+abbrev pub lies_above : Option Value → Value → Bool
+lies_above None v = false
+lies_above (Some high) v = is_gt (value_cmp v high)
+
+-- a group of which a view lists a row that passes has no value first that is below the lowest one, and none that is above
+-- the highest one
+abbrev pub AllFrom : ViewDef → (List Value → Bool) → Option Value → Type 0
+AllFrom view p low = (group : SignedRow) → p (row_listed view group) ≡ true → lies_below low (value_in group.row 0) ≡ false
+
+abbrev pub AllUpTo : ViewDef → (List Value → Bool) → Option Value → Type 0
+AllUpTo view p high = (group : SignedRow) → p (row_listed view group) ≡ true → lies_above high (value_in group.row 0) ≡ false
 
 -- a column of what a view lists is the first value of its groups
 abbrev pub IsFirst : ViewDef → ℕ → Type 0
@@ -44,16 +57,19 @@ first_column view = if view.grouped then column_numbered (first_listed view.grou
 
 -- whether a row begins below a value, and whether it begins with no greater one; a row without a value does
 abbrev pub begins_below : Value → List Value → Bool
-begins_below first [] = true
-begins_below first (v ∷ row) = is_lt (value_cmp v first)
+begins_below low [] = true
+begins_below low (v ∷ row) = is_lt (value_cmp v low)
 
 abbrev pub begins_up_to : Value → List Value → Bool
-begins_up_to first [] = true
-begins_up_to first (v ∷ row) = not (is_gt (value_cmp v first))
+begins_up_to high [] = true
+begins_up_to high (v ∷ row) = not (is_gt (value_cmp v high))
 
--- no version's row has this value first
-abbrev pub NoneBegins : Value → List GroupVersion → Type 0
-NoneBegins first versions = AllByRecursion (λ v. value_in v.group.row 0 ≡ first → ⊥) versions
+-- each version's row has a value first that is below the lowest one, and each has one that is above the highest one
+abbrev pub AllBelow : Option Value → List GroupVersion → Type 0
+AllBelow low versions = AllByRecursion (λ v. lies_below low (value_in v.group.row 0) ≡ true) versions
+
+abbrev pub AllAbove : Option Value → List GroupVersion → Type 0
+AllAbove high versions = AllByRecursion (λ v. lies_above high (value_in v.group.row 0) ≡ true) versions
 
 -- no row passes that a view lists of a group with the row of one of these versions
 abbrev pub NonePasses : ViewDef → (List Value → Bool) → List GroupVersion → Type 0

@@ -1,7 +1,7 @@
 //! Versions by the first value of their rows.
-ghost use Rattle.std.specs.Prelude.{◌≡◌, ◌≤◌, drop, length, nat_lt, position, take};
+ghost use Rattle.std.specs.Prelude.{◌≡◌, ◌≤◌, drop, length, nat_lt, option_copied, position, take};
 ghost use Rattle.lv_shelf.specs.Cuts.{Apart};
-ghost use Rattle.lv_viewrows.specs.Beginning.{NoneBegins, column_numbered, first_column, first_listed, is_plain};
+ghost use Rattle.lv_viewrows.specs.Beginning.{AllAbove, AllBelow, column_numbered, first_column, first_listed, is_plain};
 ghost use Rattle.lv_viewrows.specs.Standing.{Precedes};
 
 use crate::version::GroupVersion;
@@ -13,7 +13,7 @@ use std::marker::Model;
 /// Tests whether a version's row begins below a value, or has none.
 #[derive(Drop)]
 struct BeginsBelow<'a> {
-    first: &'a Value,
+    low: &'a Value,
 }
 
 impl<'a> Model for BeginsBelow<'a> {
@@ -21,17 +21,17 @@ impl<'a> Model for BeginsBelow<'a> {
 
     ghost Value = { AValue };
 
-    ghost view = { λ t. t.first.now };
+    ghost view = { λ t. t.low.now };
 }
 
 impl<'a> Test<GroupVersion> for BeginsBelow<'a> {
     ghost use Rattle.lv_viewrows.specs.Beginning.{begins_below};
 
-    ghost passed = { λ first v. begins_below first v.group.row };
+    ghost passed = { λ low v. begins_below low v.group.row };
 
     fn passes(&self, version: &GroupVersion) -> bool {
         match version.group.row.as_slice() {
-            [value, ..] => value.cmp(self.first).is_lt(),
+            [value, ..] => value.cmp(self.low).is_lt(),
             [] => true,
         }
     }
@@ -40,7 +40,7 @@ impl<'a> Test<GroupVersion> for BeginsBelow<'a> {
 /// Tests whether a version's row begins with no greater value, or has none.
 #[derive(Drop)]
 struct BeginsUpTo<'a> {
-    first: &'a Value,
+    high: &'a Value,
 }
 
 impl<'a> Model for BeginsUpTo<'a> {
@@ -48,17 +48,17 @@ impl<'a> Model for BeginsUpTo<'a> {
 
     ghost Value = { AValue };
 
-    ghost view = { λ t. t.first.now };
+    ghost view = { λ t. t.high.now };
 }
 
 impl<'a> Test<GroupVersion> for BeginsUpTo<'a> {
     ghost use Rattle.lv_viewrows.specs.Beginning.{begins_up_to};
 
-    ghost passed = { λ first v. begins_up_to first v.group.row };
+    ghost passed = { λ high v. begins_up_to high v.group.row };
 
     fn passes(&self, version: &GroupVersion) -> bool {
         match version.group.row.as_slice() {
-            [value, ..] => !value.cmp(self.first).is_gt(),
+            [value, ..] => !value.cmp(self.high).is_gt(),
             [] => true,
         }
     }
@@ -71,23 +71,49 @@ fn has_value(version: &GroupVersion) -> bool
     version.group.row.len() > 0
 }
 
-/// Between which places the versions stand whose rows begin with a value. Where a row has no value, these are all.
-/// Cost: two binary searches.
-pub(crate) fn places_of(first: &Value, versions: &Candidates<'_>) -> (usize, usize)
+/// The place before which the versions stand whose rows begin below the lowest value. Where a row has no value, or there is
+/// no lowest value, this is the first place. Cost: a binary search.
+fn place_from(lowest: Option<&Value>, versions: &Candidates<'_>) -> usize
+    requires { Apart Precedes versions.now }
+    ensures { AllBelow (option_copied lowest.entry) (take result versions.now) }
+{
+    let Some(low) = lowest else {
+        return 0;
+    };
+    if versions.len() > 0 && !has_value(versions.get(0)) {
+        return 0;
+    }
+    versions.cut(&BeginsBelow { low })
+}
+
+/// The place from which on the versions stand whose rows begin above the highest value. Where there is no highest value,
+/// this is the last place. Cost: a binary search.
+fn place_behind(highest: Option<&Value>, versions: &Candidates<'_>) -> usize
+    requires { Apart Precedes versions.now }
+    ensures within { result ≤ length versions.now }
+    ensures behind { AllAbove (option_copied highest.entry) (drop result versions.now) }
+{
+    match highest {
+        Some(high) => versions.cut(&BeginsUpTo { high }),
+        None => versions.len(),
+    }
+}
+
+/// Between which places the versions stand whose rows begin with no value below the lowest one and none above the highest
+/// one, with those whose rows have no value. Cost: a binary search for each of the two values that is there.
+pub(crate) fn places_of(
+    lowest: Option<&Value>,
+    highest: Option<&Value>,
+    versions: &Candidates<'_>,
+) -> (usize, usize)
     requires { Apart Precedes versions.now }
     ensures order { result.0 ≤ result.1 }
     ensures within { result.1 ≤ length versions.now }
-    ensures before { NoneBegins first.now (take result.0 versions.now) }
-    ensures behind { NoneBegins first.now (drop result.1 versions.now) }
+    ensures before { AllBelow (option_copied lowest.entry) (take result.0 versions.now) }
+    ensures behind { AllAbove (option_copied highest.entry) (drop result.1 versions.now) }
 {
-    let len = versions.len();
-    if len > 0 && !has_value(versions.get(0)) {
-        return (0, len);
-    }
-    (
-        versions.cut(&BeginsBelow { first }),
-        versions.cut(&BeginsUpTo { first }),
-    )
+    let end = place_behind(highest, versions);
+    (place_from(lowest, versions).min(end), end)
 }
 
 /// Whether an item is a column.

@@ -1,10 +1,10 @@
 //! Rows of versions.
-ghost use Rattle.std.specs.Prelude.{◌≡◌, ◌+ℤ◌, ◌++◌, ◌∷◌, ◌≤◌, [], List, drop, take, length, filter, IfOk, MatchOption, OnOk};
+ghost use Rattle.std.specs.Prelude.{◌≡◌, ◌+ℤ◌, ◌++◌, ◌∷◌, ◌≤◌, [], List, drop, take, length, filter, IfOk, OnOk};
 ghost use Rattle.std.specs.List.{AllByRecursion};
 ghost use Rattle.lv_schema.specs.declared.signed.SignedRow.{SignedRow as ASignedRow};
 ghost use Rattle.lv_group.specs.Gathered.{has_tuples};
 ghost use Rattle.lv_shelf.specs.Cuts.{Apart};
-ghost use Rattle.lv_viewrows.specs.Beginning.{AllBegin, NonePasses};
+ghost use Rattle.lv_viewrows.specs.Beginning.{AllFrom, AllUpTo, NonePasses};
 ghost use Rattle.lv_viewrows.specs.Changed.{group_with};
 ghost use Rattle.lv_viewrows.specs.Kept.{groups_at, rows_listed};
 ghost use Rattle.lv_viewrows.specs.Merged.{AllFitAt, FitsInto, if_some, left_by, merged, passing, up_to};
@@ -267,9 +267,9 @@ fn rows_in_order<T: Test<Row>>(
     Ok(out.rows)
 }
 
-/// The rows of the groups that are there at commit n, with changes, that pass, in ascending order. Cost: where the test
-/// names a first value two binary searches, and a pass over the versions that begin with it, or else over all; for each
-/// change a search from the one before it and at most 16 comparisons, in all no more than one for each version, one for
+/// The rows of the groups that are there at commit n, with changes, that pass, in ascending order. Cost: a binary search for
+/// each of the lowest and the highest first value that the test names, and a pass over the versions that begin between
+/// these; for each change a search from the one before it and at most 16 comparisons, in all no more than one for each version, one for
 /// each 16 of them and one for each change; of a join view a copy of each row that passes; of a grouped view the listed
 /// values of each group, one row for each that passes and one more for those that do not, a copy of each change whose
 /// group stays, and n log n comparisons of the rows that pass.
@@ -282,14 +282,12 @@ pub(crate) fn rows_passing<T: Seek>(
     changes: &Signed,
 ) -> Result<Rows, NoMemory>
     requires order { Apart Precedes versions.now }
-    requires only { MatchOption (T.first test.now) (Unit {0}) (AllBegin view.now (T.passed test.now)) }
+    requires low { AllFrom view.now (T.passed test.now) (T.lowest test.now) }
+    requires high { AllUpTo view.now (T.passed test.now) (T.highest test.now) }
     requires fit { AllByRecursion (AllFitAt n changes.now) versions.now }
     ensures { IfOk result (λ rows. rows ≡ filter (T.passed test.now) (rows_listed view.now (merged changes.now (groups_at n versions.now)))) }
 {
-    let (from, end) = match test.first() {
-        Some(first) => places_of(first, versions),
-        None => (0, versions.len()),
-    };
+    let (from, end) = places_of(test.lowest(), test.highest(), versions);
     let mut rows = rows_in_order(alloc, view, test, n, versions, from, end, changes)?;
     if view.grouped {
         rows.sort();

@@ -9,7 +9,7 @@ ghost use Rattle.lv_schema.specs.Once.{Ascends, are_apart};
 ghost use Rattle.lv_schema.specs.declared.signed.SignedRow.{SignedRow as ASignedRow};
 ghost use Rattle.lv_schema.specs.Versions.{ends_after};
 ghost use Rattle.lv_group.specs.Gathered.{IsOfView, has_tuples, rows_of};
-ghost use Rattle.lv_viewrows.specs.Beginning.{AllBegin, IsFirst, first_column};
+ghost use Rattle.lv_viewrows.specs.Beginning.{AllFrom, AllUpTo, IsFirst, first_column};
 ghost use Rattle.lv_viewrows.specs.Changed.{CanInstall, groups_with};
 ghost use Rattle.lv_viewrows.specs.Kept.{groups_at, one_row, rows_listed, shown, version_from};
 ghost use Rattle.lv_viewrows.specs.Standing.{read_at};
@@ -185,9 +185,11 @@ impl ViewRows {
 
     /// Those rows of `read_at` that pass. Cost: that of `read_at`, but a row of a join view that does not pass is not copied,
     /// and of a grouped view one row is made for each that passes, and one more for those that do not; and where the test
-    /// names a first value two binary searches, and a pass over the versions that begin with it alone.
+    /// names a lowest or a highest first value a binary search for each, and a pass over the versions that begin between these
+    /// alone.
     pub fn read_passing<T: Seek>(&self, alloc: Global, n: u64, test: &T) -> Result<Rows, NoMemory>
-        requires { MatchOption (T.first test.now) (Unit {0}) (AllBegin self.now.def (T.passed test.now)) }
+        requires low { AllFrom self.now.def (T.passed test.now) (T.lowest test.now) }
+        requires high { AllUpTo self.now.def (T.passed test.now) (T.highest test.now) }
         ensures { IfOk result (λ rows. rows ≡ filter (T.passed test.now) (shown n self.now)) }
     {
         let changes = Signed::new(alloc);
@@ -225,7 +227,8 @@ impl ViewRows {
         test: &T,
     ) -> Result<Rows, NoMemory>
         requires change { CanInstall self.now hi changes.now }
-        requires only { MatchOption (T.first test.now) (Unit {0}) (AllBegin self.now.def (T.passed test.now)) }
+        requires low { AllFrom self.now.def (T.passed test.now) (T.lowest test.now) }
+        requires high { AllUpTo self.now.def (T.passed test.now) (T.highest test.now) }
         ensures { IfOk result (λ rows. rows ≡ filter (T.passed test.now) (rows_listed self.now.def (groups_with changes.now (groups_at self.now.at self.now.versions)))) }
     {
         rows_passing(
