@@ -5,5 +5,6 @@ pub mod Committing
 pub mod MadeViews
 pub mod Maintaining
 pub mod Querying
+pub mod Ranges
 pub mod Pending
 pub mod Kept

@@ -1,8 +1,7 @@
 -- Queries: what a transaction reads, and the steps that bring views up to its snapshot, told from what is kept.
-use Rattle.std.specs.Prelude.{◌≡◌, ℕ, ◌<◌, ◌≤◌, Bool, false, not, if◌then◌else◌, List, [], ◌∷◌, length, map, slice_set, Option, Some, None, unwrap_or, option_map}
+use Rattle.std.specs.Prelude.{◌≡◌, ℕ, ◌<◌, ◌≤◌, Bool, false, not, if◌then◌else◌, List, [], ◌∷◌, length, map, slice_set, unwrap_or, option_map}
 use Rattle.std.specs.List.{list_any}
 use Rattle.lv_values.specs.declared.value.Value.{Value}
-use Rattle.lv_schema.specs.declared.cond.Cond.{Cond}
 use Rattle.lv_schema.specs.declared.forced.Forced.{Forced}
 use Rattle.lv_schema.specs.declared.part.Part.{Part}
 use Rattle.lv_schema.specs.declared.query.Query.{Query}
@@ -18,14 +17,12 @@ use Rattle.lv_schema.specs.Keys.{writes_table}
 use Rattle.lv_schema.specs.StepPlans.{is_inside}
 use Rattle.lv_schema.specs.UpkeepCases.{views_of, with_steps}
 use Rattle.lv_schema.specs.World.{Visible, World, table_at, view_at}
-use Rattle.lv_effect.specs.FixedKeys.{says_column}
 use Rattle.lv_joining.specs.Kept.{KeepsLinksBetween}
 use Rattle.lv_maint.specs.Inputs.{FitOver, Input}
 use Rattle.lv_overlay.specs.Puts.{rows_over}
 use Rattle.lv_txn.specs.Kept.{live_kept, transaction_at, transaction_of}
 use Rattle.lv_upkeep.specs.Kept.{UpkeepKept, forced_in}
 use Rattle.lv_upkeep.specs.Moves.{upkeep_stepped}
-use Rattle.lv_viewrows.specs.Beginning.{first_column}
 use Rattle.lv_viewrows.specs.Changed.{CanInstall, groups_with}
 use Rattle.lv_viewrows.specs.Kept.{ViewKept, groups_at, shown}
 use Rattle.lv_stands.specs.Kept as stands
@@ -93,14 +90,6 @@ IsInputIn p f input = IsInputOf (view_at p.schema.views f.view) f (parts_in p f)
 
 abbrev pub changes_in : Store → Forced → List SignedRow
 changes_in p f = difference (view_at p.schema.views f.view) (old_sides (parts_in p f)) (new_sides (parts_in p f))
-
--- whether a condition says with which value what is kept of a view's rows begins
-abbrev pub says_at : Option ℕ → Cond → Bool
-says_at None cond = false
-says_at (Some column) cond = says_column cond column
-
-abbrev pub says_first : ViewDef → Cond → Bool
-says_first view cond = says_at (first_column view) cond
 
 -- what it costs to read that
 abbrev pub IsCostIn : Store → Forced → ℕ → Type 0

@@ -1,7 +1,7 @@
 //! Differences of views that are computed and not installed yet: what a view shows with them, and their install, which
 //! takes no memory once there is room.
-ghost use Rattle.std.specs.Prelude.{◌≡◌, ◌<◌, ◌≤◌, ◌∷◌, ◌++◌, [], filter, length, replicate, IfOk, MatchOption, OnErr, OnOk};
-ghost use Rattle.lv_viewrows.specs.Beginning.{AllBegin};
+ghost use Rattle.std.specs.Prelude.{◌≡◌, ◌<◌, ◌≤◌, ◌∷◌, ◌++◌, [], filter, length, replicate, IfOk, OnErr, OnOk};
+ghost use Rattle.lv_viewrows.specs.Beginning.{AllFrom, AllUpTo};
 ghost use Rattle.lv_viewrows.specs.Changed.{CanInstall};
 ghost use Rattle.lv_viewrows.specs.Kept.{ViewKept, shown};
 ghost use Rattle.lv_store.specs.Querying.{OnlyRoom, RowsInstall};
@@ -77,9 +77,9 @@ fn copy_with(
 }
 
 /// Of the rows that a view shows at a commit once these differences are installed, which end at or below it, those that
-/// pass. Cost: where there is no difference, a pass over what is kept of the view, or over what begins with the first value
-/// that the test names; with one, that of its preview; with several, of a copy and such a pass over it. A row of a join view
-/// that does not pass is not copied for the answer.
+/// pass. Cost: where there is no difference, a pass over what is kept of the view, or over what begins between the first
+/// values that the test names; with one, that of its preview; with several, of a copy and such a pass over it. A row of a
+/// join view that does not pass is not copied for the answer.
 pub(crate) fn rows_with<T: Seek>(
     alloc: Global,
     n: u64,
@@ -87,7 +87,8 @@ pub(crate) fn rows_with<T: Seek>(
     differences: &[Difference],
     test: &T,
 ) -> Result<Rows, NoMemory>
-    requires only { MatchOption (T.first test.now) (Unit {0}) (AllBegin rows.now.def (T.passed test.now)) }
+    requires low { AllFrom rows.now.def (T.passed test.now) (T.lowest test.now) }
+    requires high { AllUpTo rows.now.def (T.passed test.now) (T.highest test.now) }
     requires can { CanTakeEach differences.now rows.now }
     requires upto { AreUpTo n differences.now }
     ensures { (new : ViewKept) → TakesEach differences.now rows.now new → IfOk result (λ list. list ≡ filter (T.passed test.now) (shown n new)) }

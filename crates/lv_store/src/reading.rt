@@ -1,5 +1,5 @@
 //! The rows that a query reads, where differences of its views are pending.
-ghost use Rattle.std.specs.Prelude.{◌≡◌, ◌≢◌, ◌<◌, ◌∷◌, ℕ, List, [], true, false, filter, length, map, not, slice_get, IfOk, MatchOption, Some, is_some};
+ghost use Rattle.std.specs.Prelude.{◌≡◌, ◌≢◌, ◌<◌, ◌∷◌, ℕ, List, [], true, false, filter, length, map, not, slice_get, IfOk, MatchOption, Some};
 ghost use Rattle.std.specs.List.{list_all};
 ghost use Rattle.lv_schema.specs.declared.query.Rel.{Rel as ARel};
 ghost use Rattle.lv_schema.specs.Effects.{matching};
@@ -8,19 +8,20 @@ ghost use Rattle.lv_schema.specs.Bound.{rel_in_use};
 ghost use Rattle.lv_schema.specs.JoinViews.{selected};
 ghost use Rattle.lv_txn.specs.Kept.{IsLive};
 ghost use Rattle.lv_schema.specs.Truth.{holds};
-ghost use Rattle.lv_viewrows.specs.Beginning.{AllBegin};
+ghost use Rattle.lv_viewrows.specs.Beginning.{AllFrom, AllUpTo, first_column};
 ghost use Rattle.lv_viewrows.specs.Kept.{ViewKept};
-ghost use Rattle.lv_store.specs.Querying.{has_written, reads_kept, rel_rows_in, says_first, view_rows_in};
+ghost use Rattle.lv_store.specs.Querying.{has_written, reads_kept, rel_rows_in, view_rows_in};
+ghost use Rattle.lv_store.specs.Ranges.{IsSaidOf, highest_of, lowest_of};
 ghost use Rattle.lv_store.specs.Pending.{AllTake, CanRead};
 ghost use Rattle.lv_store.specs.Kept.{IsStore};
 
 use crate::pending::{Pending, rows_with};
-use crate::sought::SoughtBy;
+use crate::sought::{FirstRange, SoughtBy, range_of};
 use crate::store::Store;
-use lv_effect::{KeptBy, fixed_value};
+use lv_effect::KeptBy;
 use lv_query::answer;
 use lv_schema::{Cond, Query, Rel};
-use lv_values::{Any, Items, NoMemory, Rows, Steps, Value};
+use lv_values::{Any, Items, NoMemory, Rows, Steps};
 use lv_viewrows::Seek;
 use std::alloc::Global;
 use std::sync::ledger::Ledger;
@@ -36,16 +37,20 @@ fn only_rel(rels: &[Rel]) -> Option<Rel>
 }
 
 impl Store {
-    /// The value with which what is kept of a view's rows begins wherever a condition keeps the row, where the condition
-    /// says so. Cost: a look at each item of the view, and a pass over the condition.
-    fn first_value(&self, alloc: Global, view: u32, cond: &Cond) -> Result<Option<Value>, NoMemory>
+    /// The values with which what is kept of a view's rows begins wherever a condition keeps the row, as the condition says.
+    /// Cost: a look at each item of the view, and up to three passes over the condition.
+    fn first_range(&self, alloc: Global, view: u32, cond: &Cond) -> Result<FirstRange, NoMemory>
         requires { view < length self.now.rows.list }
-        ensures found { (kept : ViewKept) → slice_get self.now.rows.list view ≡ Some kept → IfOk result (λ found. is_some found ≡ says_first kept.def cond.now) }
-        ensures begins { (kept : ViewKept) → slice_get self.now.rows.list view ≡ Some kept → IfOk result (λ found. MatchOption found (Unit {0}) (AllBegin kept.def (λ row. holds cond.now (row ∷ [])))) }
+        ensures said { (kept : ViewKept) → slice_get self.now.rows.list view ≡ Some kept → IfOk result (λ range. IsSaidOf (first_column kept.def) cond.now range) }
+        ensures low { (kept : ViewKept) → slice_get self.now.rows.list view ≡ Some kept → IfOk result (λ range. AllFrom kept.def (λ row. holds cond.now (row ∷ [])) (lowest_of range)) }
+        ensures high { (kept : ViewKept) → slice_get self.now.rows.list view ≡ Some kept → IfOk result (λ range. AllUpTo kept.def (λ row. holds cond.now (row ∷ [])) (highest_of range)) }
     {
         match self.rows.get(view as usize).first_column() {
-            Some(column) => fixed_value(alloc, column, cond),
-            None => Ok(None),
+            Some(column) => range_of(alloc, column, cond),
+            None => Ok(FirstRange::Between {
+                lowest: None,
+                highest: None,
+            }),
         }
     }
 
@@ -60,7 +65,8 @@ impl Store {
         test: &T,
         steps: &mut Steps<L>,
     ) -> Result<Rows, NoMemory>
-        requires only { (kept : ViewKept) → slice_get self.now.rows.list view ≡ Some kept → MatchOption (T.first test.now) (Unit {0}) (AllBegin kept.def (T.passed test.now)) }
+        requires low { (kept : ViewKept) → slice_get self.now.rows.list view ≡ Some kept → AllFrom kept.def (T.passed test.now) (T.lowest test.now) }
+        requires high { (kept : ViewKept) → slice_get self.now.rows.list view ≡ Some kept → AllUpTo kept.def (T.passed test.now) (T.highest test.now) }
         requires whole { IsStore self.now }
         requires live { IsLive self.now.txns session }
         requires pending { CanRead self.now session pending.now }
@@ -124,7 +130,7 @@ impl Store {
 
     /// Rows of a table or a view of which a condition keeps the same as of all: of a table the row with a key, where the
     /// condition fixes it; of a view whose tables the transaction did not write those that the condition keeps, found by a
-    /// search where the condition fixes the first value of what is kept of it.
+    /// search where the condition fixes or bounds the first value of what is kept of it.
     fn rel_rows_to_try<L: Ledger>(
         &self,
         alloc: Global,
@@ -144,9 +150,9 @@ impl Store {
         match rel {
             Rel::Table(table) => self.own_rows_to_try(alloc, session, table, cond, steps),
             Rel::View(view) => {
-                let first = self.first_value(alloc, view, cond)?;
+                let range = self.first_range(alloc, view, cond)?;
                 let kept = KeptBy { cond };
-                let test = SoughtBy { kept, first };
+                let test = SoughtBy { kept, range };
                 self.view_rows(alloc, session, pending, view, &test, steps)
             }
         }

@@ -269,10 +269,10 @@ fn rows_in_order<T: Test<Row>>(
 
 /// The rows of the groups that are there at commit n, with changes, that pass, in ascending order. Cost: a binary search for
 /// each of the lowest and the highest first value that the test names, and a pass over the versions that begin between
-/// these; for each change a search from the one before it and at most 16 comparisons, in all no more than one for each version, one for
-/// each 16 of them and one for each change; of a join view a copy of each row that passes; of a grouped view the listed
-/// values of each group, one row for each that passes and one more for those that do not, a copy of each change whose
-/// group stays, and n log n comparisons of the rows that pass.
+/// these; for each change a search from the one before it and at most 16 comparisons, in all no more than one for each
+/// version, one for each 16 of them and one for each change; of a join view a copy of each row that passes; of a grouped
+/// view the listed values of each group, one row for each that passes and one more for those that do not, a copy of each
+/// change whose group stays, and n log n comparisons of the rows that pass.
 pub(crate) fn rows_passing<T: Seek>(
     alloc: Global,
     view: &ViewDef,
