@@ -22,11 +22,24 @@ use lv_values::{Copying, NoMemory, Row, Rows, Test};
 use std::alloc::Global;
 use std::cmp::Ordering;
 
+/// The most rows for which room is taken before one has passed.
+const FEW_ROWS: usize = 256;
+
 /// Rows that passed, and a row that the next group is listed in.
 #[derive(Drop)]
 struct Listing {
     rows: Rows,
     spare: Row,
+}
+
+/// An empty list of rows, with room for as many as there are places, where these are few.
+fn room_for(alloc: Global, places: usize) -> Result<Rows, NoMemory>
+    ensures { IfOk result (λ rows. rows ≡ []) }
+{
+    if places > FEW_ROWS {
+        return Ok(Rows::new(alloc));
+    }
+    Ok(Rows::from_vec(Vec::with_capacity(alloc, places)?))
 }
 
 /// Appends the row that a view lists of a group, if it passes. The row of a group of a grouped view that does not pass is
@@ -250,7 +263,7 @@ fn rows_in_order<T: Test<Row>>(
     ensures { IfOk result (λ rows. rows ≡ passing view.now (T.passed test.now) (merged changes.now (groups_at n versions.now))) }
 {
     let mut out = Listing {
-        rows: Rows::new(alloc),
+        rows: room_for(alloc, end - from)?,
         spare: Row::new(alloc),
     };
     let mut next = 0;

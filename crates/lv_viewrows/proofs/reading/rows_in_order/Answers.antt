@@ -13,7 +13,7 @@ loop-at-init g c =
     let rest = passing view p (merged c.args.changes.now (groups_at c.args.n (drop c.args.from c.args.versions.now))) in
     record {
       within = c.requires.forward;
-      rows = ap (λ rows. rows ++ rest) c.new.ensures ∙ without_front view p c.args.n c.args.from c.args.versions.now c.args.changes.now c.requires.order c.requires.before;
+      rows = ap (λ rows. rows ++ rest) c.in_ok-room_for.ensures ∙ without_front view p c.args.n c.args.from c.args.versions.now c.args.changes.now c.requires.order c.requires.before;
     }
 
 pub loop-at-preserved : goal.loop-at-preserved
