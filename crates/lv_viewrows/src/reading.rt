@@ -178,7 +178,9 @@ fn push_if_there<T: Test<Row>>(
     Ok(())
 }
 
-/// Appends the rows of the groups that are there at commit n, of the versions from one place up to another.
+/// Appends the rows of the groups that are there at commit n, of the versions from one place up to another. It is kept apart
+/// from its caller, whose values would crowd out those of this loop.
+#[inline(never)]
 fn push_unchanged<T: Test<Row>>(
     alloc: Global,
     view: &ViewDef,

@@ -61,7 +61,8 @@ impl<'a> Candidates<'a> {
         }
     }
 
-    /// The version at a place, which is below the length.
+    /// The version at a place, which is below the length. A read asks for each version by it.
+    #[inline(always)]
     pub(crate) fn get(&self, at: usize) -> &GroupVersion
         requires { at < length self.now }
         ensures { slice_get self.now at ≡ Some result.now }
