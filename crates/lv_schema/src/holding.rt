@@ -27,7 +27,7 @@ pub fn value_at<T: HasRows + Copy>(alloc: Global, rows: T, col: Col) -> Result<V
 pub fn listed<T: HasRows + Copy>(alloc: Global, rows: T, cols: &[Col]) -> Result<Row, NoMemory>
     ensures { IfOk result (λ row. row ≡ listed cols.now (T.rows rows)) }
 {
-    let mut row = Row::new(alloc);
+    let mut row = Row::from_vec(Vec::with_capacity(alloc, cols.len())?);
     for col in cols {
         row.push(value_at(alloc, rows, *col)?)?;
     }

@@ -10,8 +10,8 @@ pub type Sums = Items<i128>;
 /// tuples and a signed sum for each SUM of the view, in the order of its list. A join view has no sums.
 #[derive(Drop)]
 pub struct SignedRow {
-    pub row: Row,
     pub count: i128,
+    pub row: Row,
     pub sums: Sums,
 }
 
