@@ -73,15 +73,22 @@ is_ascii_number digits known i =
     ]
 
 -- the number fits, and each step on the way to it
+pub number_short : (most : ℕ) (digits : List ℕ) → IsNumber digits → length digits ≤ most → digits_value 10 digits < 10 ^ most
+number_short most digits known few = digits_value_short (numerals_by_value (AllDigits 10) tells_digits) digits most (all_digits digits known.each) few
+
 pub number_small : (digits : List ℕ) → IsNumber digits → digits_value 10 digits < 10 ^ 38
-number_small digits known = digits_value_short (numerals_by_value (AllDigits 10) tells_digits) digits 38 (all_digits digits known.each) known.few
+number_small digits known = number_short 38 digits known known.few
 
 pub number_whole : (digits : List ℕ) (i : ℕ) → length digits ≤ i → digits_value 10 (take i digits) ≡ digits_value 10 digits
 number_whole digits i h = ap (digits_value 10) (take_all i digits h)
 
+pub step_short : (most : ℕ) (digits : List ℕ) (i : ℕ) → IsNumber digits → length digits ≤ most → i < length digits
+    → digits_value 10 (take i digits) * 10 + digit_value (get_or digits i 0) < 10 ^ most
+step_short most digits i known few h =
+    omega (arith, number_short most digits known few, digits_value_more 10 digits i h, digits_value-take-le 10 digits (i + 1) (omega arith))
+
 pub step_small : (digits : List ℕ) (i : ℕ) → IsNumber digits → i < length digits → digits_value 10 (take i digits) * 10 + digit_value (get_or digits i 0) < 10 ^ 38
-step_small digits i known h =
-    omega (arith, number_small digits known, digits_value_more 10 digits i h, digits_value-take-le 10 digits (i + 1) (omega arith))
+step_small digits i known h = step_short 38 digits i known known.few h
 
 -- ---- words
 

@@ -14,20 +14,20 @@ const MOST_DIGITS: usize = 38;
 
 const QUOTE: u8 = b'\'';
 
-// Most bytes of a line are small letters, so the tests below ask for these first.
+// Most bytes of a line are letters, so the tests below ask for these first.
 
 #[inline(always)]
 fn is_letter(byte: u8) -> bool
     ensures { result ≡ names.is_letter byte }
 {
-    byte.is_ascii_lowercase() || byte == b'_' || byte.is_ascii_uppercase()
+    byte.is_ascii_alphabetic() || byte == b'_'
 }
 
 #[inline(always)]
 fn is_word_byte(byte: u8) -> bool
     ensures { result ≡ names.is_word_byte byte }
 {
-    byte.is_ascii_lowercase() || byte.is_ascii_digit() || byte == b'_' || byte.is_ascii_uppercase()
+    byte.is_ascii_alphabetic() || byte == b'_' || byte.is_ascii_digit()
 }
 
 #[inline(always)]

@@ -21,6 +21,9 @@ use std::alloc::Global;
 
 const QUOTE: u8 = b'\'';
 
+/// The most digits of a number that is short: it fits 64 bits.
+const SHORT_DIGITS: usize = 18;
+
 /// The text with these bytes, which are UTF-8.
 fn as_text(alloc: Global, bytes: &[u8]) -> Result<Text, NoMemory>
     requires { IsUtf8 bytes.now }
@@ -93,12 +96,28 @@ fn lower(alloc: Global, word: &str) -> Result<Text, NoMemory>
     Text::from_str(alloc, lowered.as_str())
 }
 
+/// The number that these few digits represent.
+fn short_number(digits: &[u8]) -> u64
+    requires number { Spells digits.now sort.Number }
+    requires short { length digits.now ≤ 18 }
+    ensures { result ≡ digits_value 10 digits.now }
+{
+    let mut number = 0;
+    for digit in digits {
+        number = number * 10 + u64::from(*digit - b'0');
+    }
+    number
+}
+
 /// The number that the digits represent.
 fn number_of(digits: &[u8]) -> u128
     requires { Spells digits.now sort.Number }
     ensures value { result ≡ digits_value 10 digits.now }
     ensures small { result < 10 ^ 38 }
 {
+    if digits.len() <= SHORT_DIGITS {
+        return u128::from(short_number(digits));
+    }
     let mut number = 0;
     for digit in digits {
         number = number * 10 + u128::from(*digit - b'0');
