@@ -16,7 +16,10 @@ fn is_over(bytes: &[u8]) -> bool
 {
     match bytes {
         [] => true,
-        [b'-', b'-', ..] => true,
+        [b'-', rest @ ..] => match rest {
+            [b'-', ..] => true,
+            _ => false,
+        },
         _ => false,
     }
 }
