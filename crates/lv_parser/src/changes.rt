@@ -32,6 +32,7 @@ impl Part for Tuple {
 
 /// INSERT.
 #[tactic(auto, unfolding(crate::specs::Read::insert))]
+#[inline(never)]
 pub(crate) fn insert(alloc: Global, cursor: &mut Cursor) -> Result<Stmt, Stop>
     ensures { Gives (read.insert cursor.old) result cursor.new }
 {
@@ -109,6 +110,7 @@ impl Part for Assign {
 
 /// UPDATE.
 #[tactic(auto, unfolding(crate::specs::Read::update))]
+#[inline(never)]
 pub(crate) fn update(alloc: Global, cursor: &mut Cursor) -> Result<Stmt, Stop>
     ensures { Gives (read.update cursor.old) result cursor.new }
 {

@@ -149,16 +149,20 @@ fn more_units(
 
 /// Units with AND between. One that stands alone takes no list.
 #[cycle(condition)]
+#[inline(always)]
 #[tactic(auto, unfolding(crate::specs::Read::conj_of, crate::specs::Reading::separated))]
 fn conj(alloc: Global, cursor: &mut Cursor, within: Within, depth: u32) -> Result<CondTree, Stop>
     ensures { Gives (read.conj_of (read.unit within depth) cursor.old) result cursor.new }
 {
-    let first = unit(alloc, cursor, within, depth)?;
+    let first = unit(alloc, cursor, within, depth);
+    if first.is_err() {
+        return first;
+    }
     if !cursor.sees(Class::And) {
-        return Ok(first);
+        return first;
     }
     let mut found = Items::new(alloc);
-    found.push(first)?;
+    found.push(first?)?;
     let parts = more_units(alloc, cursor, within, depth, found)?;
     Ok(all_of(parts))
 }
@@ -210,12 +214,15 @@ fn cond_within(
 ) -> Result<CondTree, Stop>
     ensures { Gives (read.cond_of (read.unit within depth) cursor.old) result cursor.new }
 {
-    let first = conj(alloc, cursor, within, depth)?;
+    let first = conj(alloc, cursor, within, depth);
+    if first.is_err() {
+        return first;
+    }
     if !cursor.sees(Class::Or) {
-        return Ok(first);
+        return first;
     }
     let mut found = Items::new(alloc);
-    found.push(first)?;
+    found.push(first?)?;
     let parts = more_conjs(alloc, cursor, within, depth, found)?;
     Ok(one_of(parts))
 }
@@ -258,6 +265,7 @@ fn bracketed(
 /// NOT of a unit, a condition in parentheses, or a comparison, with at most so many levels of them. At level 0 only
 /// a comparison can stand. A comparison, the usual case, is handed on as it is read.
 #[cycle(condition)]
+#[inline(always)]
 #[tactic(auto, unfolding(crate::specs::Read::unit))]
 fn unit(alloc: Global, cursor: &mut Cursor, within: Within, depth: u32) -> Result<CondTree, Stop>
     ensures { Gives (read.unit within depth cursor.old) result cursor.new }
@@ -266,12 +274,12 @@ fn unit(alloc: Global, cursor: &mut Cursor, within: Within, depth: u32) -> Resul
         return comparison(cursor, within);
     }
     if cursor.sees(Class::Not) {
-        negation(alloc, cursor, within, depth - 1)
-    } else if cursor.sees(Class::LeftParen) {
-        bracketed(alloc, cursor, within, depth - 1)
-    } else {
-        comparison(cursor, within)
+        return negation(alloc, cursor, within, depth - 1);
     }
+    if cursor.sees(Class::LeftParen) {
+        return bracketed(alloc, cursor, within, depth - 1);
+    }
+    comparison(cursor, within)
 }
 
 /// A condition. Cost: linear in its tokens.

@@ -226,6 +226,7 @@ fn made_view(alloc: Global, cursor: &mut Cursor) -> Result<Stmt, Stop>
 
 /// CREATE TABLE or CREATE VIEW.
 #[tactic(auto, unfolding(crate::specs::Read::create))]
+#[inline(never)]
 pub(crate) fn create(alloc: Global, cursor: &mut Cursor) -> Result<Stmt, Stop>
     ensures { Gives (read.create cursor.old) result cursor.new }
 {

@@ -59,6 +59,7 @@ fn end_of(line: &Text, stopped: Option<u32>) -> u32
 }
 
 /// The statement that the line is, with names in lower case and places counted in bytes from 1. Cost: linear in the line.
+#[inline(never)]
 pub fn parse(alloc: Global, line: &Text) -> Result<Stmt, ParseFault>
     requires { length line.now < 2 ^ 32 - 1 }
     // What is answered is a reading of the line.

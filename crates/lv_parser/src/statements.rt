@@ -56,32 +56,34 @@ fn short(cursor: &mut Cursor) -> Result<Stmt, Stop>
 
 /// DELETE, SELECT, or a shorter statement.
 #[tactic(auto, unfolding(crate::specs::Read::other))]
+#[inline(never)]
 fn other(alloc: Global, cursor: &mut Cursor) -> Result<Stmt, Stop>
     ensures { Gives (read.other cursor.old) result cursor.new }
 {
     if cursor.sees(Class::Delete) {
-        delete(alloc, cursor)
-    } else if cursor.sees(Class::Select) {
-        select(alloc, cursor)
-    } else {
-        short(cursor)
+        return delete(alloc, cursor);
     }
+    if cursor.sees(Class::Select) {
+        return select(alloc, cursor);
+    }
+    short(cursor)
 }
 
-/// A statement, told by its first word.
+/// A statement, told by its first word. Each kind is handed on as it is read, since a statement is large.
 #[tactic(auto, unfolding(crate::specs::Read::statement))]
 fn statement(alloc: Global, cursor: &mut Cursor) -> Result<Stmt, Stop>
     ensures { Gives (read.statement cursor.old) result cursor.new }
 {
     if cursor.sees(Class::Create) {
-        create(alloc, cursor)
-    } else if cursor.sees(Class::Insert) {
-        insert(alloc, cursor)
-    } else if cursor.sees(Class::Update) {
-        update(alloc, cursor)
-    } else {
-        other(alloc, cursor)
+        return create(alloc, cursor);
     }
+    if cursor.sees(Class::Insert) {
+        return insert(alloc, cursor);
+    }
+    if cursor.sees(Class::Update) {
+        return update(alloc, cursor);
+    }
+    other(alloc, cursor)
 }
 
 /// A statement, with a semicolon behind it or not. Cost: linear in the tokens.
@@ -89,7 +91,9 @@ fn statement(alloc: Global, cursor: &mut Cursor) -> Result<Stmt, Stop>
 pub(crate) fn line(alloc: Global, cursor: &mut Cursor) -> Result<Stmt, Stop>
     ensures { Gives (read.line cursor.old) result cursor.new }
 {
-    let found = statement(alloc, cursor)?;
-    cursor.allow(Class::Semicolon);
-    Ok(found)
+    let found = statement(alloc, cursor);
+    if found.is_ok() {
+        cursor.allow(Class::Semicolon);
+    }
+    found
 }

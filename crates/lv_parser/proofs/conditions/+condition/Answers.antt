@@ -4,7 +4,7 @@ use Rattle.lv_lexer.specs.declared.terminals.Class.TheVariants as k
 use Rattle.lv_parser.specs.Reading.{sees, behind}
 use Rattle.lv_parser.specs.Read as read
 use Rattle.lv_parser.proofs.Loops.{loop_begins, loop_goes_on, loop_stops, loop_done, loop_full, gives_err}
-use Rattle.lv_parser.proofs.Units.{conj_alone, cond_alone, unit_negation, unit_bracketed, unit_other}
+use Rattle.lv_parser.proofs.Units.{conj_stopped, conj_single, cond_stopped, cond_single, unit_negation, unit_bracketed, unit_other}
 use Rattle.lv_parser.proofs.conditions.+condition.Goals as goal
 use Rattle.lv_parser.proofs.conditions.+condition.Goals.{more_conjs-else-each-test, more_conjs-then-each-test+then-not-sees, more_units-else-each-test, more_units-then-each-test+then-not-sees}
 
@@ -68,18 +68,30 @@ pub unit-returns-then-sees-2 : goal.unit-returns-then-sees-2
 unit-returns-then-sees-2 t c =
     let e : c.args.depth ≡ suc (c.args.depth - 1) = omega arith in
     rw (unit_bracketed c.args.within (c.args.depth - 1) c.args.depth c.args.cursor.now e (sym c.sees.ensures ∙ c.if-sees.false)
-    (sym c.sees-else-sees.ensures ∙ c.if-sees-2.true)) c.bracketed.ensures
+    (sym c.sees-2.ensures ∙ c.if-sees-2.true)) c.bracketed.ensures
 
-pub unit-returns-else-sees-2 : goal.unit-returns-else-sees-2
-unit-returns-else-sees-2 t c =
+pub unit-returns : goal.unit-returns
+unit-returns t c =
     let e : c.args.depth ≡ suc (c.args.depth - 1) = omega arith in
-    rw (unit_other c.args.within (c.args.depth - 1) c.args.depth c.args.cursor.now e (sym c.sees.ensures ∙ c.if-sees.false) (sym c.sees-else-sees.ensures ∙ c.if-sees-2.false))
-    c.comparison-else-sees-2.ensures
+    rw (unit_other c.args.within (c.args.depth - 1) c.args.depth c.args.cursor.now e (sym c.sees.ensures ∙ c.if-sees.false) (sym c.sees-2.ensures ∙ c.if-sees-2.false))
+    c.comparison-2.ensures
+
+pub conj-returns-then-is_err : goal.conj-returns-then-is_err
+conj-returns-then-is_err t c =
+    conj_stopped (read.unit c.args.within c.args.depth) c.args.cursor.now c.unit-first.new.cursor c.unit-first.result c.unit-first.ensures
+    (sym c.is_err.ensures.value ∙ c.if-is_err.true)
 
 pub conj-returns-then-not-sees : goal.conj-returns-then-not-sees
 conj-returns-then-not-sees t c =
-    conj_alone (read.unit c.args.within c.args.depth) c.args.cursor.now _ _ c.in_ok-first.ensures (sym c.sees.ensures ∙ c.if-not-sees.true)
+    conj_single (read.unit c.args.within c.args.depth) c.args.cursor.now c.unit-first.new.cursor c.unit-first.result c.unit-first.ensures
+    (sym c.is_err.ensures.value ∙ c.if-is_err.false) (sym c.sees.ensures ∙ c.if-not-sees.true)
+
+pub cond_within-returns-then-is_err : goal.cond_within-returns-then-is_err
+cond_within-returns-then-is_err t c =
+    cond_stopped (read.unit c.args.within c.args.depth) c.args.cursor.now c.conj-first.new.cursor c.conj-first.result c.conj-first.ensures
+    (sym c.is_err.ensures.value ∙ c.if-is_err.true)
 
 pub cond_within-returns-then-not-sees : goal.cond_within-returns-then-not-sees
 cond_within-returns-then-not-sees t c =
-    cond_alone (read.unit c.args.within c.args.depth) c.args.cursor.now _ _ c.in_ok-first.ensures (sym c.sees.ensures ∙ c.if-not-sees.true)
+    cond_single (read.unit c.args.within c.args.depth) c.args.cursor.now c.conj-first.new.cursor c.conj-first.result c.conj-first.ensures
+    (sym c.is_err.ensures.value ∙ c.if-is_err.false) (sym c.sees.ensures ∙ c.if-not-sees.true)
