@@ -13,6 +13,7 @@ ghost use Rattle.lv_bind.specs.Sources.{AreNarrow, place_of, sources_of, target_
 ghost use Rattle.lv_bind.specs.Unknown.{is_table};
 ghost use Rattle.lv_schema.specs.Bound.{is_text};
 ghost use Rattle.lv_schema.specs.declared.change.Change.TheVariants.{Insert, Update, Delete};
+ghost use Rattle.lv_schema.specs.declared.bound.Bound.TheVariants as bound;
 ghost use Rattle.lv_schema.specs.declared.cond.Cond.TheVariants.{Cmp};
 ghost use Rattle.lv_schema.specs.declared.table.Kind.{Kind as AKind};
 
@@ -391,30 +392,32 @@ fn is_table(target: Option<Rel>) -> bool
 }
 
 /// An INSERT of these tuples without a fault.
-fn sound_insert(alloc: Global, scope: &Scope<'_>, tuples: &[Tuple]) -> Result<Change, Stop>
-    ensures bound { IfOk result (λ c. c ≡ Insert (table_number scope.now.target) (bound_rows tuples.now)) }
+#[inline(never)]
+fn sound_insert(alloc: Global, scope: &Scope<'_>, tuples: &[Tuple]) -> Result<Bound, Stop>
+    ensures bound { IfOk result (λ b. b ≡ bound.Change (Insert (table_number scope.now.target) (bound_rows tuples.now))) }
     ensures sound { OnOk result ((is_table scope.now.target ≡ true) × AreSoundTuples (insert_columns (tables_of scope.now) scope.now.target) tuples.now) }
 {
     let columns = insert_columns(scope.schema, scope.target);
-    if is_table(scope.target) && are_sound_tuples(columns, tuples) {
-        Ok(Change::Insert {
-            table: table_number(scope.target),
-            rows: bound_rows(alloc, tuples)?,
-        })
-    } else {
-        Err(Stop::Doubt)
+    if !is_table(scope.target) || !are_sound_tuples(columns, tuples) {
+        return Err(Stop::Doubt);
     }
+    let rows = bound_rows(alloc, tuples)?;
+    Ok(Bound::Change(Change::Insert {
+        table: table_number(scope.target),
+        rows,
+    }))
 }
 
 /// An UPDATE without a fault.
+#[inline(never)]
 fn sound_update(
     alloc: Global,
     scope: &Scope<'_>,
     sets: &Assigns,
     cond: &CondTree,
-) -> Result<Change, Stop>
+) -> Result<Bound, Stop>
     requires { IsNarrow (aliases scope.now) }
-    ensures bound { IfOk result (λ c. c ≡ Update (table_number scope.now.target) (map (bound_set (aliases scope.now)) sets.now) (bound_cond (aliases scope.now) cond.now)) }
+    ensures bound { IfOk result (λ b. b ≡ bound.Change (Update (table_number scope.now.target) (map (bound_set (aliases scope.now)) sets.now) (bound_cond (aliases scope.now) cond.now))) }
     ensures sound { OnOk result ((is_table scope.now.target ≡ true) × (AreSoundSets (aliases scope.now) sets.now × IsSoundCond (aliases scope.now) cond.now)) }
 {
     if !is_table(scope.target) {
@@ -422,30 +425,32 @@ fn sound_update(
     }
     let bound_sets = sound_sets(alloc, scope, sets.as_slice())?;
     let bound_cond = sound_cond(alloc, scope, cond)?;
-    Ok(Change::Update {
+    Ok(Bound::Change(Change::Update {
         table: table_number(scope.target),
         sets: bound_sets,
         cond: bound_cond,
-    })
+    }))
 }
 
 /// A DELETE without a fault.
-fn sound_delete(alloc: Global, scope: &Scope<'_>, cond: &CondTree) -> Result<Change, Stop>
+#[inline(never)]
+fn sound_delete(alloc: Global, scope: &Scope<'_>, cond: &CondTree) -> Result<Bound, Stop>
     requires { IsNarrow (aliases scope.now) }
-    ensures bound { IfOk result (λ c. c ≡ Delete (table_number scope.now.target) (bound_cond (aliases scope.now) cond.now)) }
+    ensures bound { IfOk result (λ b. b ≡ bound.Change (Delete (table_number scope.now.target) (bound_cond (aliases scope.now) cond.now))) }
     ensures sound { OnOk result ((is_table scope.now.target ≡ true) × IsSoundCond (aliases scope.now) cond.now) }
 {
     if !is_table(scope.target) {
         return Err(Stop::Doubt);
     }
     let bound_cond = sound_cond(alloc, scope, cond)?;
-    Ok(Change::Delete {
+    Ok(Bound::Change(Change::Delete {
         table: table_number(scope.target),
         cond: bound_cond,
-    })
+    }))
 }
 
 /// A query without a fault.
+#[inline(never)]
 fn sound_query(
     alloc: Global,
     scope: &Scope<'_>,
@@ -453,9 +458,9 @@ fn sound_query(
     refs: &RefTrees,
     cond: &CondTree,
     order: &OrderTrees,
-) -> Result<Query, Stop>
+) -> Result<Bound, Stop>
     requires { IsNarrow (aliases scope.now) }
-    ensures bound { IfOk result (λ q. q ≡ record { rels = map (λ s. rel_of s.rel) scope.now.sources.now; cond = bound_cond (aliases scope.now) cond.now; list = bound_list (aliases scope.now) list.now; order = bound_order (aliases scope.now) order.now }) }
+    ensures bound { IfOk result (λ b. b ≡ bound.Query (record { rels = map (λ s. rel_of s.rel) scope.now.sources.now; cond = bound_cond (aliases scope.now) cond.now; list = bound_list (aliases scope.now) list.now; order = bound_order (aliases scope.now) order.now })) }
     ensures sound { OnOk result (AreSoundRefs (map (λ s. s.rel) scope.now.sources.now) refs.now × (IsSoundList (aliases scope.now) list.now × (IsSoundCond (aliases scope.now) cond.now × IsSoundOrder (aliases scope.now) order.now))) }
 {
     if !are_sound_refs(scope.sources, refs.as_slice()) {
@@ -465,12 +470,12 @@ fn sound_query(
     let bound_list = sound_list(alloc, scope, list)?;
     let bound_cond = sound_cond(alloc, scope, cond)?;
     let bound_order = sound_order(alloc, scope, order.as_slice())?;
-    Ok(Query {
+    Ok(Bound::Query(Query {
         rels,
         cond: bound_cond,
         list: bound_list,
         order: bound_order,
-    })
+    }))
 }
 
 /// What a statement with these few aliases is bound to, where one look shows that none of the faults 2 to 6 is in it.
@@ -484,27 +489,15 @@ fn bound_in_few(alloc: Global, scope: &Scope<'_>, stmt: &Stmt) -> Result<Bound, 
     ensures readable { OnOk result (lowest (reading_faults (tables_of scope.now) (views_of scope.now) stmt.now) ≡ None) }
 {
     match stmt {
-        Stmt::Insert { tuples, .. } => {
-            let change = sound_insert(alloc, scope, tuples.as_slice())?;
-            Ok(Bound::Change(change))
-        }
-        Stmt::Update { sets, cond, .. } => {
-            let change = sound_update(alloc, scope, sets, cond)?;
-            Ok(Bound::Change(change))
-        }
-        Stmt::Delete { cond, .. } => {
-            let change = sound_delete(alloc, scope, cond)?;
-            Ok(Bound::Change(change))
-        }
+        Stmt::Insert { tuples, .. } => sound_insert(alloc, scope, tuples.as_slice()),
+        Stmt::Update { sets, cond, .. } => sound_update(alloc, scope, sets, cond),
+        Stmt::Delete { cond, .. } => sound_delete(alloc, scope, cond),
         Stmt::Select {
             list,
             refs,
             cond,
             order,
-        } => {
-            let query = sound_query(alloc, scope, list, refs, cond, order)?;
-            Ok(Bound::Query(query))
-        }
+        } => sound_query(alloc, scope, list, refs, cond, order),
         Stmt::CreateTable { .. } | Stmt::CreateView { .. } => Err(Stop::Doubt),
         Stmt::Begin => Ok(Bound::Begin),
         Stmt::Commit => Ok(Bound::Commit),

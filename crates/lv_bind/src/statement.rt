@@ -147,6 +147,7 @@ fn late_fault(
 }
 
 /// What a statement with these aliases is bound to, unless one of the faults 2 to 6, which are searched, refuses it.
+#[inline(never)]
 fn bound_searched(alloc: Global, scope: &Scope<'_>, stmt: &Stmt) -> Result<Bound, BindFault>
     requires sources { aliases scope.now ≡ sources_of (tables_of scope.now) (views_of scope.now) stmt.now }
     requires narrow { AreNarrow (aliases scope.now) }
