@@ -35,6 +35,7 @@ use lv_plain::{Entry, Program};
 use lv_values::{Copying, Items, NoMemory, Room, Steps, Text};
 use std::alloc::Global;
 use std::marker::Model;
+use std::mem::forget;
 use std::sync::ledger::Ledger;
 
 /// A program, the engine that its statements have come to, what that was when the run began, the kind of the policy by which
@@ -143,11 +144,19 @@ impl<D: Disk> Run<D> {
         &self.engine
     }
 
-    /// The engine, and the run is over.
+    /// The engine, and the run is over. Its program and its transcript stay in memory, for the end of the process to take.
+    /// Cost: constant.
     pub fn into_engine(self) -> Engine<D>
         ensures { result ≡ self.engine }
     {
-        let Run { engine, .. } = self;
+        let Run {
+            engine,
+            program,
+            entries,
+            ..
+        } = self;
+        forget(program);
+        forget(entries);
         engine
     }
 
