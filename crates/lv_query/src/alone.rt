@@ -55,7 +55,7 @@ pub(crate) fn found_among(
     ensures { IfOk result (λ found. found ≡ map (sorted_row query.now) (map alone (matching query.now.cond rows))) }
 {
     let is_whole = is_whole(query.list.as_slice());
-    let mut found = Items::new(alloc);
+    let mut found = Items::from_vec(Vec::with_capacity(alloc, rows.len())?);
     for row in rows.into_vec() {
         if holds(&query.cond, from_ref(&row)) {
             found.push(sorted_row(alloc, query, is_whole, row)?)?;

@@ -55,11 +55,11 @@ impl<'a> Projection<SortedRow> for ListedInOrder<'a> {
     }
 }
 
-/// The listed rows.
+/// The listed rows. The list takes its room once.
 fn listed_rows(alloc: Global, found: Items<SortedRow>) -> Result<Rows, NoMemory>
     ensures { IfOk result (λ rows. rows ≡ map (λ r. r.row) found) }
 {
-    let mut rows = Rows::new(alloc);
+    let mut rows = Rows::from_vec(Vec::with_capacity(alloc, found.len())?);
     for sorted in found.into_vec() {
         rows.push(sorted.row)?;
     }

@@ -3,12 +3,13 @@
 use lv_values::{Copying, Items, NoMemory, Row};
 use std::alloc::Global;
 
-/// A row, the commit that brought it, and the commit that took it away, where one did.
+/// A row, the commit that brought it, and the commit that took it away, where one did. The commits come first: many looks
+/// at versions are at them alone.
 #[derive(Drop)]
 pub struct RowVersion {
-    pub row: Row,
     pub from: u64,
     pub until: Option<u64>,
+    pub row: Row,
 }
 
 /// Versions of the rows of a table or a view.
@@ -17,9 +18,9 @@ pub type RowVersions = Items<RowVersion>;
 impl Copying for RowVersion {
     fn copy(&self, alloc: Global) -> Result<Self, NoMemory> {
         Ok(RowVersion {
-            row: self.row.copy(alloc)?,
             from: self.from,
             until: self.until,
+            row: self.row.copy(alloc)?,
         })
     }
 }
