@@ -1,9 +1,10 @@
 -- Numbers in blocks: where a place lies, and what a change of a block does to the numbers.
 use mathlib.Core.Logic.{⊎_elim}
-use Rattle.std.proofs.Common.{◌≡◌, ℕ, zero, suc, min, ◌+◌, ◌-◌, ◌*◌, ◌/◌, ◌<◌, ◌≤◌, List, [], ◌∷◌, ◌++◌, length, length-append, take, drop, get_or, set, refl, sym, ap, ap₂, ◌∙◌, subst, arith}
+use Rattle.std.proofs.Common.{◌≡◌, ℕ, zero, suc, ◌+◌, ◌-◌, ◌*◌, ◌/◌, ◌<◌, ◌≤◌, List, [], ◌∷◌, ◌++◌, length, length-append, take, drop, get_or, set, refl, sym, ap, ap₂, ◌∙◌, subst, arith}
 use Rattle.std.specs.List.{concat, insert, remove}
 use Rattle.std.proofs.lemmas.Bool.{cases_eq}
-use Rattle.std.proofs.lemmas.List.{append_assoc, get_or_push, get_or-append_right, get_or-set_other, get_or-set_same, get_or_append_left, get_or_default, get_or_past, length-set, set-append_left, set-append_right, set-get_or}
+use Rattle.std.proofs.lemmas.List.{append_assoc, get_or_push, get_or-append_right, get_or-set_other, get_or-set_same, get_or_append_left, drop-append-le, length-set, length-take, take-append-le, set-append_left, set-append_right, set-get_or}
+use Rattle.std.proofs.Math.Seq.{drop-append-add}
 use Rattle.std.proofs.lemmas.List.Edits.{insert-append_left, insert-append_right, length-insert, length-remove, remove-append_left, remove-append_right}
 use Rattle.lv_places.specs.Blocks.{ArePacked, HaveOneMore, LackOne, block_at, block_size, share}
 
@@ -36,6 +37,21 @@ got_in n bs j o d p lt in_block =
     ∙ get_or-append_right (concat (take j bs)) (block_at bs j ++ concat (drop (suc j) bs)) (j * block_size) (j * block_size + o) d long (omega arith)
     ∙ ap (λ i. get_or (block_at bs j ++ concat (drop (suc j) bs)) i d) at
     ∙ get_or_append_left (block_at bs j) (concat (drop (suc j) bs)) d o in_block
+
+-- from a place on: what its block has from there on, and the blocks behind
+pub rest_in : (n : ℕ) (bs : List (List ℕ)) (j o : ℕ) → ArePacked n bs → j < length bs → o < length (block_at bs j) → drop (j * block_size + o) (concat bs) ≡ drop o (block_at bs j) ++ concat (drop (suc j) bs)
+rest_in n bs j o p lt in_block =
+    let long = full n bs j p (omega arith) (omega (arith, p.shares j lt, in_block)) in
+    let front = concat (take j bs) in
+    let behind = concat (drop (suc j) bs) in
+    ap (λ l. drop (j * block_size + o) l) (concat_at bs j lt)
+    ∙ ap (λ i. drop (i + o) (front ++ (block_at bs j ++ behind))) (sym long)
+    ∙ drop-append-add front (block_at bs j ++ behind) o
+    ∙ drop-append-le o (block_at bs j) behind (omega (arith, in_block))
+
+-- a run in a part is one in the whole
+pub run_longer : (r xs ys : List ℕ) → r ≡ take (length r) xs → r ≡ take (length r) (xs ++ ys)
+run_longer r xs ys e = e ∙ sym (take-append-le (length r) xs ys (omega (arith, ap length e, length-take (length r) xs)))
 
 pub put_in : (n : ℕ) (bs : List (List ℕ)) (j o x : ℕ) → ArePacked n bs → j < length bs → j * block_size ≤ n → o ≤ length (block_at bs j) → concat (set bs j (insert (block_at bs j) o x)) ≡ insert (concat bs) (j * block_size + o) x
 put_in n bs j o x p lt more in_block =

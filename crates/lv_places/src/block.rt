@@ -1,5 +1,5 @@
 //! A block of numbers.
-ghost use Rattle.std.specs.Prelude.{◌≡◌, ◌≤◌, ◌<◌, ◌++◌, ◌∷◌, [], length, slice_index_or, slice_set, IfOk};
+ghost use Rattle.std.specs.Prelude.{◌≡◌, ◌≤◌, ◌<◌, ◌++◌, ◌∷◌, [], length, slice_index_or, slice_set, drop, take, IfOk};
 ghost use Rattle.std.specs.List.{insert, remove};
 ghost use Rattle.std.specs.VecDeque.{deque_capacity};
 ghost use Rattle.lv_places.specs.Blocks.{block_size};
@@ -48,6 +48,20 @@ impl Block {
         ensures { result ≡ slice_index_or self.now at result }
     {
         self.numbers[at]
+    }
+
+    /// The numbers that lie side by side from a place on: those up to the end of the block, or of the part of the ring.
+    pub(crate) fn run(&self, at: usize) -> &[u32]
+        requires { at < length self.now }
+        ensures some { 0 < length result.now }
+        ensures run { result.now ≡ take (length result.now) (drop at self.now) }
+    {
+        let (front, back) = self.numbers.as_slices();
+        if at < front.len() {
+            &front[at..]
+        } else {
+            &back[at - front.len()..]
+        }
     }
 
     /// Puts a number in the place of another one.

@@ -1,5 +1,5 @@
 //! Blocks, each of which is full before the next one has a number.
-ghost use Rattle.std.specs.Prelude.{◌≡◌, ℕ, ◌+◌, ◌-◌, ◌*◌, ◌/◌, ◌≤◌, ◌<◌, ◌++◌, ◌∷◌, [], length, slice_index_or, slice_set, OnOk, OnErr};
+ghost use Rattle.std.specs.Prelude.{◌≡◌, ℕ, ◌+◌, ◌-◌, ◌*◌, ◌/◌, ◌≤◌, ◌<◌, ◌++◌, ◌∷◌, [], length, slice_index_or, slice_set, drop, take, OnOk, OnErr};
 ghost use Rattle.std.specs.List.{concat, insert, remove};
 ghost use Rattle.lv_places.specs.Blocks.{ArePacked, LackOne, HaveOneMore, block_at, block_size};
 
@@ -50,6 +50,16 @@ pub(crate) fn number_at(len: usize, blocks: &[Block], at: usize) -> u32
     ensures { result ≡ slice_index_or (concat blocks.now) at result }
 {
     block_in(blocks, at / SIZE).at(at % SIZE)
+}
+
+/// The numbers that lie side by side from a place on.
+pub(crate) fn run_at(len: usize, blocks: &[Block], at: usize) -> &[u32]
+    requires packed { ArePacked len blocks.now }
+    requires place { at < len }
+    ensures some { 0 < length result.now }
+    ensures run { result.now ≡ take (length result.now) (drop at (concat blocks.now)) }
+{
+    block_in(blocks, at / SIZE).run(at % SIZE)
 }
 
 /// Puts a number into a block.

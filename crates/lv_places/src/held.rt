@@ -1,11 +1,11 @@
 //! Numbers in a plain list while they are few, else in blocks.
-ghost use Rattle.std.specs.Prelude.{◌≡◌, ℕ, ◌+◌, ◌-◌, ◌*◌, ◌^◌, ◌≤◌, ◌<◌, length, slice_index_or, slice_set, IfOk, OnOk};
+ghost use Rattle.std.specs.Prelude.{◌≡◌, ℕ, ◌+◌, ◌-◌, ◌*◌, ◌^◌, ◌≤◌, ◌<◌, length, slice_index_or, slice_set, drop, take, IfOk, OnOk};
 ghost use Rattle.std.specs.List.{concat, insert, remove};
 ghost use Rattle.std.specs.Vec.{vec_capacity};
 ghost use Rattle.lv_places.specs.Blocks.{AreHeld, ArePacked, block_size, held, held_room};
 
 use crate::block::{Block, SIZE};
-use crate::blocks::{add_blocks, insert_number, number_at, remove_number, set_number};
+use crate::blocks::{add_blocks, insert_number, number_at, remove_number, run_at, set_number};
 use lv_values::NoMemory;
 use std::alloc::Global;
 
@@ -25,6 +25,29 @@ pub(crate) fn held_at(len: usize, few: &[u32], blocks: &[Block], at: usize) -> u
         few[at]
     } else {
         number_at(len, blocks, at)
+    }
+}
+
+/// The numbers of the plain list from a place on.
+fn few_run(few: &[u32], at: usize) -> &[u32]
+    requires { at < length few.now }
+    ensures some { 0 < length result.now }
+    ensures run { result.now ≡ drop at few.now }
+{
+    &few[at..]
+}
+
+/// The numbers that lie side by side from a place on.
+pub(crate) fn held_run<'a>(len: usize, few: &'a [u32], blocks: &'a [Block], at: usize) -> &'a [u32]
+    requires held { AreHeld len few.now blocks.now }
+    requires place { at < len }
+    ensures some { 0 < length result.now }
+    ensures run { result.now ≡ take (length result.now) (drop at (held few.now blocks.now)) }
+{
+    if blocks.is_empty() {
+        few_run(few, at)
+    } else {
+        run_at(len, blocks, at)
     }
 }
 

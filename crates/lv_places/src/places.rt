@@ -1,9 +1,9 @@
 //! Numbers in an order, with the room that they have.
-ghost use Rattle.std.specs.Prelude.{◌≡◌, ◌≤◌, ◌<◌, [], length, slice_index_or, slice_set, take, OnOk};
+ghost use Rattle.std.specs.Prelude.{◌≡◌, ◌≤◌, ◌<◌, [], length, slice_index_or, slice_set, drop, take, OnOk};
 ghost use Rattle.std.specs.List.{insert, remove};
 
 use crate::block::Block;
-use crate::held::{held_at, insert_held, remove_held, reserve_held, set_held};
+use crate::held::{held_at, held_run, insert_held, remove_held, reserve_held, set_held};
 use lv_values::NoMemory;
 use std::alloc::Global;
 use std::marker::Model;
@@ -59,6 +59,16 @@ impl Places {
         ensures { result ≡ slice_index_or self.now.list at result }
     {
         held_at(self.len, self.few.as_slice(), self.blocks.as_slice(), at)
+    }
+
+    /// The numbers that lie side by side from a place on: at least the one there, and as many as lie in one block behind
+    /// it, or in one of the two parts of its ring. Cost: constant.
+    pub fn run(&self, at: usize) -> &[u32]
+        requires { at < length self.now.list }
+        ensures some { 0 < length result.now }
+        ensures run { result.now ≡ take (length result.now) (drop at self.now.list) }
+    {
+        held_run(self.len, self.few.as_slice(), self.blocks.as_slice(), at)
     }
 
     /// Makes room for so many numbers in all. The numbers stay as they were, and the room never shrinks. Cost: constant

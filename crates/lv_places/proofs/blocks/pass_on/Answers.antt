@@ -1,6 +1,5 @@
-use Rattle.std.proofs.Common.{◌+◌, suc, arith}
-use Rattle.lv_places.specs.Blocks.{HaveOneMore}
-use Rattle.lv_places.proofs.Packed.{IsMoved, passed_on}
+use Rattle.std.proofs.Common.{◌+◌, arith}
+use Rattle.lv_places.proofs.Packed.{passed_on}
 use Rattle.lv_places.proofs.blocks.pass_on.Goals as goal
 
 pub returns : goal.returns

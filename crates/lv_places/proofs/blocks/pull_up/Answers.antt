@@ -1,6 +1,5 @@
-use Rattle.std.proofs.Common.{◌+◌, suc, arith}
-use Rattle.lv_places.specs.Blocks.{LackOne}
-use Rattle.lv_places.proofs.Packed.{IsMoved, pulled_up}
+use Rattle.std.proofs.Common.{◌+◌, arith}
+use Rattle.lv_places.proofs.Packed.{pulled_up}
 use Rattle.lv_places.proofs.blocks.pull_up.Goals as goal
 
 pub returns : goal.returns

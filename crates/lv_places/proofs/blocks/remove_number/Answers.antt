@@ -1,4 +1,4 @@
-use Rattle.std.proofs.Common.{◌≡◌, ◌+◌, ◌*◌, ◌/◌, ◌%◌, ◌<◌, ◌∙◌, sym, ap, length, arith}
+use Rattle.std.proofs.Common.{◌≡◌, ◌+◌, ◌*◌, ◌/◌, ◌%◌, ◌<◌, ◌∙◌, ap, length, arith}
 use Rattle.std.specs.List.{concat, remove}
 use Rattle.lv_places.specs.Blocks.{block_at, block_size}
 use Rattle.lv_places.proofs.Packed.{taken_in}
