@@ -2,3 +2,4 @@ pub mod Cutting
 pub mod Among
 pub mod Shelved
 pub mod Orders
+pub mod Runs

@@ -3,7 +3,9 @@
 
 mod order;
 mod ranked_places;
+mod run;
 mod shelf;
 mod slots;
 
+pub use run::Run;
 pub use shelf::Shelf;

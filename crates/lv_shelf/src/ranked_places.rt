@@ -1,5 +1,5 @@
 //! Numbers of slots in an order, with a rank for each slot.
-ghost use Rattle.std.specs.Prelude.{◌≡◌, ◌≤◌, ◌<◌, [], length, slice_index_or, slice_set, take, OnOk};
+ghost use Rattle.std.specs.Prelude.{◌≡◌, ◌+◌, ◌≤◌, ◌<◌, [], length, slice_index_or, slice_set, drop, take, OnOk};
 ghost use Rattle.std.specs.List.{insert, remove};
 
 use lv_places::Places;
@@ -50,6 +50,18 @@ impl RankedPlaces {
         ensures { result ≡ slice_index_or self.now.list at result }
     {
         self.places.at(at)
+    }
+
+    /// The numbers that lie side by side from a place on, none of them from `end` on. Cost: constant.
+    pub(crate) fn run(&self, at: usize, end: usize) -> &[u32]
+        requires place { at < end }
+        requires end { end ≤ length self.now.list }
+        ensures some { 0 < length result.now }
+        ensures within { at + length result.now ≤ end }
+        ensures run { result.now ≡ take (length result.now) (drop at self.now.list) }
+    {
+        let run = self.places.run(at);
+        &run[..run.len().min(end - at)]
     }
 
     /// The rank that a slot was given last, or 0.

@@ -1,11 +1,12 @@
 //! A list in which elements are put anywhere without being moved.
-ghost use Rattle.std.specs.Prelude.{◌≡◌, ◌≤◌, ◌<◌, ◌+◌, ◌++◌, ◌∷◌, [], length, slice_get, slice_set, filter, map, Some, OnOk, OnErr};
+ghost use Rattle.std.specs.Prelude.{◌≡◌, ◌≤◌, ◌<◌, ◌+◌, ◌++◌, ◌∷◌, [], length, slice_get, slice_set, drop, take, filter, map, Some, OnOk, OnErr};
 ghost use Rattle.std.specs.List.{insert, remove, AllByRecursion};
 ghost use Rattle.lv_shelf.specs.Cuts.{Falls, IsCut};
 ghost use Rattle.lv_shelf.specs.Shelves.{ChangesOnly, LacksItem, other_at};
 
 use crate::order::{keep_each, keep_taken, make_room};
 use crate::ranked_places::RankedPlaces;
+use crate::run::{Run, run_of};
 use crate::slots::{clear_failing, cut_at, cut_near, edit_slot, exchange_slot, item_at, set_slot};
 use lv_values::{Edit, NoMemory, Test};
 use std::alloc::Global;
@@ -68,6 +69,17 @@ impl<T> Shelf<T> {
         item_at(self.slots.as_slice(), &self.order, at)
     }
 
+    /// Elements from a place on that are looked up together: at least the one there, and none from `end` on. Cost: constant.
+    pub fn run(&self, at: usize, end: usize) -> Run<'_, T>
+        requires place { at < end }
+        requires end { end ≤ length self.now.list }
+        ensures some { 0 < length result }
+        ensures within { at + length result ≤ end }
+        ensures run { result ≡ take (length result) (drop at self.now.list) }
+    {
+        run_of(self.slots.as_slice(), &self.order, at, end)
+    }
+
     /// How many elements pass a test that no later element passes where an earlier one fails. Cost: a binary search.
     pub fn cut<P: Test<T>>(&self, test: &P) -> usize
         requires { Falls (P.passed test.now) self.now.list }
@@ -109,6 +121,19 @@ impl<T> Shelf<T> {
         ensures { slice_get (other_at self.now.others order) at ≡ Some result.now }
     {
         item_at(self.slots.as_slice(), &self.others[order], at)
+    }
+
+    /// Elements of a further order from a place on, that are looked up together: at least the one there, and none from
+    /// `end` on. Cost: constant.
+    pub fn run_in(&self, order: usize, at: usize, end: usize) -> Run<'_, T>
+        requires order { order < length self.now.others }
+        requires place { at < end }
+        requires end { end ≤ length (other_at self.now.others order) }
+        ensures some { 0 < length result }
+        ensures within { at + length result ≤ end }
+        ensures run { result ≡ take (length result) (drop at (other_at self.now.others order)) }
+    {
+        run_of(self.slots.as_slice(), &self.others[order], at, end)
     }
 
     /// How many elements of a further order pass a test that no later one passes where an earlier one fails.
