@@ -1,6 +1,6 @@
 -- The rows whose first key values are between two others.
-use Rattle.std.proofs.Common.{◌≡◌, ℕ, zero, suc, ◌+◌, ◌<◌, ◌≤◌, Bool, true, false, not, cond, List, [], ◌∷◌, drop, take, length, map, filter, Option, Some, None, Result, Ok, Err, Bor, refl, sym, ap, ap₂, ◌∙◌, subst, arith}
-use Rattle.std.specs.Prelude.{◌&&◌, MatchOption, OnErr, OnOk, slice_get}
+use Rattle.std.proofs.Common.{◌≡◌, ℕ, zero, suc, ◌+◌, ◌≤◌, Bool, true, false, not, cond, List, [], ◌∷◌, drop, take, length, map, filter, Option, Some, None, Result, Ok, Err, Bor, refl, sym, ap, ap₂, ◌∙◌, subst, arith}
+use Rattle.std.specs.Prelude.{◌&&◌, MatchOption, OnErr, OnOk}
 use Rattle.std.specs.List.{AllByRecursion}
 use Rattle.std.specs.Option.{option_copied}
 use Rattle.std.specs.Ordering.{is_gt, is_lt, ordering_then}
@@ -174,9 +174,3 @@ none_left n zero at vs le = ap (state_at n) (none_there at)
 none_left n (suc end) at [] le = ap (state_at n) (none_there at)
 none_left n (suc end) zero (v ∷ vs) le = absurd (omega (arith, le))
 none_left n (suc end) (suc at) (v ∷ vs) le = none_left n end at vs (omega (arith, le))
-
-pub got_before : {X : Type 0} (end i : ℕ) (xs : List X) (x : X) → i < end → slice_get xs i ≡ Some x → slice_get (take end xs) i ≡ Some x
-got_before zero i xs x lt e = absurd (omega (arith, lt))
-got_before (suc end) i [] x lt e = e
-got_before (suc end) zero (y ∷ xs) x lt e = e
-got_before (suc end) (suc i) (y ∷ xs) x lt e = got_before end i xs x (omega (arith, lt)) e

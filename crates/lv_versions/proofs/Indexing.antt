@@ -1,5 +1,5 @@
 -- Indexes: the versions in the order of their values in some columns.
-use Rattle.std.proofs.Common.{◌≡◌, ℕ, zero, suc, ◌+◌, ◌<◌, ◌≤◌, Bool, true, false, cond, List, [], ◌∷◌, ◌++◌, drop, take, map, filter, Some, refl, sym, ap, ap₂, ◌∙◌, subst, arith}
+use Rattle.std.proofs.Common.{◌≡◌, ℕ, zero, suc, ◌+◌, ◌≤◌, Bool, true, false, cond, List, [], ◌∷◌, ◌++◌, drop, take, map, filter, Some, refl, sym, ap, ap₂, ◌∙◌, subst, arith}
 use Rattle.std.specs.Prelude.{◌&&◌, slice_get}
 use Rattle.std.specs.List.{AllByRecursion, remove}
 use Rattle.std.specs.Ordering.{is_eq, is_lt, nat_cmp, ordering_reverse, ordering_then}
@@ -21,7 +21,8 @@ use Rattle.lv_schema.specs.declared.version.RowVersion.{RowVersion}
 use Rattle.lv_shelf.specs.Cuts.{Apart, Falls, IsCut}
 use Rattle.lv_shelf.specs.Shelves.{LacksItem}
 use Rattle.lv_shelf.proofs.Among.{all_remove, apart_remove}
-use Rattle.lv_shelf.proofs.Cutting.{all_at, all_kept, cut_at, cut_fails, got, got_within}
+use Rattle.lv_shelf.proofs.Cutting.{all_at, all_kept, got, got_within}
+use Rattle.lv_shelf.proofs.Runs.{all_taken}
 use Rattle.lv_versions.specs.Versions.{AreIndexed, AreIndexedBut, IsIn, Precedes, closed, hits, index_cmp, is_at, is_upto, reaches_by, rows_hit, state_at, version_cmp}
 use Rattle.lv_versions.proofs.Bringing.{all_last}
 use Rattle.lv_versions.proofs.Cleaning.{all_unplaced, back_lacks, kept_here, placed_here, rest_lacks, same_version_or}
@@ -218,23 +219,9 @@ above_misses cs values n v t = by (row_cmp (values_at cs v.row) values) t
     by Equal e = cc
     by Greater e = and_false (is_at n v)
 
-pub hits_from : (cs : List ℕ) (values : List Value) (n i : ℕ) (xs : List RowVersion) → IsCut (is_upto cs values false) i xs → rows_hit cs values n (drop i xs) ≡ rows_hit cs values n xs
-hits_from cs values n zero xs cut = refl
-hits_from cs values n (suc i) [] cut = absurd cut
-hits_from cs values n (suc i) (x ∷ xs) cut =
-    hits_from cs values n i xs cut.1 ∙ sym (ap (λ b. map (λ (w : RowVersion). w.row) (cond b (x ∷ filter (hits cs values n) xs) (filter (hits cs values n) xs))) (below_misses cs values n x cut.0))
-
 none_hit : (cs : List ℕ) (values : List Value) (n : ℕ) (xs : List RowVersion) → AllByRecursion (λ x. is_upto cs values true x ≡ false) xs → rows_hit cs values n xs ≡ []
 none_hit cs values n [] a = refl
 none_hit cs values n (x ∷ xs) a = ap (λ b. map (λ (w : RowVersion). w.row) (cond b (x ∷ filter (hits cs values n) xs) (filter (hits cs values n) xs))) (above_misses cs values n x a.0) ∙ none_hit cs values n xs a.1
-
-pub no_more_hits : (cs : List ℕ) (values : List Value) (n i at : ℕ) (xs : List RowVersion) → i ≤ at → IsCut (is_upto cs values true) i xs → rows_hit cs values n (drop at xs) ≡ []
-no_more_hits cs values n zero zero xs le cut = none_hit cs values n xs cut
-no_more_hits cs values n zero (suc at) [] le cut = refl
-no_more_hits cs values n zero (suc at) (x ∷ xs) le cut = no_more_hits cs values n zero at xs (omega arith) cut.1
-no_more_hits cs values n (suc i) zero xs le cut = absurd (omega arith)
-no_more_hits cs values n (suc i) (suc at) [] le cut = refl
-no_more_hits cs values n (suc i) (suc at) (x ∷ xs) le cut = no_more_hits cs values n i at xs (omega arith) cut.1
 
 -- between the two places a version has these values
 and_true : (a : Bool) → a ≡ (a && true)
@@ -249,13 +236,23 @@ shown_hits cs values n v above upto = by (row_cmp (values_at cs v.row) values) a
     by Equal e f = and_true (is_at n v)
     by Greater e f = cc
 
-pub between_hits : (cs : List ℕ) (values : List Value) (n first end at : ℕ) (v : RowVersion) (xs : List RowVersion) → IsCut (is_upto cs values false) first xs → IsCut (is_upto cs values true) end xs → first ≤ at → at < end → slice_get xs at ≡ Some v
-    → state_at n (v ∷ []) ≡ rows_hit cs values n (v ∷ [])
-between_hits cs values n first end at v xs below upto le lt e =
-    let is = got xs at v v e in
-    let above : is_upto cs values false v ≡ false = sym (ap (is_upto cs values false) is) ∙ cut_fails (is_upto cs values false) first at xs v below le (got_within xs at v e) in
-    let within : is_upto cs values true v ≡ true = sym (ap (is_upto cs values true) is) ∙ cut_at (is_upto cs values true) end at xs v upto lt in
-    ap (λ b. map (λ (w : RowVersion). w.row) (cond b (v ∷ []) [])) (shown_hits cs values n v above within)
+-- what stands between the two places are the rows with these values
+pub hits_between : (cs : List ℕ) (values : List Value) (n first end : ℕ) (xs : List RowVersion) → IsCut (is_upto cs values false) first xs → IsCut (is_upto cs values true) end xs → state_at n (drop first (take end xs)) ≡ rows_hit cs values n xs
+hits_between cs values n zero zero xs below upto = sym (none_hit cs values n xs upto)
+hits_between cs values n zero (suc end) [] below upto = absurd upto
+hits_between cs values n zero (suc end) (x ∷ xs) below upto = by (is_at n x) (hits cs values n x) (shown_hits cs values n x below.0 upto.0) (hits_between cs values n zero end xs below.1 upto.1)
+  where
+    by : (a b : Bool) → a ≡ b → state_at n (take end xs) ≡ rows_hit cs values n xs
+        → map (λ (w : RowVersion). w.row) (cond a (x ∷ filter (is_at n) (take end xs)) (filter (is_at n) (take end xs))) ≡ map (λ (w : RowVersion). w.row) (cond b (x ∷ filter (hits cs values n) xs) (filter (hits cs values n) xs))
+    by true true e ih = ap (λ l. x.row ∷ l) ih
+    by true false e ih = cc
+    by false true e ih = cc
+    by false false e ih = ih
+hits_between cs values n (suc first) zero xs below upto = sym (none_hit cs values n xs upto)
+hits_between cs values n (suc first) (suc end) [] below upto = absurd upto
+hits_between cs values n (suc first) (suc end) (x ∷ xs) below upto =
+    hits_between cs values n first end xs below.1 upto.1
+    ∙ sym (ap (λ b. map (λ (w : RowVersion). w.row) (cond b (x ∷ filter (hits cs values n) xs) (filter (hits cs values n) xs))) (below_misses cs values n x below.0))
 
 pub cuts_apart : (cs : List ℕ) (values : List Value) (first end : ℕ) (xs : List RowVersion) → IsCut (is_upto cs values false) first xs → IsCut (is_upto cs values true) end xs → first ≤ end
 cuts_apart cs values zero end xs below upto = omega arith
@@ -293,17 +290,11 @@ indexed_hits cs ps values n order us stand a =
         sym (ap (λ o. ordering_then o (version_cmp ps v w)) tied) ∙ e
 
 -- ---- the first versions, put into an index one after another
-all_take : {X : Type 0} (P : X → Type 0) (xs : List X) (i : ℕ) → AllByRecursion P xs → AllByRecursion P (take i xs)
-all_take P [] zero a = tt
-all_take P [] (suc i) a = tt
-all_take P (x ∷ xs) zero a = tt
-all_take P (x ∷ xs) (suc i) a = (a.0, all_take P xs i a.1)
-
 apart_take : {X : Type 0} (R : X → X → Type 0) (xs : List X) (i : ℕ) → Apart R xs → Apart R (take i xs)
 apart_take R [] zero a = tt
 apart_take R [] (suc i) a = tt
 apart_take R (x ∷ xs) zero a = tt
-apart_take R (x ∷ xs) (suc i) a = (all_take (R x) xs i a.0, apart_take R xs i a.1)
+apart_take R (x ∷ xs) (suc i) a = (all_taken (R x) i xs a.0, apart_take R xs i a.1)
 
 got_take : (vs : List RowVersion) (at : ℕ) (v : RowVersion) → slice_get vs at ≡ Some v → slice_get (take (at + 1) vs) at ≡ Some v
 got_take [] at v e = cc

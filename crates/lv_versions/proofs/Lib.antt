@@ -8,3 +8,4 @@ pub mod Committed
 pub mod Cleaning
 pub mod Indexing
 pub mod Keeping
+pub mod Runs

@@ -16,7 +16,7 @@ use crate::indexes::{add_first, add_index, index_by};
 use crate::rank::rank_of_key;
 use crate::version::{IsUpTo, Reaches, hits, is_at};
 use lv_schema::{Net, Positions, RowVersion, TableDef};
-use lv_shelf::Shelf;
+use lv_shelf::{Run, Shelf};
 use lv_values::{Any, Copying, NoMemory, Room, Row, Rows, Steps, Test};
 use std::alloc::Global;
 use std::marker::Model;
@@ -401,6 +401,26 @@ fn place_of_high(positions: &[u8], high: Option<&Row>, versions: &Shelf<RowVersi
     }
 }
 
+/// Appends copies of the rows after commit n that pass, of these versions, and takes one step for each row after that
+/// commit that they have.
+fn copy_run<L: Ledger, T: Test<Row>>(
+    alloc: Global,
+    n: u64,
+    run: &Run<'_, RowVersion>,
+    test: &T,
+    rows: &mut Rows,
+    steps: &mut Steps<L>,
+) -> Result<(), NoMemory>
+    ensures pushed { OnOk result (rows.new ≡ rows.old ++ filter (T.passed test.now) (state_at n run.now)) }
+    ensures cost { OnOk result (steps.new ≡ steps.old + length (state_at n run.now)) }
+    ensures refused { OnErr result (steps.new ≤ steps.old + length (state_at n run.now)) }
+{
+    for i in 0..run.len() {
+        push_alive(alloc, n, run.get(i), test, rows, steps)?;
+    }
+    Ok(())
+}
+
 /// Copies of the rows after commit n that pass, of the versions from a place up to another one, and one step for each row
 /// after that commit that these versions have.
 fn rows_in<L: Ledger, T: Test<Row>>(
@@ -418,8 +438,11 @@ fn rows_in<L: Ledger, T: Test<Row>>(
     ensures most { OnErr result (steps.new ≤ steps.old + length (state_at n (drop first (take end versions.now.list)))) }
 {
     let mut rows = Rows::new(alloc);
-    for at in first..end {
-        push_alive(alloc, n, versions.get(at), test, &mut rows, steps)?;
+    let mut at = first;
+    while at < end {
+        let run = versions.run(at, end);
+        copy_run(alloc, n, &run, test, &mut rows, steps)?;
+        at += run.len();
     }
     Ok(rows)
 }
@@ -494,6 +517,25 @@ fn push_shown<'b, L: Ledger>(
     }
 }
 
+/// Appends a reference to each row after commit n that these versions have, and takes one step for each. It takes no
+/// memory.
+fn push_run<'b, L: Ledger>(
+    n: u64,
+    run: &Run<'b, RowVersion>,
+    rows: &mut Vec<&'b Row>,
+    steps: &mut Steps<L>,
+)
+    requires room { vec_len rows.old + length run.now ≤ vec_capacity rows.old }
+    ensures pushed { map (λ row. row.now) rows.new.items ≡ map (λ row. row.now) rows.old.items ++ state_at n run.now }
+    ensures cost { steps.new ≡ steps.old + length (state_at n run.now) }
+    ensures len { vec_len rows.new ≤ vec_len rows.old + length run.now }
+    ensures capacity { vec_capacity rows.new ≡ vec_capacity rows.old }
+{
+    for i in 0..run.len() {
+        push_shown(n, run.get(i), rows, steps);
+    }
+}
+
 /// References to the rows after commit n that have these values, from an index by these columns, and one step for each.
 /// Cost: two binary searches, and for each version between room for a reference, taken once, and a test of its commits:
 /// it has these values already.
@@ -526,8 +568,11 @@ fn rows_between<'b, L: Ledger>(
     };
     let end = versions.cut_in_near(order, rank, &upto);
     let mut rows = Vec::with_capacity(alloc, end - first)?;
-    for at in first..end {
-        push_shown(n, versions.get_in(order, at), &mut rows, steps);
+    let mut at = first;
+    while at < end {
+        let run = versions.run_in(order, at, end);
+        push_run(n, &run, &mut rows, steps);
+        at += run.len();
     }
     Ok(rows)
 }

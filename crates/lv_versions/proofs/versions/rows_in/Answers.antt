@@ -1,27 +1,27 @@
-use Rattle.std.proofs.Common.{◌+◌, ◌++◌, ◌∷◌, [], length, length-append, drop, take, filter, sym, ap, ◌∙◌, arith}
+use Rattle.std.proofs.Common.{◌+◌, ◌++◌, [], length, length-append, drop, take, filter, sym, ap, ◌∙◌, arith}
 use Rattle.std.proofs.lemmas.List.{append-nil}
-use Rattle.lv_shelf.proofs.Cutting.{got_within}
+use Rattle.std.proofs.lemmas.Result.{MatchResult-from_err}
 use Rattle.lv_versions.specs.Versions.{state_at}
-use Rattle.lv_versions.proofs.Between.{got_before, none_left}
-use Rattle.lv_versions.proofs.Finding.{passing_step, shown_step}
+use Rattle.lv_versions.proofs.Between.{none_left}
+use Rattle.lv_versions.proofs.Runs.{passing_run, run_step}
 use Rattle.lv_versions.proofs.versions.rows_in.Goals as goal
 
 pub loop-at-preserved : goal.loop-at-preserved
 loop-at-preserved g c =
     let n = c.args.n in
     let i = c.loop-at.at in
-    let list = take c.args.end c.args.versions.now.list in
-    let v = c.get.result.now in
-    let there = got_before c.args.end i c.args.versions.now.list v c.loop-at-test.true c.get.ensures in
-    let within = got_within list i v there in
+    let end = c.args.end in
+    let list = c.args.versions.now.list in
+    let run = c.run-run.result in
     let p = g.T.Test.passed c.args.test.now in
-    let more = passing_step p n i c.loop-at.rows v list within there in
-    let shown = ap length (shown_step n i [] v list within there) in
-    let both = length-append (state_at n (v ∷ [])) (state_at n (drop (i + 1) list)) in
-    record {
-      rows = ap (λ l. l ++ filter p (state_at n (drop (i + 1) list))) c.in_ok-push_alive.ensures.pushed ∙ more ∙ c.loop-at.invariant.rows;
-      cost = omega (arith, c.in_ok-push_alive.ensures.cost, c.loop-at.invariant.cost, shown, both);
-    }
+    let step = passing_run p n i end c.loop-at.rows run list c.run-run.ensures.run c.run-run.ensures.within in
+    let shown = ap length (run_step n i end [] run list c.run-run.ensures.run c.run-run.ensures.within) in
+    let rest = state_at n (drop (i + length run) (take end list)) in
+    let both = length-append (state_at n run) rest in
+    rw c.len-at.ensures (record {
+      rows = ap (λ l. l ++ filter p rest) c.in_ok-copy_run.ensures.pushed ∙ step ∙ c.loop-at.invariant.rows;
+      cost = omega (arith, c.in_ok-copy_run.ensures.cost, c.loop-at.invariant.cost, shown, both);
+    })
 
 pub returns-clause-rows : goal.returns-clause-rows
 returns-clause-rows g c =
@@ -33,3 +33,14 @@ pub returns-clause-cost : goal.returns-clause-cost
 returns-clause-cost g c =
     let none = ap length (none_left c.args.n c.args.end c.loop-at.at c.args.versions.now.list c.loop-at-test.false) in
     omega (arith, none, c.loop-at.invariant.cost)
+
+pub returns-in_err-copy_run-clause-most : goal.returns-in_err-copy_run-clause-most
+returns-in_err-copy_run-clause-most g c =
+    let n = c.args.n in
+    let i = c.loop-at.at in
+    let end = c.args.end in
+    let list = c.args.versions.now.list in
+    let run = c.run-run.result in
+    let shown = ap length (run_step n i end [] run list c.run-run.ensures.run c.run-run.ensures.within) in
+    let both = length-append (state_at n run) (state_at n (drop (i + length run) (take end list))) in
+    MatchResult-from_err c.from_residual.result _ _ c.from_residual.ensures.0 (λ _. omega (arith, c.in_err-copy_run.ensures.refused, c.loop-at.invariant.cost, shown, both))

@@ -1,4 +1,4 @@
-use Rattle.std.proofs.Common.{◌≡◌, ◌+◌, ◌++◌, filter, length, drop, take}
+use Rattle.std.proofs.Common.{◌≡◌, ◌+◌, ◌-◌, ◌++◌, filter, length, drop, take}
 use Rattle.lv_versions.specs.Versions.{state_at}
 use Rattle.lv_versions.proofs.versions.rows_in.Given as goal
 
@@ -7,3 +7,6 @@ invariant-loop-at g l = record {
   rows : l.rows ++ filter (g.T.Test.passed l.test) (state_at l.n (drop l.at (take l.end l.versions.list))) ≡ filter (g.T.Test.passed l.test) (state_at l.n (drop l.first (take l.end l.versions.list)));
   cost : l.steps + length (state_at l.n (drop l.at (take l.end l.versions.list))) ≡ l.initial.steps + length (state_at l.n (drop l.first (take l.end l.versions.list)));
 }
+
+abbrev pub decreases-loop-at : goal.decreases-loop-at
+decreases-loop-at g l = l.end - l.at
