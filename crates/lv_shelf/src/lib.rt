@@ -1,6 +1,7 @@
 //! Lists in which elements are put anywhere without being moved.
 #![tactic(auto)]
 
+mod guessing;
 mod order;
 mod ranked_places;
 mod run;

@@ -90,7 +90,8 @@ impl<T> Shelf<T> {
     }
 
     /// What `cut` gives. `rank` should be that of the first element that does not pass: then the cost is a binary search
-    /// among the ranks, a look at each element met that has this rank, and two more; else that of `cut` is added.
+    /// among the ranks, or a few looks where these rise evenly, a look at each element met that has this rank, and two more;
+    /// else that of `cut` is added.
     pub fn cut_near<P: Test<T>>(&self, rank: i64, test: &P) -> usize
         requires { Falls (P.passed test.now) self.now.list }
         ensures within { result ≤ length self.now.list }

@@ -4,9 +4,9 @@ ghost use Rattle.std.specs.List.{AllByRecursion};
 ghost use Rattle.lv_shelf.specs.Cuts.{Falls, IsCut};
 ghost use Rattle.lv_shelf.specs.Shelves.{IsHeld, cleared, clear_of, dropped, is_taken, items_at, passes_in, slot_of};
 
+use crate::guessing::guess_at;
 use crate::ranked_places::RankedPlaces;
 use lv_values::{Edit, Test};
-use std::cmp::Ordering;
 
 /// The element in a slot that has one.
 pub(crate) fn in_slot<T>(slots: &[Option<T>], slot: u32) -> &T
@@ -116,31 +116,6 @@ pub(crate) fn cut_at<T, P: Test<T>>(test: &P, slots: &[Option<T>], places: &Rank
     while low < high {
         let middle = low + (high - low) / 2;
         if test.passes(item_at(slots, places, middle)) {
-            low = middle + 1;
-        } else {
-            high = middle;
-        }
-    }
-    low
-}
-
-/// About how many of the elements in some slots pass a test: the ranks of the slots tell, which are below that of the first
-/// element that does not pass, and where the two are equal the element does.
-fn guess_at<T, P: Test<T>>(test: &P, rank: i64, slots: &[Option<T>], places: &RankedPlaces) -> usize
-    requires held { AllByRecursion (IsHeld slots.now) places.now.list }
-    ensures within { result ≤ length places.now.list }
-{
-    let mut low = 0;
-    let mut high = places.len();
-    while low < high {
-        let middle = low + (high - low) / 2;
-        let slot = places.at(middle);
-        let passes = match places.rank(slot).cmp(&rank) {
-            Ordering::Less => true,
-            Ordering::Equal => test.passes(in_slot(slots, slot)),
-            Ordering::Greater => false,
-        };
-        if passes {
             low = middle + 1;
         } else {
             high = middle;
