@@ -1,14 +1,9 @@
 //! About where a search ends, by the ranks of slots.
 ghost use Rattle.std.specs.Prelude.{◌≤◌, ◌<◌, length};
-ghost use Rattle.std.specs.List.{AllByRecursion};
-ghost use Rattle.lv_shelf.specs.Shelves.{IsHeld};
 
 use crate::ranked_places::RankedPlaces;
-use crate::slots::in_slot;
-use lv_values::Test;
-use std::cmp::Ordering;
 
-/// Fewer places than these are searched by halves from the first on.
+/// Fewer places than these are searched by halves at once.
 const MANY: usize = 32;
 
 /// How far from an even place a search looks first.
@@ -20,24 +15,11 @@ const WIDE: u64 = 1 << 40;
 /// What wide numbers are divided by.
 const COARSE: u64 = 1 << 24;
 
-/// Whether the element at a place passes a test: where the rank of its slot is not that of the first one that does not, the
-/// rank tells.
-fn seems_to_pass<T, P: Test<T>>(
-    test: &P,
-    rank: i64,
-    slots: &[Option<T>],
-    places: &RankedPlaces,
-    at: usize,
-) -> bool
-    requires held { AllByRecursion (IsHeld slots.now) places.now.list }
-    requires place { at < length places.now.list }
+/// Whether the slot at a place has a rank up to one.
+fn is_up_to(rank: i64, places: &RankedPlaces, at: usize) -> bool
+    requires { at < length places.now.list }
 {
-    let slot = places.at(at);
-    match places.rank(slot).cmp(&rank) {
-        Ordering::Less => true,
-        Ordering::Equal => test.passes(in_slot(slots, slot)),
-        Ordering::Greater => false,
-    }
+    places.rank(places.at(at)) <= rank
 }
 
 /// So many of some places as the part is of the span. Wide numbers lose their last bits, and the product is exact.
@@ -67,17 +49,10 @@ fn even_place(rank: i64, places: &RankedPlaces) -> usize
     share_of(last_place, rank.abs_diff(first), last.abs_diff(first)).min(last_place)
 }
 
-/// Two places between which, as it seems, the first element stands that does not pass, behind a place. Cost: a look for
-/// each time that the distance from there fourfolds.
-fn bounds_above<T, P: Test<T>>(
-    test: &P,
-    rank: i64,
-    slots: &[Option<T>],
-    places: &RankedPlaces,
-    at: usize,
-) -> (usize, usize)
-    requires held { AllByRecursion (IsHeld slots.now) places.now.list }
-    requires place { at < length places.now.list }
+/// Two places between which the ranks pass one, behind a place. Cost: a look for each time that the distance from there
+/// fourfolds.
+fn bounds_above(rank: i64, places: &RankedPlaces, at: usize) -> (usize, usize)
+    requires { at < length places.now.list }
     ensures order { result.0 ≤ result.1 }
     ensures within { result.1 ≤ length places.now.list }
 {
@@ -86,7 +61,7 @@ fn bounds_above<T, P: Test<T>>(
     let mut step = STEP;
     while step < len - low {
         let next = low + step;
-        if !seems_to_pass(test, rank, slots, places, next) {
+        if !is_up_to(rank, places, next) {
             return (low, next);
         }
         low = next + 1;
@@ -95,16 +70,9 @@ fn bounds_above<T, P: Test<T>>(
     (low, len)
 }
 
-/// And before a place, at the same cost.
-fn bounds_below<T, P: Test<T>>(
-    test: &P,
-    rank: i64,
-    slots: &[Option<T>],
-    places: &RankedPlaces,
-    at: usize,
-) -> (usize, usize)
-    requires held { AllByRecursion (IsHeld slots.now) places.now.list }
-    requires place { at ≤ length places.now.list }
+/// Two places between which the ranks pass one, before a place, at the same cost.
+fn bounds_below(rank: i64, places: &RankedPlaces, at: usize) -> (usize, usize)
+    requires { at ≤ length places.now.list }
     ensures order { result.0 ≤ result.1 }
     ensures within { result.1 ≤ length places.now.list }
 {
@@ -112,7 +80,7 @@ fn bounds_below<T, P: Test<T>>(
     let mut step = STEP;
     while step < high {
         let next = high - step;
-        if seems_to_pass(test, rank, slots, places, next) {
+        if is_up_to(rank, places, next) {
             return (next + 1, high);
         }
         high = next;
@@ -121,14 +89,8 @@ fn bounds_below<T, P: Test<T>>(
     (0, high)
 }
 
-/// Two places between which, as it seems, the first element stands that does not pass.
-fn bounds_near<T, P: Test<T>>(
-    test: &P,
-    rank: i64,
-    slots: &[Option<T>],
-    places: &RankedPlaces,
-) -> (usize, usize)
-    requires held { AllByRecursion (IsHeld slots.now) places.now.list }
+/// Two places between which the ranks pass one.
+fn bounds_near(rank: i64, places: &RankedPlaces) -> (usize, usize)
     ensures order { result.0 ≤ result.1 }
     ensures within { result.1 ≤ length places.now.list }
 {
@@ -137,24 +99,22 @@ fn bounds_near<T, P: Test<T>>(
         return (0, len);
     }
     let at = even_place(rank, places);
-    if seems_to_pass(test, rank, slots, places, at) {
-        bounds_above(test, rank, slots, places, at)
+    if is_up_to(rank, places, at) {
+        bounds_above(rank, places, at)
     } else {
-        bounds_below(test, rank, slots, places, at)
+        bounds_below(rank, places, at)
     }
 }
 
-/// About how many of the elements in some slots pass a test: the ranks of the slots tell, which are below that of the first
-/// element that does not pass, and where the two are equal the element does. Cost: a few looks where the ranks rise evenly,
-/// and never more than those of two binary searches.
-pub(crate) fn guess_at<T, P: Test<T>>(test: &P, rank: i64, slots: &[Option<T>], places: &RankedPlaces) -> usize
-    requires held { AllByRecursion (IsHeld slots.now) places.now.list }
+/// How many slots have a rank up to one, where the ranks do not fall. Cost: a few looks at ranks where they rise evenly, and
+/// never more than those of two binary searches.
+pub(crate) fn count_up_to(rank: i64, places: &RankedPlaces) -> usize
     ensures within { result ≤ length places.now.list }
 {
-    let (mut low, mut high) = bounds_near(test, rank, slots, places);
+    let (mut low, mut high) = bounds_near(rank, places);
     while low < high {
         let middle = low + (high - low) / 2;
-        if seems_to_pass(test, rank, slots, places, middle) {
+        if is_up_to(rank, places, middle) {
             low = middle + 1;
         } else {
             high = middle;

@@ -89,9 +89,10 @@ impl<T> Shelf<T> {
         cut_at(test, self.slots.as_slice(), &self.order)
     }
 
-    /// What `cut` gives. `rank` should be that of the first element that does not pass: then the cost is a binary search
-    /// among the ranks, or a few looks where these rise evenly, a look at each element met that has this rank, and two more;
-    /// else that of `cut` is added.
+    /// What `cut` gives. No element of a rank below `rank` should fail, and none of a rank above it should pass: then the cost
+    /// is a binary search among the ranks, or a few looks at them where they rise evenly, and two looks at elements; where
+    /// elements of this rank fail, twice as much, and where only some do, a look more for each time that these halve. Else
+    /// that of `cut` is added.
     pub fn cut_near<P: Test<T>>(&self, rank: i64, test: &P) -> usize
         requires { Falls (P.passed test.now) self.now.list }
         ensures within { result ≤ length self.now.list }

@@ -4,7 +4,7 @@ ghost use Rattle.std.specs.List.{AllByRecursion};
 ghost use Rattle.lv_shelf.specs.Cuts.{Falls, IsCut};
 ghost use Rattle.lv_shelf.specs.Shelves.{IsHeld, cleared, clear_of, dropped, is_taken, items_at, passes_in, slot_of};
 
-use crate::guessing::guess_at;
+use crate::guessing::count_up_to;
 use crate::ranked_places::RankedPlaces;
 use lv_values::{Edit, Test};
 
@@ -138,9 +138,38 @@ fn is_cut_at<T, P: Test<T>>(test: &P, slots: &[Option<T>], places: &RankedPlaces
     at == places.len() || !test.passes(item_at(slots, places, at))
 }
 
-/// How many of the elements in some slots pass a test that no later one passes where an earlier one fails. Cost: where the
-/// ranks do not fall, and `rank` is that of the first element that does not pass, a binary search among the ranks and a
-/// look at each element met that has this rank; else a binary search more.
+/// About how many of the elements in some slots pass a test: as many, where those before one place pass and those from another
+/// one on do not. Cost: a look for each time that the places between halve.
+fn cut_between<T, P: Test<T>>(
+    test: &P,
+    slots: &[Option<T>],
+    places: &RankedPlaces,
+    first: usize,
+    end: usize,
+) -> usize
+    requires held { AllByRecursion (IsHeld slots.now) places.now.list }
+    requires order { first ≤ end }
+    requires end { end ≤ length places.now.list }
+    ensures within { result ≤ length places.now.list }
+{
+    let mut low = first;
+    let mut high = end;
+    while low < high {
+        let middle = low + (high - low) / 2;
+        if test.passes(item_at(slots, places, middle)) {
+            low = middle + 1;
+        } else {
+            high = middle;
+        }
+    }
+    low
+}
+
+/// How many of the elements in some slots pass a test that no later one passes where an earlier one fails. Where no element
+/// of a lesser rank fails and none of a greater one passes, those of this rank are the question: whether they all pass, or
+/// none, or the first of them, in this order.
+/// Cost: then two searches among the ranks at most, four looks at elements, and one for each time that those of this rank
+/// halve; else a binary search more.
 pub(crate) fn cut_near<T, P: Test<T>>(
     test: &P,
     rank: i64,
@@ -152,10 +181,17 @@ pub(crate) fn cut_near<T, P: Test<T>>(
     ensures within { result ≤ length places.now.list }
     ensures cut { IsCut (P.passed test.now) result (items_at slots.now places.now.list) }
 {
-    let at = guess_at(test, rank, slots, places);
-    if is_cut_at(test, slots, places, at) {
-        at
-    } else {
-        cut_at(test, slots, places)
+    let end = count_up_to(rank, places);
+    if is_cut_at(test, slots, places, end) {
+        return end;
     }
+    let first = count_up_to(rank.saturating_sub(1), places).min(end);
+    if is_cut_at(test, slots, places, first) {
+        return first;
+    }
+    let at = cut_between(test, slots, places, first, end);
+    if is_cut_at(test, slots, places, at) {
+        return at;
+    }
+    cut_at(test, slots, places)
 }

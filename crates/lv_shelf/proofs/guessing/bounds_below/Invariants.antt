@@ -2,7 +2,7 @@ use Rattle.std.proofs.Common.{◌<◌, ◌≤◌, length}
 use Rattle.lv_shelf.proofs.guessing.bounds_below.Given as goal
 
 abbrev pub invariant-loop-step : goal.invariant-loop-step
-invariant-loop-step g l = record { some : 0 < l.step; within : l.high ≤ length l.places.list }
+invariant-loop-step l = record { some : 0 < l.step; within : l.high ≤ length l.places.list }
 
 abbrev pub decreases-loop-step : goal.decreases-loop-step
-decreases-loop-step g l = l.high
+decreases-loop-step l = l.high

@@ -1,5 +1,5 @@
 use Rattle.std.proofs.Common.{◌-◌, ◌≤◌, length}
-use Rattle.lv_shelf.proofs.guessing.guess_at.Given as goal
+use Rattle.lv_shelf.proofs.slots.cut_between.Given as goal
 
 abbrev pub invariant-loop-low : goal.invariant-loop-low
 invariant-loop-low g l = record { order : l.low ≤ l.high; within : l.high ≤ length l.places.list }
