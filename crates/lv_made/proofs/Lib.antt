@@ -1,4 +1,5 @@
 pub mod AddedTasks
+pub mod AnyOrder
 pub mod Distinct
 pub mod FirstFull
 pub mod Shown

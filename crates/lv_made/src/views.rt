@@ -15,7 +15,7 @@ use lv_join::join;
 use lv_schema::ViewDef;
 use lv_values::{Items, NoMemory, Rows, Steps};
 use lv_viewrows::ViewRows;
-use lv_views::rows_by_definition;
+use crate::by_definition::rows_by_definition;
 use std::alloc::Global;
 use std::sync::ledger::Ledger;
 

@@ -11,9 +11,9 @@ ghost use Rattle.lv_store.specs.Kept.{IsStore};
 
 use crate::store::Store;
 use lv_effect::{merged_rows, rows_to_try};
+use lv_made::rows_by_definition;
 use lv_schema::{Action, Cond};
 use lv_values::{Items, NoMemory, Rows, Steps};
-use lv_views::rows_by_definition;
 use std::alloc::Global;
 use std::sync::ledger::Ledger;
 

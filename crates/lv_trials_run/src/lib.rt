@@ -1,9 +1,11 @@
 //! What only a call can show of a run: what is answered, written and left where a call of the outside fails, where a journal
-//! is damaged, and where the disk stops.
+//! is damaged, and where the disk stops; and of a core, that a worker gives its claim up, and the step is fetched again.
 #![tactic(auto)]
 
 #[cfg(test)]
 mod causes;
+#[cfg(test)]
+mod claims;
 #[cfg(test)]
 mod damage;
 #[cfg(test)]

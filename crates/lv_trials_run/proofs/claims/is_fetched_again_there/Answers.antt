@@ -1,5 +1,5 @@
 use Rattle.lv_core.proofs.FromRecords.{opened_from}
-use Rattle.lv_trials_core.proofs.claims.is_fetched_again_there.Goals as goal
+use Rattle.lv_trials_run.proofs.claims.is_fetched_again_there.Goals as goal
 
 pub new-requires-4-clause-records : goal.new-requires-4-clause-records
 new-requires-4-clause-records g c =
