@@ -9,13 +9,13 @@ ghost use Rattle.lv_schema.specs.Once.{Ascends};
 ghost use Rattle.lv_group.specs.Gathered.{has_tuples};
 ghost use Rattle.lv_made.specs.Views.{IsMadeView, parts_at, rows_at};
 
+use crate::by_definition::rows_by_definition;
 use lv_base::Base;
 use lv_group::fold;
 use lv_join::join;
 use lv_schema::ViewDef;
 use lv_values::{Items, NoMemory, Rows, Steps};
 use lv_viewrows::ViewRows;
-use crate::by_definition::rows_by_definition;
 use std::alloc::Global;
 use std::sync::ledger::Ledger;
 

@@ -1,6 +1,5 @@
 //! A program over the disk of a path.
 ghost use Rattle.std.specs.Prelude.{◌≡◌, ◌≤◌, ◌<◌, ◌-◌, ◌^◌, [], true, false, ℕ, Bool, List, Option, None, Ok};
-ghost use Rattle.std.specs.Option.{option_map};
 ghost use Rattle.lv_core.specs.Run.{IsOpenedBy, IsOpening};
 ghost use Rattle.lv_lines.specs.Script.{script_of};
 ghost use Rattle.lv_plain.specs.declared.program.Program.{Program};
@@ -28,7 +27,7 @@ use lv_picker::Picker;
 use lv_plain::Event;
 use lv_recover::{Reopen, reopen};
 use lv_store::Settings;
-use lv_values::{Steps, Text};
+use lv_values::Steps;
 use lv_words::Words;
 use std::alloc::Global;
 use std::marker::Brand;
@@ -205,16 +204,6 @@ fn run_on<R: Threads + Wait + Sync, K: Sink, D: Disk + Send, G: Gate + Sync, L: 
     }
 }
 
-/// The path of the journal.
-fn path_of(words: &Words) -> Option<&Text>
-    ensures { option_map (λ p. p.now) result ≡ words.now.log }
-{
-    match &words.log {
-        Some(path) => Some(path),
-        None => None,
-    }
-}
-
 /// Has the disk of the words' path handed out and runs a program over it.
 pub(crate) fn open_and_run<R: Threads + Wait + Sync, K: Sink, O: Disks, G: Gate + Sync>(
     rt: &R,
@@ -238,7 +227,7 @@ pub(crate) fn open_and_run<R: Threads + Wait + Sync, K: Sink, O: Disks, G: Gate 
     ensures sink_count { K.faults sink.old ≤ K.faults sink.new }
     ensures disks_count { O.failures disks.old ≤ O.failures disks.new }
 {
-    match disks.open_disk(path_of(words)) {
+    match words.open_disk(disks) {
         Ok(disk) => run_on::<R, K, O::Disk, G, Brand>(
             rt,
             alloc,

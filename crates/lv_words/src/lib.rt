@@ -1,7 +1,8 @@
-//! The words of the command line: which are accepted, and what they set.
+//! The words of the command line: which are accepted, what they set, and the disk that they name.
 #![tactic(auto)]
 
 mod command;
+mod opening;
 mod values;
 mod words;
 

@@ -1,5 +1,3 @@
-use Rattle.std.proofs.Common.{ℕ, List, Option, option_map, subst}
-use Rattle.std.specs.Borrow.{Bor}
 use Rattle.lv_runner.specs.Ends.{Ends, Outside}
 use Rattle.lv_runner.proofs.HandedOut.{ends_opened}
 use Rattle.lv_runner.proofs.opening.open_and_run.Goals as goal
@@ -22,13 +20,10 @@ returns-in-Ok-clause-ends g c left0 left1 faults0 faults1 bytes input script =
       written = g.K.Sink.written c.run_on.new.sink;
       is_flushed = g.K.Sink.is_flushed c.run_on.new.sink;
       sink_faults = g.K.Sink.faults c.run_on.new.sink;
-      disks_faults = g.O.Disks.failures c.open_disk.new.self;
-      openings = g.O.Disks.openings c.open_disk.new.self;
+      disks_faults = g.O.Disks.failures c.open_disk.new.disks;
+      openings = g.O.Disks.openings c.open_disk.new.disks;
     } in
-    let holds = g.O.Disks.holds c.args.disks.now in
-    let path : Option (List ℕ) = option_map (λ (p : Bor (List ℕ)). p.now) c.path_of.result in
-    subst
-    (λ (q : Option (List ℕ)). Ends g.O.Disk.Disk.seen g.O.Disk.Disk.may_leave g.O.Disk.Disk.moment g.O.Disk.Disk.left_since failures c.args.words.now (holds q) q old new c.run_on.result.disk c.run_on.result.status)
-    c.path_of.ensures
-    (ends_opened g.O.Disk.Disk.seen g.O.Disk.Disk.may_leave g.O.Disk.Disk.moment g.O.Disk.Disk.left_since failures c.args.words.now (holds path) path old new bytes input (failures c.in-Ok.disk) c.in-Ok.ensures.opened c.run_on.result.status c.run_on.result.disk
-    (c.run_on.ensures.ends (holds path) bytes c.in-Ok.ensures.bytes script))
+    let path = c.args.words.now.log in
+    let holds = g.O.Disks.holds c.args.disks.now path in
+    ends_opened g.O.Disk.Disk.seen g.O.Disk.Disk.may_leave g.O.Disk.Disk.moment g.O.Disk.Disk.left_since failures c.args.words.now holds path old new bytes input (failures c.in-Ok.disk) c.in-Ok.ensures.opened c.run_on.result.status c.run_on.result.disk
+    (c.run_on.ensures.ends holds bytes c.in-Ok.ensures.bytes script)
