@@ -3,13 +3,7 @@
 #![tactic(auto)]
 
 #[cfg(test)]
-mod base;
-#[cfg(test)]
 mod lexer;
-#[cfg(test)]
-mod maint;
-#[cfg(test)]
-mod making;
 #[cfg(test)]
 mod outside;
 #[cfg(test)]
