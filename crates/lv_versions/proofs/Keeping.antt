@@ -15,8 +15,9 @@ use Rattle.lv_shelf.specs.Cuts.{Apart, IsCut}
 use Rattle.lv_shelf.specs.Shelves.{ChangesOnly, LacksItem, other_at}
 use Rattle.lv_shelf.proofs.Cutting.{all_at, got, got_within}
 use Rattle.lv_shelf.proofs.Orders.{nth_map}
-use Rattle.lv_versions.specs.Versions.{AreEnded, AreIndexed, AreOrders, EndsAtMost, HaveOrders, IsIn, IsNewTo, Precedes, columns_at, comes_before, has_index, is_current, new_by, new_version}
+use Rattle.lv_versions.specs.Versions.{AreEnded, AreIndexed, AreOrders, EndsAtMost, HaveOrders, IsIn, IsNewTo, Precedes, columns_at, comes_before, has_index, is_current, is_open, new_by, new_version}
 use Rattle.lv_versions.proofs.Cleaning.{absent, ended_more, kept_ended, stay}
+use Rattle.lv_versions.proofs.Current.{filter_swap}
 use Rattle.lv_versions.proofs.Ending.{Closed}
 use Rattle.lv_versions.proofs.Indexing.{found_in, indexed_closed, indexed_kept, stand_ascend}
 use Rattle.lv_versions.proofs.Standing.{version_total}
@@ -40,8 +41,14 @@ pub all_by_place : {X : Type 0} (P : X → Type 0) (xs : List X) (d : X) → ((j
 all_by_place P [] d f = tt
 all_by_place P (x ∷ xs) d f = (f 0 (omega arith), all_by_place P xs d (λ j lt. f (suc j) (omega arith)))
 
-pub later_set : (others : Lists) (order : List RowVersion) (j : ℕ) → other_at (set others 0 order) (j + 1) ≡ other_at others (j + 1)
-later_set others order j = get_or-set_other others 0 (j + 1) order [] (λ e. absurd (omega arith))
+pub later_set : (others : Lists) (order : List RowVersion) (i j : ℕ) → i < 2 → other_at (set others i order) (j + 2) ≡ other_at others (j + 2)
+later_set others order i j lt = get_or-set_other others i (j + 2) order [] (λ e. absurd (omega (arith, e, lt)))
+
+pub next_set : (others : Lists) (order : List RowVersion) → other_at (set others 0 order) 1 ≡ other_at others 1
+next_set others order = get_or-set_other others 0 1 order [] (λ e. absurd (omega arith))
+
+pub first_set : (others : Lists) (order : List RowVersion) → other_at (set others 1 order) 0 ≡ other_at others 0
+first_set others order = get_or-set_other others 1 0 order [] (λ e. absurd (omega arith))
 
 pub other_new : (others : Lists) (k : ℕ) → other_at (others ++ [] ∷ []) k ≡ other_at others k
 other_new [] zero = refl
@@ -92,12 +99,14 @@ has_told (Some j) cs c h = some_has cs c j h.0 h.1
 
 -- ---- orders or none
 pub orders_have : (ps : List ℕ) (cs : List (List ℕ)) (spare : ℕ) (others : Lists) (vs : List RowVersion) → AreOrders ps cs others vs → HaveOrders ps cs spare others vs
-orders_have ps cs spare [] vs a = let none : 0 ≡ length cs + 1 = a.count in absurd (omega arith)
-orders_have ps cs spare (order ∷ more) vs a = a
+orders_have ps cs spare [] vs a = let none : 0 ≡ length cs + 2 = a.count in absurd (omega arith)
+orders_have ps cs spare (order ∷ []) vs a = let one : 1 ≡ length cs + 2 = a.count in absurd (omega arith)
+orders_have ps cs spare (order ∷ next ∷ more) vs a = a
 
-pub some_orders : (ps : List ℕ) (cs : List (List ℕ)) (spare : ℕ) (others : Lists) (vs : List RowVersion) → 0 < length others → HaveOrders ps cs spare others vs → AreOrders ps cs others vs
+pub some_orders : (ps : List ℕ) (cs : List (List ℕ)) (spare : ℕ) (others : Lists) (vs : List RowVersion) → 1 < length others → HaveOrders ps cs spare others vs → AreOrders ps cs others vs
 some_orders ps cs spare [] vs lt h = absurd (omega arith)
-some_orders ps cs spare (order ∷ more) vs lt h = h
+some_orders ps cs spare (order ∷ []) vs lt h = absurd (omega arith)
+some_orders ps cs spare (order ∷ next ∷ more) vs lt h = h
 
 none_at : (at : ℕ) (vs : List RowVersion) (v : RowVersion) → vs ≡ [] → slice_get vs at ≡ Some v → ⊥
 none_at at [] v none e = cc
@@ -105,27 +114,33 @@ none_at at (w ∷ vs) v none e = cc
 
 pub some_version : (ps : List ℕ) (cs : List (List ℕ)) (spare : ℕ) (others : Lists) (vs : List RowVersion) (at : ℕ) (v : RowVersion) → slice_get vs at ≡ Some v → HaveOrders ps cs spare others vs → AreOrders ps cs others vs
 some_version ps cs spare [] vs at v e h = absurd (none_at at vs v h.1 e)
-some_version ps cs spare (order ∷ more) vs at v e h = h
+some_version ps cs spare (order ∷ []) vs at v e h = absurd (none_at at vs v h.1 e)
+some_version ps cs spare (order ∷ next ∷ more) vs at v e h = h
 
 pub some_room : (ps : List ℕ) (cs : List (List ℕ)) (spare : ℕ) (others : Lists) (vs : List RowVersion) → 0 < spare → HaveOrders ps cs spare others vs → AreOrders ps cs others vs
 some_room ps cs spare [] vs lt h = let none = h.2 in absurd (omega arith)
-some_room ps cs spare (order ∷ more) vs lt h = h
+some_room ps cs spare (order ∷ []) vs lt h = let none = h.2 in absurd (omega arith)
+some_room ps cs spare (order ∷ next ∷ more) vs lt h = h
 
-pub index_at : (ps : List ℕ) (cs : List (List ℕ)) (c : List ℕ) (spare j : ℕ) (others : Lists) (vs : List RowVersion) → j < length cs → columns_at cs j ≡ c → HaveOrders ps cs spare others vs → (j + 1 < length others) × AreIndexed c ps (other_at others (j + 1)) vs
+pub index_at : (ps : List ℕ) (cs : List (List ℕ)) (c : List ℕ) (spare j : ℕ) (others : Lists) (vs : List RowVersion) → j < length cs → columns_at cs j ≡ c → HaveOrders ps cs spare others vs → (j + 2 < length others) × AreIndexed c ps (other_at others (j + 2)) vs
 index_at ps cs c spare j [] vs lt is h = let none = ap length h.0 in absurd (omega arith)
-index_at ps cs c spare j (order ∷ more) vs lt is h = (omega (arith, lt, h.count), subst (λ d. AreIndexed d ps (other_at (order ∷ more) (j + 1)) vs) is (h.indexed j lt))
+index_at ps cs c spare j (order ∷ []) vs lt is h = let none = ap length h.0 in absurd (omega arith)
+index_at ps cs c spare j (order ∷ next ∷ more) vs lt is h = (omega (arith, lt, h.count), subst (λ d. AreIndexed d ps (other_at (order ∷ next ∷ more) (j + 2)) vs) is (h.indexed j lt))
 
-pub no_orders : (ps : List ℕ) (cs : List (List ℕ)) (spare : ℕ) (others : Lists) (vs : List RowVersion) → length others ≡ 0 → HaveOrders ps cs spare others vs → vs ≡ []
-no_orders ps cs spare [] vs e h = h.1
-no_orders ps cs spare (order ∷ more) vs e h = cc
+pub no_orders : (ps : List ℕ) (cs : List (List ℕ)) (spare : ℕ) (others : Lists) (vs : List RowVersion) → length others < 2 → HaveOrders ps cs spare others vs → vs ≡ []
+no_orders ps cs spare [] vs lt h = h.1
+no_orders ps cs spare (order ∷ []) vs lt h = h.1
+no_orders ps cs spare (order ∷ next ∷ more) vs lt h = absurd (omega arith)
 
-pub first_order : (ps : List ℕ) (cs : List (List ℕ)) (spare : ℕ) (others : Lists) (vs : List RowVersion) → length others ≡ 0 → HaveOrders ps cs spare others vs → AreOrders ps cs (others ++ [] ∷ []) vs
-first_order ps cs spare (order ∷ more) vs e h = cc
-first_order ps cs spare [] vs e h = record {
+pub next_order : (ps : List ℕ) (cs : List (List ℕ)) (spare : ℕ) (others : Lists) (vs : List RowVersion) → length others < 2 → HaveOrders ps cs spare others vs → HaveOrders ps cs spare (others ++ [] ∷ []) vs
+next_order ps cs spare [] vs lt h = (h.0, h.1, h.2, refl)
+next_order ps cs spare (order ∷ []) vs lt h = record {
   count = let none = ap length h.0 in omega arith;
-  ended = subst (AreEnded []) (sym h.1) (record { ends = tt; ended = tt; here = tt; all = tt });
-  indexed = λ j lt. let none = ap length h.0 in absurd (omega arith);
+  ended = subst (λ l. AreEnded l vs) (sym h.3) (subst (AreEnded []) (sym h.1) (record { ends = tt; ended = tt; here = tt; all = tt }));
+  current = sym (ap (filter is_open) h.1);
+  indexed = λ j lt'. let none = ap length h.0 in absurd (omega arith);
 }
+next_order ps cs spare (order ∷ next ∷ more) vs lt h = absurd (omega arith)
 
 -- ---- a version that is new
 pub new_lacks : (ps : List ℕ) (number : ℕ) (row : List Value) (vs : List RowVersion) → AllByRecursion (IsNewTo ps number row) vs → LacksItem (new_version number row) vs
@@ -138,25 +153,30 @@ new_lacks ps number row vs a = all_weaker (IsNewTo ps number row) (λ y. y ≡ n
 ended_list : (ps : List ℕ) (number : ℕ) (row : List Value) (others : Lists) (vs : List RowVersion) → AreEnded (other_at others 0) vs → other_at (map (map (Closed ps number row)) others) 0 ≡ other_at others 0
 ended_list ps number row others vs a = nth_map (map (Closed ps number row)) others 0 [] [] refl ∙ stay ps number row (other_at others 0) a.ended
 
-pub absent_last : (ps : List ℕ) (cs : List (List ℕ)) (number : ℕ) (row : List Value) (others : Lists) (vs : List RowVersion) (at : ℕ) (item : RowVersion) → Apart (Precedes ps) vs → slice_get vs at ≡ Some item → is_current ps row number item ≡ true
-    → AreOrders ps cs others vs → LacksItem (Closed ps number row item) (other_at (map (map (Closed ps number row)) others) 0)
-absent_last ps cs number row others vs at item stand e h a = subst (LacksItem (Closed ps number row item)) (sym (ended_list ps number row others vs a.ended)) (absent ps number row (other_at others 0) vs at item stand e h a.ended)
+pub absent_last : (ps : List ℕ) (number : ℕ) (row : List Value) (others : Lists) (vs : List RowVersion) (at : ℕ) (item : RowVersion) → Apart (Precedes ps) vs → slice_get vs at ≡ Some item → is_current ps row number item ≡ true
+    → AreEnded (other_at others 0) vs → LacksItem (Closed ps number row item) (other_at (map (map (Closed ps number row)) others) 0)
+absent_last ps number row others vs at item stand e h a = subst (LacksItem (Closed ps number row item)) (sym (ended_list ps number row others vs a)) (absent ps number row (other_at others 0) vs at item stand e h a)
 
-pub orders_ended : (ps : List ℕ) (cs : List (List ℕ)) (number : ℕ) (row : List Value) (others others' : Lists) (vs : List RowVersion) (at : ℕ) (item : RowVersion) → Apart (Precedes ps) vs → AllByRecursion (λ v. EndsAtMost number v.until) vs
-    → slice_get vs at ≡ Some item → is_current ps row number item ≡ true → ChangesOnly (Closed ps number row) at vs → AreOrders ps cs others vs
-    → others' ≡ set (map (map (Closed ps number row)) others) 0 (other_at (map (map (Closed ps number row)) others) 0 ++ Closed ps number row item ∷ []) → AreOrders ps cs others' (map (Closed ps number row) vs)
-orders_ended ps cs number row others others' vs at item stand ends e h only a is =
+pub orders_ended : (ps : List ℕ) (cs : List (List ℕ)) (number : ℕ) (row : List Value) (others others' : Lists) (vs less : List RowVersion) (at : ℕ) (item : RowVersion) → Apart (Precedes ps) vs → AllByRecursion (λ v. EndsAtMost number v.until) vs
+    → slice_get vs at ≡ Some item → is_current ps row number item ≡ true → ChangesOnly (Closed ps number row) at vs → AreOrders ps cs others vs → map (Closed ps number row) less ≡ filter is_open (map (Closed ps number row) vs)
+    → others' ≡ set (map (map (Closed ps number row)) (set others 1 less)) 0 (other_at (map (map (Closed ps number row)) (set others 1 less)) 0 ++ Closed ps number row item ∷ []) → AreOrders ps cs others' (map (Closed ps number row) vs)
+orders_ended ps cs number row others others' vs less at item stand ends e h only a current is =
     let f : RowVersion → RowVersion = Closed ps number row in
-    let mapped : Lists = map (map (Closed ps number row)) others in
+    let left : Lists = set others 1 less in
+    let mapped : Lists = map (map f) left in
     let last : List RowVersion = other_at mapped 0 ++ Closed ps number row item ∷ [] in
-    let long : length mapped ≡ length others = length-map others (map f) in
+    let long : length mapped ≡ length others = length-map left (map f) ∙ length-set others 1 less in
+    let first : other_at mapped 0 ≡ other_at others 0 =
+    ended_list ps number row left vs (subst (λ l. AreEnded l vs) (sym (first_set others less)) a.ended) ∙ first_set others less in
     record {
       count = ap length is ∙ length-set mapped 0 last ∙ long ∙ a.count;
-      ended = subst (λ l. AreEnded l (map f vs)) (sym (ap (λ l. other_at l 0) is ∙ get_or-set_same mapped 0 last [] (omega (arith, long, a.count)) ∙ ap (λ l. l ++ Closed ps number row item ∷ []) (ended_list ps number row others vs a.ended)))
+      ended = subst (λ l. AreEnded l (map f vs)) (sym (ap (λ l. other_at l 0) is ∙ get_or-set_same mapped 0 last [] (omega (arith, long, a.count)) ∙ ap (λ l. l ++ Closed ps number row item ∷ []) first))
           (ended_more ps number row (other_at others 0) vs at item stand ends e h only a.ended);
+      current = ap (λ l. other_at l 1) is ∙ next_set mapped last ∙ nth_map (map f) left 1 [] [] refl ∙ ap (map f) (get_or-set_same others 1 less [] (omega (arith, a.count))) ∙ current;
       indexed = λ j lt.
-          subst (λ l. AreIndexed (columns_at cs j) ps l (map f vs)) (sym (ap (λ l. other_at l (j + 1)) is ∙ later_set mapped last j ∙ nth_map (map f) others (j + 1) [] [] refl))
-          (indexed_closed (columns_at cs j) ps number (row ∷ []) (other_at others (j + 1)) vs (a.indexed j lt));
+          subst (λ l. AreIndexed (columns_at cs j) ps l (map f vs))
+          (sym (ap (λ l. other_at l (j + 2)) is ∙ later_set mapped last 0 j (omega arith) ∙ nth_map (map f) left (j + 2) [] [] refl ∙ ap (map f) (later_set others less 1 j (omega arith))))
+          (indexed_closed (columns_at cs j) ps number (row ∷ []) (other_at others (j + 2)) vs (a.indexed j lt));
     }
 
 -- ---- versions that are kept
@@ -164,7 +184,8 @@ pub orders_kept : (ps : List ℕ) (cs : List (List ℕ)) (p : RowVersion → Boo
 orders_kept ps cs p others vs a = record {
   count = length-map others (filter p) ∙ a.count;
   ended = subst (λ l. AreEnded l (filter p vs)) (sym (nth_map (filter p) others 0 [] [] refl)) (kept_ended p (other_at others 0) vs a.ended);
-  indexed = λ j lt. subst (λ l. AreIndexed (columns_at cs j) ps l (filter p vs)) (sym (nth_map (filter p) others (j + 1) [] [] refl)) (indexed_kept (columns_at cs j) ps p (other_at others (j + 1)) vs (a.indexed j lt));
+  current = nth_map (filter p) others 1 [] [] refl ∙ ap (filter p) a.current ∙ filter_swap p is_open vs;
+  indexed = λ j lt. subst (λ l. AreIndexed (columns_at cs j) ps l (filter p vs)) (sym (nth_map (filter p) others (j + 2) [] [] refl)) (indexed_kept (columns_at cs j) ps p (other_at others (j + 2)) vs (a.indexed j lt));
 }
 
 -- ---- an order more
@@ -175,25 +196,28 @@ orders_more ps cs c others others' vs a long filled same =
     record {
       count = omega (arith, long, n, a.count);
       ended = subst (λ l. AreEnded l vs) (sym (same 0 (λ e. absurd (omega (arith, e, a.count))))) a.ended;
+      current = same 1 (λ e. absurd (omega (arith, e, a.count))) ∙ a.current;
       indexed = λ j lt. by j (omega (arith, lt, n)) (nat_lt j (length cs)) refl;
     }
   where
-    by : (j : ℕ) → j < length cs + 1 → (t : Bool) → nat_lt j (length cs) ≡ t → AreIndexed (columns_at (cs ++ c ∷ []) j) ps (other_at others' (j + 1)) vs
+    by : (j : ℕ) → j < length cs + 1 → (t : Bool) → nat_lt j (length cs) ≡ t → AreIndexed (columns_at (cs ++ c ∷ []) j) ps (other_at others' (j + 2)) vs
     by j le true e =
         let lt : j < length cs = grind (arith, nat_tests) in
-        subst (λ d. AreIndexed d ps (other_at others' (j + 1)) vs) (sym (columns_kept cs c j lt)) (subst (λ l. AreIndexed (columns_at cs j) ps l vs) (sym (same (j + 1) (λ f. absurd (omega (arith, f, lt, a.count))))) (a.indexed j lt))
+        subst (λ d. AreIndexed d ps (other_at others' (j + 2)) vs) (sym (columns_kept cs c j lt)) (subst (λ l. AreIndexed (columns_at cs j) ps l vs) (sym (same (j + 2) (λ f. absurd (omega (arith, f, lt, a.count))))) (a.indexed j lt))
     by j le false e =
         let is : j ≡ length cs = grind (arith, nat_tests) in
-        let place : length others ≡ j + 1 = omega (arith, is, a.count) in
-        subst (λ d. AreIndexed d ps (other_at others' (j + 1)) vs) (sym (columns_new cs c j is)) (subst (λ k. AreIndexed c ps (other_at others' k) vs) place filled)
+        let place : length others ≡ j + 2 = omega (arith, is, a.count) in
+        subst (λ d. AreIndexed d ps (other_at others' (j + 2)) vs) (sym (columns_new cs c j is)) (subst (λ k. AreIndexed c ps (other_at others' k) vs) place filled)
 
 -- ---- a version that is in no order
-pub each_lacks : (v : RowVersion) (cs : List (List ℕ)) (others : Lists) → length others ≡ length cs + 1 → LacksItem v (other_at others 0) → ((j : ℕ) → j < length cs → LacksItem v (other_at others (j + 1))) → AllByRecursion (LacksItem v) others
-each_lacks v cs others count first later = all_by_place (LacksItem v) others [] at
+pub each_lacks : (v : RowVersion) (cs : List (List ℕ)) (others : Lists) → length others ≡ length cs + 2 → LacksItem v (other_at others 0) → LacksItem v (other_at others 1) → ((j : ℕ) → j < length cs → LacksItem v (other_at others (j + 2)))
+    → AllByRecursion (LacksItem v) others
+each_lacks v cs others count first next later = all_by_place (LacksItem v) others [] at
   where
     at : (j : ℕ) → j < length others → LacksItem v (other_at others j)
     at zero lt = first
-    at (suc j) lt = let e : j + 1 ≡ suc j = omega arith in subst (λ k. LacksItem v (other_at others k)) e (later j (omega (arith, lt, count)))
+    at (suc zero) lt = next
+    at (suc (suc j)) lt = let e : j + 2 ≡ suc (suc j) = omega arith in subst (λ k. LacksItem v (other_at others k)) e (later j (omega (arith, lt, count)))
 
 -- the version that ended first, where a search of it ends
 pub first_found : (ps : List ℕ) (v : RowVersion) (order vs : List RowVersion) (at : ℕ) → slice_get order 0 ≡ Some v → Apart (Precedes ps) vs → AreEnded order vs → IsCut (comes_before ps v.row v.from) at vs → slice_get vs at ≡ Some v

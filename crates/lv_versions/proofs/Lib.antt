@@ -6,6 +6,7 @@ pub mod Bringing
 pub mod Finding
 pub mod Committed
 pub mod Cleaning
+pub mod Current
 pub mod Indexing
 pub mod Keeping
 pub mod Runs

@@ -88,6 +88,10 @@ HasEnded v = is_none v.until ≡ false
 abbrev pub is_over : ℕ → RowVersion → Bool
 is_over floor v = not (ends_after floor v.until)
 
+-- whether a version has not ended
+abbrev pub is_open : RowVersion → Bool
+is_open v = is_none v.until
+
 -- a version is among others
 abbrev pub IsIn : RowVersion → List RowVersion → Type 0
 IsIn v versions = LacksItem v versions → ⊥
@@ -131,16 +135,28 @@ has_index columns indexes = list_any (pointwise nat_eq columns) indexes
 abbrev pub with_index : List ℕ → List (List ℕ) → List (List ℕ)
 with_index columns indexes = cond (has_index columns indexes) indexes (indexes ++ columns ∷ [])
 
--- the further orders: first that of the versions that ended, then an index by each of these lists of columns
+-- the further orders: first that of the versions that ended, then that of those that have not, as they stand, then an index by each of these
+-- lists of columns
 pub record AreOrders (positions : List ℕ) (columns : List (List ℕ)) (others : List (List RowVersion)) (versions : List RowVersion) : Type 0 where
-  pub count : length others ≡ length columns + 1
+  pub count : length others ≡ length columns + 2
   pub ended : AreEnded (other_at others 0) versions
-  pub indexed : (j : ℕ) → j < length columns → AreIndexed (columns_at columns j) positions (other_at others (j + 1)) versions
+  pub current : other_at others 1 ≡ filter is_open versions
+  pub indexed : (j : ℕ) → j < length columns → AreIndexed (columns_at columns j) positions (other_at others (j + 2)) versions
 
--- or no order yet, and then no version and no room for one
+-- or not yet both of the first ones, and then no version and no room for one
 abbrev pub HaveOrders : List ℕ → List (List ℕ) → ℕ → List (List RowVersion) → List RowVersion → Type 0
 HaveOrders positions columns spare [] versions = (columns ≡ []) × (versions ≡ []) × (spare ≡ 0)
-HaveOrders positions columns spare (order ∷ more) versions = AreOrders positions columns (order ∷ more) versions
+HaveOrders positions columns spare (order ∷ []) versions = (columns ≡ []) × (versions ≡ []) × (spare ≡ 0) × (order ≡ [])
+HaveOrders positions columns spare (order ∷ next ∷ more) versions = AreOrders positions columns (order ∷ next ∷ more) versions
+
+-- what a reader looks at: all versions, or those of a further order
+abbrev pub seen_in : Option ℕ → List (List RowVersion) → List RowVersion → List RowVersion
+seen_in None others versions = versions
+seen_in (Some order) others versions = other_at others order
+
+abbrev pub IsSeen : Option ℕ → List (List RowVersion) → Type 0
+IsSeen None others = Unit {0}
+IsSeen (Some order) others = order < length others
 
 -- and no version that a clean-up below the soonest end would drop, and the further orders
 pub record AreKept (positions : List ℕ) (last floor soonest : ℕ) (columns : List (List ℕ)) (spare : ℕ) (others : List (List RowVersion)) (versions : List RowVersion) : Type 0 where

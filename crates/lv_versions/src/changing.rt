@@ -1,13 +1,13 @@
 //! What a commit does to versions, in place.
-ghost use Rattle.std.specs.Prelude.{◌≡◌, ◌+◌, ◌++◌, ◌<◌, ◌≤◌, ◌∷◌, [], IfSome, List, MatchOption, Some, false, is_some, length, map, slice_get, slice_set};
+ghost use Rattle.std.specs.Prelude.{◌≡◌, ◌+◌, ◌++◌, ◌<◌, ◌≤◌, ◌∷◌, [], IfSome, List, MatchOption, Some, false, true, filter, is_some, length, map, slice_get, slice_set};
 ghost use Rattle.std.specs.List.{AllByRecursion};
 ghost use Rattle.lv_values.specs.Ascending.{placed};
 ghost use Rattle.lv_shelf.specs.Cuts.{Apart, IsCut};
 ghost use Rattle.lv_shelf.specs.Shelves.{LacksItem, other_at};
 ghost use Rattle.lv_schema.specs.declared.version.RowVersion.{RowVersion};
-ghost use Rattle.lv_versions.specs.Versions.{AreNew, EndsAtMost, HaveOrders, IsOlder, Precedes, closed, comes_before, ends_from, lost, new_version, version_cmp, with_versions};
+ghost use Rattle.lv_versions.specs.Versions.{AreNew, AreOrders, EndsAtMost, HaveOrders, IsOlder, Precedes, closed, comes_before, ends_from, is_current, is_open, lost, new_version, version_cmp, with_versions};
 
-use crate::indexes::enter_each;
+use crate::indexes::{CURRENT, ENDED, enter_each};
 use crate::rank::rank;
 use crate::version::{ComesBefore, EndAt, is_current};
 use lv_schema::{Net, Positions, RowVersion};
@@ -23,8 +23,8 @@ fn enter_last(at: usize, versions: &mut Shelf<RowVersion>)
     ensures same { versions.new.list ≡ versions.old.list }
     ensures room { versions.new.spare ≡ versions.old.spare }
 {
-    let last = versions.len_in(0);
-    versions.enter(0, last, at, 0);
+    let last = versions.len_in(ENDED);
+    versions.enter(ENDED, last, at, 0);
 }
 
 /// The place of the version of a row that a commit brings: behind those of lesser keys, and those of its key that came
@@ -42,7 +42,61 @@ fn place_of(positions: &[u8], row: &Row, number: u64, versions: &Shelf<RowVersio
     versions.cut_near(rank(positions, row), &before)
 }
 
-/// Ends the version before the place of a row, if it has the row's key and has not ended. Cost: constant.
+/// How many of the versions that have not ended stand before the place of the version of a row. Cost: a binary search.
+fn place_among_current(
+    positions: &[u8],
+    row: &Row,
+    number: u64,
+    versions: &Shelf<RowVersion>,
+) -> usize
+    requires order { 1 < length versions.now.others }
+    requires stand { Apart (Precedes positions.now) versions.now.list }
+    requires current { other_at versions.now.others 1 ≡ filter is_open versions.now.list }
+    ensures within { result ≤ length (other_at versions.now.others 1) }
+    ensures cut { IsCut (comes_before positions.now row.now number) result (other_at versions.now.others 1) }
+{
+    let before = ComesBefore {
+        positions,
+        row,
+        number,
+    };
+    versions.cut_in_near(CURRENT, rank(positions, row), &before)
+}
+
+/// Ends the version at a place, which is the row's current one, and answers where it stood among those that have not
+/// ended. Cost: a binary search, and two moves of small numbers.
+fn end_at(
+    positions: &[u8],
+    indexes: &[Positions],
+    row: &Row,
+    number: u64,
+    at: usize,
+    versions: &mut Shelf<RowVersion>,
+) -> usize
+    requires stand { Apart (Precedes positions.now) versions.old.list }
+    requires ends { AllByRecursion (λ v. EndsAtMost number v.until) versions.old.list }
+    requires orders { AreOrders positions.now indexes.now versions.old.others versions.old.list }
+    requires cut { IsCut (comes_before positions.now row.now number) (at + 1) versions.old.list }
+    requires current { (v : RowVersion) → slice_get versions.old.list at ≡ Some v → is_current positions.now row.now number v ≡ true }
+    ensures ended { versions.new.list ≡ map (closed positions.now number (row.now ∷ [])) versions.old.list }
+    ensures orders { AreOrders positions.now indexes.now versions.new.others versions.new.list }
+    ensures room { versions.new.spare ≡ versions.old.spare }
+    ensures place { IsCut (comes_before positions.now row.now number) result (other_at versions.new.others 1) }
+{
+    let place = place_among_current(positions, row, number, versions) - 1;
+    versions.leave(CURRENT, place);
+    let end = EndAt {
+        positions,
+        row,
+        number,
+    };
+    versions.edit(at, &end);
+    enter_last(at, versions);
+    place
+}
+
+/// Ends the version before the place of a row, if it has the row's key and has not ended, and answers where it stood among
+/// those that have not. Cost: as of `end_at`, or constant where none ends.
 fn end_before(
     positions: &[u8],
     indexes: &[Positions],
@@ -50,7 +104,7 @@ fn end_before(
     number: u64,
     at: usize,
     versions: &mut Shelf<RowVersion>,
-)
+) -> Option<usize>
     requires stand { Apart (Precedes positions.now) versions.old.list }
     requires ends { AllByRecursion (λ v. EndsAtMost number v.until) versions.old.list }
     requires orders { HaveOrders positions.now indexes.now versions.old.spare versions.old.others versions.old.list }
@@ -59,19 +113,17 @@ fn end_before(
     ensures ended { versions.new.list ≡ map (closed positions.now number (row.now ∷ [])) versions.old.list }
     ensures orders { HaveOrders positions.now indexes.now versions.new.spare versions.new.others versions.new.list }
     ensures room { versions.new.spare ≡ versions.old.spare }
+    ensures place { IfSome result (λ place. IsCut (comes_before positions.now row.now number) place (other_at versions.new.others 1)) }
 {
     if at > 0 && is_current(positions, row, number, versions.get(at - 1)) {
-        let end = EndAt {
-            positions,
-            row,
-            number,
-        };
-        versions.edit(at - 1, &end);
-        enter_last(at - 1, versions);
+        Some(end_at(positions, indexes, row, number, at - 1, versions))
+    } else {
+        None
     }
 }
 
-/// Ends the version that has the row's key and has not ended, if there is one. Cost: a binary search.
+/// Ends the version that has the row's key and has not ended, if there is one. Cost: a binary search, and one more where
+/// it ends one.
 fn end_row(
     positions: &[u8],
     indexes: &[Positions],
@@ -162,8 +214,30 @@ fn end_above(
     }
 }
 
-/// Puts a version of a row that a commit brings at its place, and into each index, and ends the version that has its
-/// key and has not ended. Cost: a binary search, and a move of small numbers, for each of them.
+/// The place of the version of a row among those that have not ended: where the one of its key stood, if that has just
+/// ended. Cost: constant then, or else a binary search.
+fn place_of_current(
+    ended: Option<usize>,
+    positions: &[u8],
+    row: &Row,
+    number: u64,
+    versions: &Shelf<RowVersion>,
+) -> usize
+    requires order { 1 < length versions.now.others }
+    requires stand { Apart (Precedes positions.now) versions.now.list }
+    requires current { other_at versions.now.others 1 ≡ filter is_open versions.now.list }
+    requires told { IfSome ended (λ place. IsCut (comes_before positions.now row.now number) place (other_at versions.now.others 1)) }
+    ensures within { result ≤ length (other_at versions.now.others 1) }
+    ensures cut { IsCut (comes_before positions.now row.now number) result (other_at versions.now.others 1) }
+{
+    match ended {
+        Some(place) => place,
+        None => place_among_current(positions, row, number, versions),
+    }
+}
+
+/// Puts a version of a row that a commit brings at its place, among those that have not ended and into each index, and
+/// ends the version that has its key and has not ended. Cost: a binary search, and a move of small numbers, for each of them.
 fn put_row(
     positions: &[u8],
     indexes: &[Positions],
@@ -181,7 +255,8 @@ fn put_row(
     ensures room { versions.new.spare + 1 ≡ versions.old.spare }
 {
     let at = place_of(positions, &row, number, versions);
-    end_before(positions, indexes, &row, number, at, versions);
+    let ended = end_before(positions, indexes, &row, number, at, versions);
+    let place = place_of_current(ended, positions, &row, number, versions);
     let rank = rank(positions, &row);
     let version = RowVersion {
         row,
@@ -189,6 +264,7 @@ fn put_row(
         until: None,
     };
     versions.insert(at, version, rank);
+    versions.enter(CURRENT, place, at, rank);
     enter_each(positions, indexes, at, versions);
 }
 

@@ -6,7 +6,7 @@ ghost use Rattle.lv_shelf.specs.Shelves.{other_at};
 ghost use Rattle.lv_schema.specs.declared.version.RowVersion.{RowVersion};
 ghost use Rattle.lv_versions.specs.Versions.{AreOrders, HaveOrders, Precedes, ends_after, is_over};
 
-use crate::indexes::leave_each;
+use crate::indexes::{ENDED, INDEXES, leave_each};
 use crate::rank::rank;
 use crate::version::{ComesBefore, EndsAfter, IsOver};
 use lv_schema::{Positions, RowVersion};
@@ -27,14 +27,14 @@ fn drop_first(positions: &[u8], indexes: &[Positions], versions: &mut Shelf<RowV
     ensures kept { (v : RowVersion) (floor : ℕ) → slice_get (other_at versions.old.others 0) 0 ≡ Some v → is_over floor v ≡ true → filter (λ w. ends_after floor w.until) versions.new.list ≡ filter (λ w. ends_after floor w.until) versions.old.list }
     ensures room { versions.old.spare ≤ versions.new.spare }
 {
-    let first = versions.get_in(0, 0);
+    let first = versions.get_in(ENDED, 0);
     let before = ComesBefore {
         positions,
         row: &first.row,
         number: first.from,
     };
     let at = versions.cut_near(rank(positions, &first.row), &before);
-    versions.leave(0, 0);
+    versions.leave(ENDED, 0);
     leave_each(positions, indexes, at, versions);
     versions.remove(at);
 }
@@ -73,10 +73,10 @@ pub(crate) fn drop_over(
     ensures orders { HaveOrders positions.now indexes.now versions.new.spare versions.new.others versions.new.list }
     ensures room { versions.old.spare ≤ versions.new.spare }
 {
-    if versions.orders() == 0 {
+    if versions.orders() < INDEXES {
         return;
     }
-    let many = versions.cut_in(0, &IsOver { floor });
+    let many = versions.cut_in(ENDED, &IsOver { floor });
     if many <= FEW {
         drop_each(positions, indexes, floor, many, versions);
     } else {

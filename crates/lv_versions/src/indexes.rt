@@ -16,6 +16,15 @@ use lv_shelf::Shelf;
 use lv_values::{NoMemory, Room};
 use std::alloc::Global;
 
+/// The further order of the versions that ended.
+pub(crate) const ENDED: usize = 0;
+
+/// The further order of the versions that have not ended.
+pub(crate) const CURRENT: usize = 1;
+
+/// The further order of the first index.
+pub(crate) const INDEXES: usize = 2;
+
 /// The number of the index by these columns, if there is one.
 pub(crate) fn index_by(indexes: &[Positions], columns: &[u8]) -> Option<usize>
     ensures { MatchOption result (AllByRecursion (λ c. c ≡ columns.now → ⊥) indexes.now) (λ j. (j < length indexes.now) × (columns_at indexes.now j ≡ columns.now)) }
@@ -102,17 +111,18 @@ pub(crate) fn enter_each(
     versions: &mut Shelf<RowVersion>,
 )
     requires at { at < length versions.old.list }
-    requires count { length versions.old.others ≡ length indexes.now + 1 }
+    requires count { length versions.old.others ≡ length indexes.now + 2 }
     requires stand { Apart (Precedes positions.now) versions.old.list }
-    requires but { (v : RowVersion) (j : ℕ) → slice_get versions.old.list at ≡ Some v → j < length indexes.now → AreIndexedBut (columns_at indexes.now j) positions.now v (other_at versions.old.others (j + 1)) versions.old.list }
-    ensures indexed { (j : ℕ) → j < length indexes.now → AreIndexed (columns_at indexes.now j) positions.now (other_at versions.new.others (j + 1)) versions.new.list }
+    requires but { (v : RowVersion) (j : ℕ) → slice_get versions.old.list at ≡ Some v → j < length indexes.now → AreIndexedBut (columns_at indexes.now j) positions.now v (other_at versions.old.others (j + 2)) versions.old.list }
+    ensures indexed { (j : ℕ) → j < length indexes.now → AreIndexed (columns_at indexes.now j) positions.now (other_at versions.new.others (j + 2)) versions.new.list }
     ensures count { length versions.new.others ≡ length versions.old.others }
     ensures ended { other_at versions.new.others 0 ≡ other_at versions.old.others 0 }
+    ensures current { other_at versions.new.others 1 ≡ other_at versions.old.others 1 }
     ensures same { versions.new.list ≡ versions.old.list }
     ensures room { versions.new.spare ≡ versions.old.spare }
 {
     for (j, index) in indexes.iter().enumerate() {
-        enter(positions, index.as_slice(), j + 1, at, versions);
+        enter(positions, index.as_slice(), j + INDEXES, at, versions);
     }
 }
 
@@ -124,16 +134,17 @@ pub(crate) fn leave_each(
     versions: &mut Shelf<RowVersion>,
 )
     requires at { at < length versions.old.list }
-    requires count { length versions.old.others ≡ length indexes.now + 1 }
-    requires indexed { (j : ℕ) → j < length indexes.now → AreIndexed (columns_at indexes.now j) positions.now (other_at versions.old.others (j + 1)) versions.old.list }
-    ensures but { (v : RowVersion) (j : ℕ) → slice_get versions.new.list at ≡ Some v → j < length indexes.now → AreIndexedBut (columns_at indexes.now j) positions.now v (other_at versions.new.others (j + 1)) versions.new.list }
+    requires count { length versions.old.others ≡ length indexes.now + 2 }
+    requires indexed { (j : ℕ) → j < length indexes.now → AreIndexed (columns_at indexes.now j) positions.now (other_at versions.old.others (j + 2)) versions.old.list }
+    ensures but { (v : RowVersion) (j : ℕ) → slice_get versions.new.list at ≡ Some v → j < length indexes.now → AreIndexedBut (columns_at indexes.now j) positions.now v (other_at versions.new.others (j + 2)) versions.new.list }
     ensures count { length versions.new.others ≡ length versions.old.others }
     ensures ended { other_at versions.new.others 0 ≡ other_at versions.old.others 0 }
+    ensures current { other_at versions.new.others 1 ≡ other_at versions.old.others 1 }
     ensures same { versions.new.list ≡ versions.old.list }
     ensures room { versions.new.spare ≡ versions.old.spare }
 {
     for (j, index) in indexes.iter().enumerate() {
-        leave(positions, index.as_slice(), j + 1, at, versions);
+        leave(positions, index.as_slice(), j + INDEXES, at, versions);
     }
 }
 
@@ -179,14 +190,14 @@ pub(crate) fn add_index(
     Ok(())
 }
 
-/// Adds the order of the ended versions, which is the first one, if it is not there.
+/// Adds the orders of the versions that ended and of those that have not, which are the first ones, if they are not there.
 pub(crate) fn add_first(alloc: Global, versions: &mut Shelf<RowVersion>) -> Result<(), NoMemory>
     ensures same { versions.new.list ≡ versions.old.list }
     ensures room { versions.new.spare ≡ versions.old.spare }
-    ensures there { OnOk result (0 < length versions.new.others) }
+    ensures there { OnOk result (1 < length versions.new.others) }
     ensures orders { (positions : List ℕ) (indexes : List (List ℕ)) → HaveOrders positions indexes versions.old.spare versions.old.others versions.old.list → HaveOrders positions indexes versions.new.spare versions.new.others versions.new.list }
 {
-    if versions.orders() == 0 {
+    while versions.orders() < INDEXES {
         versions.add_order(alloc)?;
     }
     Ok(())

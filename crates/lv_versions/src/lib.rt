@@ -5,6 +5,7 @@ mod changing;
 mod dropping;
 mod indexes;
 mod rank;
+mod seen;
 mod version;
 mod versions;
 

@@ -12,8 +12,9 @@ ghost use Rattle.lv_versions.specs.Versions.{Applies, EndsFrom, HaveOrders, IsBy
 
 use crate::changing::change;
 use crate::dropping::drop_over;
-use crate::indexes::{add_first, add_index, index_by};
+use crate::indexes::{CURRENT, INDEXES, add_first, add_index, index_by};
 use crate::rank::rank_of_key;
+use crate::seen::Seen;
 use crate::version::{IsUpTo, Reaches, hits, is_at};
 use lv_schema::{Net, Positions, RowVersion, TableDef};
 use lv_shelf::{Run, Shelf};
@@ -83,13 +84,12 @@ impl Versions {
         ensures cost { steps.new ≡ steps.old + length (option_to_list result) }
     {
         let positions = self.def.key.as_slice();
-        let at = self
-            .versions
-            .cut_near(rank_of_key(key), &Reaches { positions, key, n });
+        let seen = self.seen(n);
+        let at = seen.cut_near(rank_of_key(key), &Reaches { positions, key, n });
         if at == 0 {
             return None;
         }
-        let version = self.versions.get(at - 1);
+        let version = seen.get(at - 1);
         if hits(version, positions, key, n) {
             steps.tick();
             Some(&version.row)
@@ -98,7 +98,8 @@ impl Versions {
         }
     }
 
-    /// The rows after commit n, in the order of their keys. Cost: one pass over the versions, and a copy of each row.
+    /// The rows after commit n, in the order of their keys. Cost: one pass over the versions, from the last commit on over
+    /// those alone that have not ended, and a copy of each row.
     pub fn scan<L: Ledger>(
         &self,
         alloc: Global,
@@ -111,13 +112,14 @@ impl Versions {
         ensures cost { OnOk result (steps.new ≡ steps.old + length (state_at n self.now.versions)) }
         ensures most { OnErr result (steps.new ≤ steps.old + length (state_at n self.now.versions)) }
     {
-        let versions = &self.versions;
-        rows_in(alloc, n, versions, 0, versions.len(), &Any, steps)
+        let seen = self.seen(n);
+        rows_in(alloc, n, &seen, 0, seen.len(), &Any, steps)
     }
 
     /// Those rows of `scan` that pass. Where all that pass have first key values no less than some, or no greater than some,
-    /// those may be given. Cost: two binary searches, and one pass over the versions between these values, with a copy of
-    /// each row that passes; a step is taken for each row between them, which is tested, and for no other.
+    /// those may be given. Cost: two binary searches, or one for one row from the last commit on, and one pass over those
+    /// versions between these values that `scan` goes over, with a copy of each row that passes; a step is taken for each
+    /// row between them, which is tested, and for no other.
     pub fn scan_between<L: Ledger, T: Test<Row>>(
         &self,
         alloc: Global,
@@ -137,10 +139,10 @@ impl Versions {
         ensures most { steps.new ≤ steps.old + length (state_at n self.now.versions) }
     {
         let positions = self.def.key.as_slice();
-        let versions = &self.versions;
-        let first = place_of_low(positions, low, versions);
-        let end = place_of_high(positions, high, versions);
-        rows_in(alloc, n, versions, first, end, test, steps)
+        let seen = self.seen(n);
+        let first = place_of_low(positions, low, &seen);
+        let end = place_of_high(positions, high, first, &seen);
+        rows_in(alloc, n, &seen, first, end, test, steps)
     }
 
     /// The rows after commit n that have these values in these columns, in the order of their keys.
@@ -165,7 +167,7 @@ impl Versions {
 
     /// References to the rows that `probe` copies, where they lie. Cost: with an index by these columns two binary
     /// searches, and for each version of any commit that has these values room for a reference, taken once, and a test of
-    /// its commits alone; or else one pass over the versions, and a reference to each row.
+    /// its commits alone; or else one pass over the versions that `scan` goes over, and a reference to each row.
     pub fn probe_in_place<'b, L: Ledger>(
         &'b self,
         alloc: Global,
@@ -180,10 +182,17 @@ impl Versions {
         ensures cost { OnOk result (steps.new ≡ steps.old + length (rows_with columns.now values.now (state_at n self.now.versions))) }
         ensures most { OnErr result (steps.new ≤ steps.old + length (rows_with columns.now values.now (state_at n self.now.versions))) }
     {
-        let versions = &self.versions;
         match index_by(self.indexes.as_slice(), columns) {
-            Some(index) => rows_between(alloc, n, columns, values, index + 1, versions, steps),
-            None => rows_with(alloc, n, columns, values, versions, steps),
+            Some(index) => rows_between(
+                alloc,
+                n,
+                columns,
+                values,
+                index + INDEXES,
+                &self.versions,
+                steps,
+            ),
+            None => rows_with(alloc, n, columns, values, &self.seen(n), steps),
         }
     }
 
@@ -291,6 +300,19 @@ impl Versions {
         let _ = &self.last;
     }
 
+    /// What shows the rows after commit n: from the last commit on the versions that have not ended, or else all.
+    /// Cost: constant.
+    fn seen(&self, n: u64) -> Seen<'_>
+        ensures rows { state_at n result ≡ state_at n self.now.versions }
+        ensures stand { Apart (Precedes self.now.def.key) result }
+    {
+        if self.last <= n && self.versions.orders() > CURRENT {
+            Seen::of(&self.versions, CURRENT)
+        } else {
+            Seen::all(&self.versions)
+        }
+    }
+
     /// The number of versions.
     pub fn count(&self) -> u64
         ensures { result ≡ length self.now.versions }
@@ -359,45 +381,46 @@ fn push_alive<L: Ledger, T: Test<Row>>(
     Ok(())
 }
 
-/// How many versions have first key values that are below these, or, if they count too, are these. Cost: a binary search.
-fn place_of(positions: &[u8], values: &Row, themselves: bool, versions: &Shelf<RowVersion>) -> usize
-    requires stand { Apart (Precedes positions.now) versions.now.list }
-    requires fits { length values.now ≤ length positions.now }
-    ensures within { result ≤ length versions.now.list }
-    ensures cut { IsCut (is_upto (take (length values.now) positions.now) values.now themselves) result versions.now.list }
+/// Tests whether first key values are below these, or, if these count too, are these.
+fn up_to<'a>(positions: &'a [u8], values: &'a Row, themselves: bool) -> IsUpTo<'a>
+    requires { length values.now ≤ length positions.now }
+    ensures { result ≡ (take (length values.now) positions.now, values.now, themselves) }
 {
-    let columns = &positions[..values.len()];
-    let upto = IsUpTo {
-        columns,
+    IsUpTo {
+        columns: &positions[..values.len()],
         values,
         themselves,
-    };
-    versions.cut_near(rank_of_key(values), &upto)
+    }
 }
 
 /// How many versions have first key values below these, none where none are given. Cost: a binary search.
-fn place_of_low(positions: &[u8], low: Option<&Row>, versions: &Shelf<RowVersion>) -> usize
-    requires stand { Apart (Precedes positions.now) versions.now.list }
+fn place_of_low(positions: &[u8], low: Option<&Row>, seen: &Seen<'_>) -> usize
+    requires stand { Apart (Precedes positions.now) seen.now }
     requires fits { MatchOption low (Unit {0}) (λ values. length values.now ≤ length positions.now) }
-    ensures within { result ≤ length versions.now.list }
-    ensures cut { MatchOption low.entry (result ≡ 0) (λ values. IsCut (is_upto (take (length values.now) positions.now) values.now false) result versions.now.list) }
+    ensures within { result ≤ length seen.now }
+    ensures cut { MatchOption low.entry (result ≡ 0) (λ values. IsCut (is_upto (take (length values.now) positions.now) values.now false) result seen.now) }
 {
     match low {
-        Some(values) => place_of(positions, values, false, versions),
+        Some(values) => seen.cut_near(rank_of_key(values), &up_to(positions, values, false)),
         None => 0,
     }
 }
 
-/// How many versions have first key values no greater than these, all where none are given. Cost: a binary search.
-fn place_of_high(positions: &[u8], high: Option<&Row>, versions: &Shelf<RowVersion>) -> usize
-    requires stand { Apart (Precedes positions.now) versions.now.list }
+/// How many versions have first key values no greater than these, all where none are given. Cost: two looks at versions
+/// where these are one more than `first`, or else a binary search.
+fn place_of_high(positions: &[u8], high: Option<&Row>, first: usize, seen: &Seen<'_>) -> usize
+    requires stand { Apart (Precedes positions.now) seen.now }
     requires fits { MatchOption high (Unit {0}) (λ values. length values.now ≤ length positions.now) }
-    ensures within { result ≤ length versions.now.list }
-    ensures cut { MatchOption high.entry (result ≡ length versions.now.list) (λ values. IsCut (is_upto (take (length values.now) positions.now) values.now true) result versions.now.list) }
+    ensures within { result ≤ length seen.now }
+    ensures cut { MatchOption high.entry (result ≡ length seen.now) (λ values. IsCut (is_upto (take (length values.now) positions.now) values.now true) result seen.now) }
 {
     match high {
-        Some(values) => place_of(positions, values, true, versions),
-        None => versions.len(),
+        Some(values) => seen.cut_behind(
+            first,
+            rank_of_key(values),
+            &up_to(positions, values, true),
+        ),
+        None => seen.len(),
     }
 }
 
@@ -426,21 +449,21 @@ fn copy_run<L: Ledger, T: Test<Row>>(
 fn rows_in<L: Ledger, T: Test<Row>>(
     alloc: Global,
     n: u64,
-    versions: &Shelf<RowVersion>,
+    seen: &Seen<'_>,
     first: usize,
     end: usize,
     test: &T,
     steps: &mut Steps<L>,
 ) -> Result<Rows, NoMemory>
-    requires end { end ≤ length versions.now.list }
-    ensures rows { IfOk result (λ rows. rows ≡ filter (T.passed test.now) (state_at n (drop first (take end versions.now.list)))) }
-    ensures cost { OnOk result (steps.new ≡ steps.old + length (state_at n (drop first (take end versions.now.list)))) }
-    ensures most { OnErr result (steps.new ≤ steps.old + length (state_at n (drop first (take end versions.now.list)))) }
+    requires end { end ≤ length seen.now }
+    ensures rows { IfOk result (λ rows. rows ≡ filter (T.passed test.now) (state_at n (drop first (take end seen.now)))) }
+    ensures cost { OnOk result (steps.new ≡ steps.old + length (state_at n (drop first (take end seen.now)))) }
+    ensures most { OnErr result (steps.new ≤ steps.old + length (state_at n (drop first (take end seen.now)))) }
 {
     let mut rows = Rows::new(alloc);
     let mut at = first;
     while at < end {
-        let run = versions.run(at, end);
+        let run = seen.run(at, end);
         copy_run(alloc, n, &run, test, &mut rows, steps)?;
         at += run.len();
     }
@@ -484,16 +507,16 @@ fn rows_with<'b, L: Ledger>(
     n: u64,
     columns: &[u8],
     values: &Row,
-    versions: &'b Shelf<RowVersion>,
+    seen: &Seen<'b>,
     steps: &mut Steps<L>,
 ) -> Result<Vec<&'b Row>, NoMemory>
-    ensures rows { IfOk result (λ rows. map (λ row. row.now) rows.items ≡ rows_with columns.now values.now (state_at n versions.now.list)) }
-    ensures cost { OnOk result (steps.new ≡ steps.old + length (rows_with columns.now values.now (state_at n versions.now.list))) }
-    ensures most { OnErr result (steps.new ≤ steps.old + length (rows_with columns.now values.now (state_at n versions.now.list))) }
+    ensures rows { IfOk result (λ rows. map (λ row. row.now) rows.items ≡ rows_with columns.now values.now (state_at n seen.now)) }
+    ensures cost { OnOk result (steps.new ≡ steps.old + length (rows_with columns.now values.now (state_at n seen.now))) }
+    ensures most { OnErr result (steps.new ≤ steps.old + length (rows_with columns.now values.now (state_at n seen.now))) }
 {
     let mut rows = Vec::new(alloc);
-    for at in 0..versions.len() {
-        push_hit(n, columns, values, versions.get(at), &mut rows, steps)?;
+    for at in 0..seen.len() {
+        push_hit(n, columns, values, seen.get(at), &mut rows, steps)?;
     }
     Ok(rows)
 }

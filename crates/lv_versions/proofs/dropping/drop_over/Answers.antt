@@ -5,22 +5,22 @@ use Rattle.lv_versions.proofs.Cleaning.{over_falls}
 use Rattle.lv_versions.proofs.Keeping.{no_orders, orders_have, orders_kept, some_orders}
 use Rattle.lv_versions.proofs.dropping.drop_over.Goals as goal
 
-pub returns-then-orders-eq0-clause-kept : goal.returns-then-orders-eq0-clause-kept
-returns-then-orders-eq0-clause-kept c =
+pub returns-then-orders-lt-INDEXES-clause-kept : goal.returns-then-orders-lt-INDEXES-clause-kept
+returns-then-orders-lt-INDEXES-clause-kept c =
     let old = c.args.versions.now in
-    let none = no_orders c.args.positions.now c.args.indexes.now old.spare old.others old.list (omega (arith, c.orders.ensures, c.if-orders-eq0.true)) c.requires.orders in
+    let none = no_orders c.args.positions.now c.args.indexes.now old.spare old.others old.list (omega (arith, c.orders.ensures, c.if-orders-lt-INDEXES.true)) c.requires.orders in
     rw none refl
 
 pub cut_in-many-requires-clause-falls : goal.cut_in-many-requires-clause-falls
 cut_in-many-requires-clause-falls c =
     let old = c.args.versions.now in
-    let some : 0 < length old.others = let h = c.if-orders-eq0.false in omega (arith, c.orders.ensures) in
+    let some : 1 < length old.others = let h = c.if-orders-lt-INDEXES.false in omega (arith, c.orders.ensures) in
     over_falls c.args.floor (other_at old.others 0) (some_orders c.args.positions.now c.args.indexes.now old.spare old.others old.list some c.requires.orders).ended.ends
 
 pub drop_each-requires-clause-orders : goal.drop_each-requires-clause-orders
 drop_each-requires-clause-orders c =
     let old = c.args.versions.now in
-    let some : 0 < length old.others = let h = c.if-orders-eq0.false in omega (arith, c.orders.ensures) in
+    let some : 1 < length old.others = let h = c.if-orders-lt-INDEXES.false in omega (arith, c.orders.ensures) in
     some_orders c.args.positions.now c.args.indexes.now old.spare old.others old.list some c.requires.orders
 
 pub returns-else-many-le-FEW-clause-orders : goal.returns-else-many-le-FEW-clause-orders
@@ -29,6 +29,6 @@ returns-else-many-le-FEW-clause-orders c =
     let cs = c.args.indexes.now in
     let old = c.args.versions.now in
     let now = c.keep.new.self in
-    let some : 0 < length old.others = let h = c.if-orders-eq0.false in omega (arith, c.orders.ensures) in
+    let some : 1 < length old.others = let h = c.if-orders-lt-INDEXES.false in omega (arith, c.orders.ensures) in
     orders_have ps cs now.spare now.others now.list
     (rw (c.keep.ensures.others, c.keep.ensures.kept) (orders_kept ps cs (λ v. ends_after c.args.floor v.until) old.others old.list (some_orders ps cs old.spare old.others old.list some c.requires.orders)))

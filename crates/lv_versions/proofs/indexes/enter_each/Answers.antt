@@ -26,7 +26,7 @@ enter-requires c =
     record {
       at = within;
       order = omega (arith, lt, c.loop-j.invariant.count, c.requires.count);
-      ascends = subst (λ k. Ascends (index_cmp k ps) (other_at s.others (j + 1))) (sym index)
+      ascends = subst (λ k. Ascends (index_cmp k ps) (other_at s.others (j + 2))) (sym index)
           (subst (Ascends (index_cmp (columns_at cs j) ps)) (sym rest) (c.requires.but v.0 j (subst (λ l. slice_get l c.args.at ≡ Some v.0) same v.1) lt).ascends);
       absent = λ w e. subst (LacksItem w) (sym rest) (c.requires.but w j (subst (λ l. slice_get l c.args.at ≡ Some w) same e) lt).lacks;
     }
@@ -47,20 +47,21 @@ loop-j-preserved c =
     let there = item_there s.list c.args.at within in
     let v = there.0 in
     let before = subst (λ l. slice_get l c.args.at ≡ Some v) same there.1 in
-    let put : List RowVersion = placed (index_cmp c.as_slice.result.now ps) v (other_at s.others (j + 1)) in
-    let entered : now.others ≡ set s.others (j + 1) put = c.enter.ensures.entered v there.1 in
-    let other : (k : ℕ) → (k ≡ j + 1 → ⊥) → other_at now.others k ≡ other_at s.others k = λ k ne. ap (λ l. other_at l k) entered ∙ get_or-set_other s.others (j + 1) k put [] ne in
+    let put : List RowVersion = placed (index_cmp c.as_slice.result.now ps) v (other_at s.others (j + 2)) in
+    let entered : now.others ≡ set s.others (j + 2) put = c.enter.ensures.entered v there.1 in
+    let other : (k : ℕ) → (k ≡ j + 2 → ⊥) → other_at now.others k ≡ other_at s.others k = λ k ne. ap (λ l. other_at l k) entered ∙ get_or-set_other s.others (j + 2) k put [] ne in
     let list = c.enter.ensures.same in
     record {
       same = list ∙ same;
       room = c.enter.ensures.room ∙ c.loop-j.invariant.room;
-      count = ap length entered ∙ length-set s.others (j + 1) put ∙ c.loop-j.invariant.count;
+      count = ap length entered ∙ length-set s.others (j + 2) put ∙ c.loop-j.invariant.count;
       ended = other 0 (λ e. absurd (omega arith)) ∙ c.loop-j.invariant.ended;
+      current = other 1 (λ e. absurd (omega arith)) ∙ c.loop-j.invariant.current;
       done = below_more _ _
-          (λ k below. subst (λ l. AreIndexed (columns_at cs k) ps l now.list) (sym (other (k + 1) (λ e. absurd (omega arith)))) (subst (AreIndexed (columns_at cs k) ps (other_at s.others (k + 1))) (sym list) (c.loop-j.invariant.done k below)))
+          (λ k below. subst (λ l. AreIndexed (columns_at cs k) ps l now.list) (sym (other (k + 2) (λ e. absurd (omega arith)))) (subst (AreIndexed (columns_at cs k) ps (other_at s.others (k + 2))) (sym list) (c.loop-j.invariant.done k below)))
           (subst (λ l. AreIndexed (columns_at cs j) ps l now.list)
-          (sym (ap (λ l. other_at l (j + 1)) entered ∙ get_or-set_same s.others (j + 1) put [] (omega (arith, lt, c.loop-j.invariant.count, c.requires.count)) ∙ ap (λ k. placed (index_cmp k ps) v (other_at s.others (j + 1))) index ∙ ap (placed (index_cmp (columns_at cs j) ps) v) rest))
-          (subst (AreIndexed (columns_at cs j) ps (placed (index_cmp (columns_at cs j) ps) v (other_at old.others (j + 1)))) (sym (list ∙ same))
-          (indexed_entered (columns_at cs j) ps old.list c.args.at v (other_at old.others (j + 1)) c.requires.stand before (c.requires.but v j before lt))));
-      rest = λ k le. other (k + 1) (λ e. absurd (omega arith)) ∙ c.loop-j.invariant.rest k (omega arith);
+          (sym (ap (λ l. other_at l (j + 2)) entered ∙ get_or-set_same s.others (j + 2) put [] (omega (arith, lt, c.loop-j.invariant.count, c.requires.count)) ∙ ap (λ k. placed (index_cmp k ps) v (other_at s.others (j + 2))) index ∙ ap (placed (index_cmp (columns_at cs j) ps) v) rest))
+          (subst (AreIndexed (columns_at cs j) ps (placed (index_cmp (columns_at cs j) ps) v (other_at old.others (j + 2)))) (sym (list ∙ same))
+          (indexed_entered (columns_at cs j) ps old.list c.args.at v (other_at old.others (j + 2)) c.requires.stand before (c.requires.but v j before lt))));
+      rest = λ k le. other (k + 2) (λ e. absurd (omega arith)) ∙ c.loop-j.invariant.rest k (omega arith);
     }

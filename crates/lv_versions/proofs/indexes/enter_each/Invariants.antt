@@ -9,6 +9,7 @@ invariant-loop-j l = record {
   room : l.versions.spare ≡ l.initial.versions.spare;
   count : length l.versions.others ≡ length l.initial.versions.others;
   ended : other_at l.versions.others 0 ≡ other_at l.initial.versions.others 0;
-  done : (k : ℕ) → k < l.j → AreIndexed (columns_at l.indexes k) l.positions (other_at l.versions.others (k + 1)) l.versions.list;
-  rest : (k : ℕ) → l.j ≤ k → other_at l.versions.others (k + 1) ≡ other_at l.initial.versions.others (k + 1);
+  current : other_at l.versions.others 1 ≡ other_at l.initial.versions.others 1;
+  done : (k : ℕ) → k < l.j → AreIndexed (columns_at l.indexes k) l.positions (other_at l.versions.others (k + 2)) l.versions.list;
+  rest : (k : ℕ) → l.j ≤ k → other_at l.versions.others (k + 2) ≡ other_at l.initial.versions.others (k + 2);
 }

@@ -24,10 +24,10 @@ leave-requires c =
     record {
       at = omega (arith, ap length same, c.requires.at);
       order = omega (arith, lt, c.loop-j.invariant.count, c.requires.count);
-      ascends = subst (λ k. Ascends (index_cmp k ps) (other_at s.others (j + 1))) (sym index) (subst (Ascends (index_cmp (columns_at cs j) ps)) (sym rest) before.ascends);
+      ascends = subst (λ k. Ascends (index_cmp k ps) (other_at s.others (j + 2))) (sym index) (subst (Ascends (index_cmp (columns_at cs j) ps)) (sym rest) before.ascends);
       there = λ w e.
           let e' = subst (λ l. slice_get l c.args.at ≡ Some w) same e in
-          subst (IsIn w) (sym rest) (all_got (λ x. IsIn x (other_at c.args.versions.now.others (j + 1))) c.args.versions.now.list c.args.at w e' before.all);
+          subst (IsIn w) (sym rest) (all_got (λ x. IsIn x (other_at c.args.versions.now.others (j + 2))) c.args.versions.now.list c.args.at w e' before.all);
     }
 
 pub loop-j-preserved : goal.loop-j-preserved
@@ -45,25 +45,26 @@ loop-j-preserved c =
     let v = there.0 in
     let gone = c.leave.ensures.left v there.1 in
     let place = gone.0 in
-    let less : List RowVersion = remove (other_at s.others (j + 1)) place in
-    let left : now.others ≡ set s.others (j + 1) less = gone.1.1 in
-    let other : (k : ℕ) → (k ≡ j + 1 → ⊥) → other_at now.others k ≡ other_at s.others k = λ k ne. ap (λ l. other_at l k) left ∙ get_or-set_other s.others (j + 1) k less [] ne in
+    let less : List RowVersion = remove (other_at s.others (j + 2)) place in
+    let left : now.others ≡ set s.others (j + 2) less = gone.1.1 in
+    let other : (k : ℕ) → (k ≡ j + 2 → ⊥) → other_at now.others k ≡ other_at s.others k = λ k ne. ap (λ l. other_at l k) left ∙ get_or-set_other s.others (j + 2) k less [] ne in
     let list = c.leave.ensures.same in
-    let but : AreIndexedBut (columns_at cs j) ps v (other_at now.others (j + 1)) now.list =
+    let but : AreIndexedBut (columns_at cs j) ps v (other_at now.others (j + 2)) now.list =
     subst (λ l. AreIndexedBut (columns_at cs j) ps v l now.list)
-    (sym (ap (λ l. other_at l (j + 1)) left ∙ get_or-set_same s.others (j + 1) less [] (omega (arith, lt, c.loop-j.invariant.count, c.requires.count)) ∙ ap (λ l. remove l place) rest))
-    (subst (AreIndexedBut (columns_at cs j) ps v (remove (other_at old.others (j + 1)) place)) (sym (list ∙ same))
-    (indexed_left (columns_at cs j) ps v (other_at old.others (j + 1)) old.list place (subst (λ l. slice_get l place ≡ Some v) rest gone.1.0) (c.requires.indexed j lt))) in
+    (sym (ap (λ l. other_at l (j + 2)) left ∙ get_or-set_same s.others (j + 2) less [] (omega (arith, lt, c.loop-j.invariant.count, c.requires.count)) ∙ ap (λ l. remove l place) rest))
+    (subst (AreIndexedBut (columns_at cs j) ps v (remove (other_at old.others (j + 2)) place)) (sym (list ∙ same))
+    (indexed_left (columns_at cs j) ps v (other_at old.others (j + 2)) old.list place (subst (λ l. slice_get l place ≡ Some v) rest gone.1.0) (c.requires.indexed j lt))) in
     record {
       same = list ∙ same;
       room = c.leave.ensures.room ∙ c.loop-j.invariant.room;
-      count = ap length left ∙ length-set s.others (j + 1) less ∙ c.loop-j.invariant.count;
+      count = ap length left ∙ length-set s.others (j + 2) less ∙ c.loop-j.invariant.count;
       ended = other 0 (λ e. absurd (omega arith)) ∙ c.loop-j.invariant.ended;
+      current = other 1 (λ e. absurd (omega arith)) ∙ c.loop-j.invariant.current;
       done = λ w k e.
           let e' = subst (λ l. slice_get l c.args.at ≡ Some w) list e in
           let is : v ≡ w = same_item s.list c.args.at v w there.1 e' in
-          below_more (λ m. AreIndexedBut (columns_at cs m) ps w (other_at now.others (m + 1)) now.list) j
-          (λ m below. subst (λ l. AreIndexedBut (columns_at cs m) ps w l now.list) (sym (other (m + 1) (λ f. absurd (omega arith)))) (subst (AreIndexedBut (columns_at cs m) ps w (other_at s.others (m + 1))) (sym list) (c.loop-j.invariant.done w m e' below)))
-          (subst (λ x. AreIndexedBut (columns_at cs j) ps x (other_at now.others (j + 1)) now.list) is but) k;
-      rest = λ k le. other (k + 1) (λ e. absurd (omega arith)) ∙ c.loop-j.invariant.rest k (omega arith);
+          below_more (λ m. AreIndexedBut (columns_at cs m) ps w (other_at now.others (m + 2)) now.list) j
+          (λ m below. subst (λ l. AreIndexedBut (columns_at cs m) ps w l now.list) (sym (other (m + 2) (λ f. absurd (omega arith)))) (subst (AreIndexedBut (columns_at cs m) ps w (other_at s.others (m + 2))) (sym list) (c.loop-j.invariant.done w m e' below)))
+          (subst (λ x. AreIndexedBut (columns_at cs j) ps x (other_at now.others (j + 2)) now.list) is but) k;
+      rest = λ k le. other (k + 2) (λ e. absurd (omega arith)) ∙ c.loop-j.invariant.rest k (omega arith);
     }

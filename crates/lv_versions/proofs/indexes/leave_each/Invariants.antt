@@ -11,6 +11,7 @@ invariant-loop-j l = record {
   room : l.versions.spare ≡ l.initial.versions.spare;
   count : length l.versions.others ≡ length l.initial.versions.others;
   ended : other_at l.versions.others 0 ≡ other_at l.initial.versions.others 0;
-  done : (v : RowVersion) (k : ℕ) → slice_get l.versions.list l.at ≡ Some v → k < l.j → AreIndexedBut (columns_at l.indexes k) l.positions v (other_at l.versions.others (k + 1)) l.versions.list;
-  rest : (k : ℕ) → l.j ≤ k → other_at l.versions.others (k + 1) ≡ other_at l.initial.versions.others (k + 1);
+  current : other_at l.versions.others 1 ≡ other_at l.initial.versions.others 1;
+  done : (v : RowVersion) (k : ℕ) → slice_get l.versions.list l.at ≡ Some v → k < l.j → AreIndexedBut (columns_at l.indexes k) l.positions v (other_at l.versions.others (k + 2)) l.versions.list;
+  rest : (k : ℕ) → l.j ≤ k → other_at l.versions.others (k + 2) ≡ other_at l.initial.versions.others (k + 2);
 }

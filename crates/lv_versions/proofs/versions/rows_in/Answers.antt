@@ -11,7 +11,7 @@ loop-at-preserved g c =
     let n = c.args.n in
     let i = c.loop-at.at in
     let end = c.args.end in
-    let list = c.args.versions.now.list in
+    let list = c.args.seen.now in
     let run = c.run-run.result in
     let p = g.T.Test.passed c.args.test.now in
     let step = passing_run p n i end c.loop-at.rows run list c.run-run.ensures.run c.run-run.ensures.within in
@@ -26,12 +26,12 @@ loop-at-preserved g c =
 pub returns-clause-rows : goal.returns-clause-rows
 returns-clause-rows g c =
     let p = g.T.Test.passed c.args.test.now in
-    let none = ap (filter p) (none_left c.args.n c.args.end c.loop-at.at c.args.versions.now.list c.loop-at-test.false) in
+    let none = ap (filter p) (none_left c.args.n c.args.end c.loop-at.at c.args.seen.now c.loop-at-test.false) in
     sym (append-nil c.loop-at.rows) ∙ sym (ap (λ l. c.loop-at.rows ++ l) none) ∙ c.loop-at.invariant.rows
 
 pub returns-clause-cost : goal.returns-clause-cost
 returns-clause-cost g c =
-    let none = ap length (none_left c.args.n c.args.end c.loop-at.at c.args.versions.now.list c.loop-at-test.false) in
+    let none = ap length (none_left c.args.n c.args.end c.loop-at.at c.args.seen.now c.loop-at-test.false) in
     omega (arith, none, c.loop-at.invariant.cost)
 
 pub returns-in_err-copy_run-clause-most : goal.returns-in_err-copy_run-clause-most
@@ -39,7 +39,7 @@ returns-in_err-copy_run-clause-most g c =
     let n = c.args.n in
     let i = c.loop-at.at in
     let end = c.args.end in
-    let list = c.args.versions.now.list in
+    let list = c.args.seen.now in
     let run = c.run-run.result in
     let shown = ap length (run_step n i end [] run list c.run-run.ensures.run c.run-run.ensures.within) in
     let both = length-append (state_at n run) (state_at n (drop (i + length run) (take end list))) in

@@ -4,8 +4,8 @@ use Rattle.lv_versions.proofs.versions.rows_in.Given as goal
 
 abbrev pub invariant-loop-at : goal.invariant-loop-at
 invariant-loop-at g l = record {
-  rows : l.rows ++ filter (g.T.Test.passed l.test) (state_at l.n (drop l.at (take l.end l.versions.list))) ≡ filter (g.T.Test.passed l.test) (state_at l.n (drop l.first (take l.end l.versions.list)));
-  cost : l.steps + length (state_at l.n (drop l.at (take l.end l.versions.list))) ≡ l.initial.steps + length (state_at l.n (drop l.first (take l.end l.versions.list)));
+  rows : l.rows ++ filter (g.T.Test.passed l.test) (state_at l.n (drop l.at (take l.end l.seen))) ≡ filter (g.T.Test.passed l.test) (state_at l.n (drop l.first (take l.end l.seen)));
+  cost : l.steps + length (state_at l.n (drop l.at (take l.end l.seen))) ≡ l.initial.steps + length (state_at l.n (drop l.first (take l.end l.seen)));
 }
 
 abbrev pub decreases-loop-at : goal.decreases-loop-at

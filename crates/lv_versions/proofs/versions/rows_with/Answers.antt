@@ -10,7 +10,7 @@ loop-at-preserved g c =
     let ps = c.args.columns.now in
     let values = c.args.values.now in
     let i = c.loop-at.at in
-    let list = c.args.versions.now.list in
+    let list = c.args.seen.now in
     let v = c.get.result.now in
     let more = hit_step ps values n i (seen c.loop-at.rows.items) v list (got_within list i v c.get.ensures) c.get.ensures in
     record {
@@ -20,6 +20,6 @@ loop-at-preserved g c =
 
 pub loop-at-init : goal.loop-at-init
 loop-at-init g c = record {
-  rows = ap (λ l. seen l ++ rows_hit c.args.columns.now c.args.values.now c.args.n c.args.versions.now.list) c.new-rows.ensures.items ∙ hit_rows c.args.columns.now c.args.values.now c.args.n c.args.versions.now.list;
+  rows = ap (λ l. seen l ++ rows_hit c.args.columns.now c.args.values.now c.args.n c.args.seen.now) c.new-rows.ensures.items ∙ hit_rows c.args.columns.now c.args.values.now c.args.n c.args.seen.now;
   cost = omega (arith, ap length c.new-rows.ensures.items);
 }

@@ -16,7 +16,7 @@ rows_between-requires g c =
     let index = index_at s.def.key s.indexes.list c.args.columns.now s.versions.spare c.in-Some.index s.versions.others s.versions.list found.0 found.1 c.self.invariant.orders in
     record {
       order = index.0;
-      falls = λ b. upto_falls c.args.columns.now s.def.key c.args.values.now b (other_at s.versions.others (c.in-Some.index + 1)) index.1.ascends;
+      falls = λ b. upto_falls c.args.columns.now s.def.key c.args.values.now b (other_at s.versions.others (c.in-Some.index + 2)) index.1.ascends;
     }
 
 pub returns-in-Some : goal.returns-in-Some
@@ -25,7 +25,7 @@ returns-in-Some g c =
     let n = c.args.n in
     let columns = c.args.columns.now in
     let values = c.args.values.now in
-    let order = other_at s.versions.others (c.in-Some.index + 1) in
+    let order = other_at s.versions.others (c.in-Some.index + 2) in
     let found = rw c.as_slice.ensures at c.in-Some.ensures in
     let index = index_at s.def.key s.indexes.list columns s.versions.spare c.in-Some.index s.versions.others s.versions.list found.0 found.1 c.self.invariant.orders in
     let same : rows_hit columns values n order ≡ rows_with columns values (state_at n c.args.self.now.versions) =

@@ -13,8 +13,7 @@ use Rattle.lv_versions.proofs.versions.Versions.scan_between.Goals as goal
 pub returns : goal.returns
 returns g c =
     let n = c.args.n in
-    let s = c.self.inside in
-    let vs = s.versions.list in
+    let vs = c.seen-seen.result in
     let p = g.T.Test.passed c.args.test.now in
     let now = c.args.self.now in
     let key = now.def.key in
@@ -25,13 +24,13 @@ returns g c =
     let is : found ≡ within =
     rows_between_cuts c.as_slice-positions.result.now low high n c.place_of_low-first.result c.place_of_high-end.result vs c.place_of_low-first.ensures.cut c.place_of_high-end.ensures.cut
     ∙ ap (λ ks. rows_within ks (option_copied low) (option_copied high) (state_at n vs)) (c.as_slice-positions.ensures ∙ ap (λ (k : Kept). k.def.key) c.self.view_is)
-    ∙ ap (λ (k : Kept). rows_within key (option_copied low) (option_copied high) (state_at n k.versions)) c.self.view_is in
+    ∙ ap (rows_within key (option_copied low) (option_copied high)) c.seen-seen.ensures.rows in
     let cost = subst (λ l. OnOk c.rows_in.result (c.rows_in.new.steps ≡ c.args.steps.now + length l)) is c.rows_in.ensures.cost in
     let refused = subst (λ l. OnErr c.rows_in.result (c.rows_in.new.steps ≤ c.args.steps.now + length l)) is c.rows_in.ensures.most in
     record {
       rows = IfOk-weaker c.rows_in.result (λ (rows : List (List Value)). rows ≡ filter p found) (λ (rows : List (List Value)). rows ≡ filter p (state_at n now.versions))
           (λ (rows : List (List Value)) e. e ∙ ap (filter p) is ∙ passing_within key low high p (state_at n now.versions) c.requires.low c.requires.high) c.rows_in.ensures.rows;
-      keyed = subst (λ v. Ascends (key_cmp v.def.key) (state_at n v.versions)) c.self.view_is (state_ascends s.def.key n vs c.self.invariant.are.order);
+      keyed = subst (Ascends (key_cmp key)) c.seen-seen.ensures.rows (state_ascends key n vs c.seen-seen.ensures.stand);
       cost = cost;
       refused = refused;
       most = at_most c.rows_in.result c.rows_in.new.steps c.args.steps.now (length within) (length (state_at n now.versions)) (fewer_within key (option_copied low) (option_copied high) (state_at n now.versions)) cost refused;

@@ -1,0 +1,13 @@
+use Rattle.std.proofs.Common.{◌≡◌, ◌-◌, ℕ, List, length}
+use Rattle.lv_versions.specs.Versions.{HaveOrders}
+use Rattle.lv_versions.proofs.indexes.add_first.Given as goal
+
+abbrev pub invariant-loop-alloc : goal.invariant-loop-alloc
+invariant-loop-alloc l = record {
+  same : l.versions.list ≡ l.initial.versions.list;
+  room : l.versions.spare ≡ l.initial.versions.spare;
+  orders : (positions : List ℕ) (indexes : List (List ℕ)) → HaveOrders positions indexes l.initial.versions.spare l.initial.versions.others l.initial.versions.list → HaveOrders positions indexes l.versions.spare l.versions.others l.versions.list;
+}
+
+abbrev pub decreases-loop-alloc : goal.decreases-loop-alloc
+decreases-loop-alloc l = 2 - length l.versions.others
