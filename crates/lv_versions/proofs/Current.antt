@@ -1,8 +1,10 @@
 -- The versions that have not ended.
-use Rattle.std.proofs.Common.{◌≡◌, ℕ, zero, suc, ◌+◌, ◌-◌, ◌<◌, ◌≤◌, Bool, true, false, cond, List, [], ◌∷◌, length, get_or, map, filter, Option, Some, None, refl, sym, ap, ap₂, ◌∙◌, subst, arith}
+use Rattle.std.proofs.Common.{◌≡◌, ℕ, zero, suc, ◌+◌, ◌-◌, ◌<◌, ◌≤◌, Bool, true, false, cond, List, [], ◌∷◌, ◌++◌, length, get_or, map, filter, take, Option, Some, None, refl, sym, ap, ap₂, ◌∙◌, subst, arith}
 use Rattle.std.specs.Prelude.{◌&&◌, is_none, nat_le, nat_lt, slice_get}
 use Rattle.std.specs.List.{AllByRecursion, insert, remove}
 use Rattle.std.proofs.lemmas.Bool.Decides.{nat_tests}
+use Rattle.std.proofs.lemmas.List.{append-nil, take_more}
+use Rattle.std.proofs.lemmas.List.Elements.{filter-append}
 use Rattle.lv_values.specs.declared.value.Value.{Value}
 use Rattle.lv_schema.specs.Effects.{same_key}
 use Rattle.lv_schema.proofs.Apart.{all_filter, all_weaker}
@@ -10,7 +12,7 @@ use Rattle.lv_schema.specs.declared.version.RowVersion.{RowVersion}
 use Rattle.lv_shelf.specs.Cuts.{Apart, Falls, IsCut}
 use Rattle.lv_shelf.specs.Shelves.{ChangesOnly, LacksItem}
 use Rattle.lv_shelf.proofs.Cutting.{all_kept, cut_from, got, got_within, passed_up_to}
-use Rattle.lv_versions.specs.Versions.{EndsAtMost, HasEnded, IsBy, Precedes, comes_before, ends_after, is_at, is_current, is_open, state_at}
+use Rattle.lv_versions.specs.Versions.{EndsAtMost, HasEnded, IsBy, Precedes, comes_before, ends_after, is_at, current_of, is_current, is_open, state_at}
 use Rattle.lv_versions.proofs.Cleaning.{changes_one}
 use Rattle.lv_versions.proofs.Ending.{Closed, closed_current}
 use Rattle.lv_versions.proofs.Standing.{true_not_false}
@@ -43,8 +45,8 @@ open_rows n last (v ∷ vs) le a = by (is_open v) refl (is_at n v) refl (open_ro
     by false e false f ih = rw f ih
 
 -- ---- one that ended is not among them
-pub ended_lacks : (v : RowVersion) (vs : List RowVersion) → HasEnded v → LacksItem v (filter is_open vs)
-ended_lacks v vs h = all_weaker (λ y. is_open y ≡ true) (λ y. y ≡ v → ⊥) (λ y t same. true_not_false (is_open v) (ap is_open (sym same) ∙ t) h) (filter is_open vs) (all_kept is_open vs)
+pub ended_lacks : (v : RowVersion) (order : List RowVersion) → AllByRecursion (λ y. is_open y ≡ true) order → HasEnded v → LacksItem v order
+ended_lacks v order a h = all_weaker (λ y. is_open y ≡ true) (λ y. y ≡ v → ⊥) (λ y t same. true_not_false (is_open v) (ap is_open (sym same) ∙ t) h) order a
 
 -- ---- elements that pass one test, in a list where another test stops to pass at a place
 none_cut : {X : Type 0} (c : X → Bool) (k : ℕ) (xs : List X) → AllByRecursion (λ x. c x ≡ false) xs → IsCut c k xs → k ≡ 0
@@ -151,6 +153,42 @@ filter_swap p q (x ∷ xs) = by (p x) refl (q x) refl (filter_swap p q xs)
     by true e false f ih = rw f ih
     by false e true f ih = rw e ih
     by false e false f ih = ih
+
+open_passes : (floor : ℕ) (v : RowVersion) → is_open v ≡ true → ends_after floor v.until ≡ true
+open_passes floor v h = by v.until refl
+  where
+    by : (u : Option ℕ) → v.until ≡ u → ends_after floor v.until ≡ true
+    by None e = ap (ends_after floor) e
+    by (Some k) e = absurd (true_not_false (is_none v.until) h (ap is_none e))
+
+-- a clean-up leaves those that have not ended
+pub open_stay : (floor : ℕ) (order : List RowVersion) → AllByRecursion (λ v. is_open v ≡ true) order → filter (λ v. ends_after floor v.until) order ≡ order
+open_stay floor [] a = refl
+open_stay floor (v ∷ order) a =
+    ap (λ b. cond b (v ∷ filter (λ (w : RowVersion). ends_after floor w.until) order) (filter (λ (w : RowVersion). ends_after floor w.until) order)) (open_passes floor v a.0)
+    ∙ ap (λ l. v ∷ l) (open_stay floor order a.1)
+
+pub current_open : (kept : Bool) (vs : List RowVersion) → AllByRecursion (λ v. is_open v ≡ true) (current_of kept vs)
+current_open true vs = all_kept is_open vs
+current_open false vs = tt
+
+pub current_stay : (kept : Bool) (floor : ℕ) (vs : List RowVersion) → current_of kept (filter (λ v. ends_after floor v.until) vs) ≡ current_of kept vs
+current_stay true floor vs = filter_swap is_open (λ v. ends_after floor v.until) vs ∙ open_stay floor (filter is_open vs) (all_kept is_open vs)
+current_stay false floor vs = refl
+
+-- the versions are put into the order one after another
+pub open_more : (at : ℕ) (v : RowVersion) (vs : List RowVersion) → slice_get vs at ≡ Some v → is_open v ≡ true → filter is_open (take (at + 1) vs) ≡ filter is_open (take at vs) ++ v ∷ []
+open_more at v vs e h =
+    ap (filter is_open) (take_more vs at v (got_within vs at v e) ∙ ap (λ x. take at vs ++ x ∷ []) (got vs at v v e))
+    ∙ filter-append is_open (take at vs) (v ∷ [])
+    ∙ ap (λ b. filter is_open (take at vs) ++ cond b (v ∷ []) []) h
+
+pub ended_more : (at : ℕ) (v : RowVersion) (vs : List RowVersion) → slice_get vs at ≡ Some v → is_open v ≡ false → filter is_open (take (at + 1) vs) ≡ filter is_open (take at vs)
+ended_more at v vs e h =
+    ap (filter is_open) (take_more vs at v (got_within vs at v e) ∙ ap (λ x. take at vs ++ x ∷ []) (got vs at v v e))
+    ∙ filter-append is_open (take at vs) (v ∷ [])
+    ∙ ap (λ b. filter is_open (take at vs) ++ cond b (v ∷ []) []) h
+    ∙ append-nil (filter is_open (take at vs))
 
 -- ---- the last element that passes
 pub last_cut : {X : Type 0} (p : X → Bool) (xs : List X) (at : ℕ) (x : X) → Falls p xs → slice_get xs at ≡ Some x → p x ≡ true → ((k : ℕ) (d : X) → at + 1 ≤ k → k < length xs → p (get_or xs k d) ≡ false) → IsCut p (at + 1) xs

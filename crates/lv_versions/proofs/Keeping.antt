@@ -15,9 +15,8 @@ use Rattle.lv_shelf.specs.Cuts.{Apart, IsCut}
 use Rattle.lv_shelf.specs.Shelves.{ChangesOnly, LacksItem, other_at}
 use Rattle.lv_shelf.proofs.Cutting.{all_at, got, got_within}
 use Rattle.lv_shelf.proofs.Orders.{nth_map}
-use Rattle.lv_versions.specs.Versions.{AreEnded, AreIndexed, AreOrders, EndsAtMost, HaveOrders, IsIn, IsNewTo, Precedes, columns_at, comes_before, has_index, is_current, is_open, new_by, new_version}
+use Rattle.lv_versions.specs.Versions.{AreEnded, AreIndexed, AreOrders, EndsAtMost, HaveOrders, IsIn, IsNewTo, Precedes, columns_at, comes_before, has_index, is_current, new_by, new_version}
 use Rattle.lv_versions.proofs.Cleaning.{absent, ended_more, kept_ended, stay}
-use Rattle.lv_versions.proofs.Current.{filter_swap}
 use Rattle.lv_versions.proofs.Ending.{Closed}
 use Rattle.lv_versions.proofs.Indexing.{found_in, indexed_closed, indexed_kept, stand_ascend}
 use Rattle.lv_versions.proofs.Standing.{version_total}
@@ -137,10 +136,17 @@ next_order ps cs spare [] vs lt h = (h.0, h.1, h.2, refl)
 next_order ps cs spare (order ∷ []) vs lt h = record {
   count = let none = ap length h.0 in omega arith;
   ended = subst (λ l. AreEnded l vs) (sym h.3) (subst (AreEnded []) (sym h.1) (record { ends = tt; ended = tt; here = tt; all = tt }));
-  current = sym (ap (filter is_open) h.1);
   indexed = λ j lt'. let none = ap length h.0 in absurd (omega arith);
 }
 next_order ps cs spare (order ∷ next ∷ more) vs lt h = absurd (omega arith)
+
+-- where the order of the current ones alone is another one
+pub orders_apart : (ps : List ℕ) (cs : List (List ℕ)) (others others' : Lists) (vs : List RowVersion) → length others' ≡ length others → ((k : ℕ) → (k ≡ 1 → ⊥) → other_at others' k ≡ other_at others k) → AreOrders ps cs others vs → AreOrders ps cs others' vs
+orders_apart ps cs others others' vs long same a = record {
+  count = long ∙ a.count;
+  ended = subst (λ l. AreEnded l vs) (sym (same 0 (λ e. absurd (omega (arith, e))))) a.ended;
+  indexed = λ j lt. subst (λ l. AreIndexed (columns_at cs j) ps l vs) (sym (same (j + 2) (λ e. absurd (omega (arith, e))))) (a.indexed j lt);
+}
 
 -- ---- a version that is new
 pub new_lacks : (ps : List ℕ) (number : ℕ) (row : List Value) (vs : List RowVersion) → AllByRecursion (IsNewTo ps number row) vs → LacksItem (new_version number row) vs
@@ -158,9 +164,9 @@ pub absent_last : (ps : List ℕ) (number : ℕ) (row : List Value) (others : Li
 absent_last ps number row others vs at item stand e h a = subst (LacksItem (Closed ps number row item)) (sym (ended_list ps number row others vs a)) (absent ps number row (other_at others 0) vs at item stand e h a)
 
 pub orders_ended : (ps : List ℕ) (cs : List (List ℕ)) (number : ℕ) (row : List Value) (others others' : Lists) (vs less : List RowVersion) (at : ℕ) (item : RowVersion) → Apart (Precedes ps) vs → AllByRecursion (λ v. EndsAtMost number v.until) vs
-    → slice_get vs at ≡ Some item → is_current ps row number item ≡ true → ChangesOnly (Closed ps number row) at vs → AreOrders ps cs others vs → map (Closed ps number row) less ≡ filter is_open (map (Closed ps number row) vs)
+    → slice_get vs at ≡ Some item → is_current ps row number item ≡ true → ChangesOnly (Closed ps number row) at vs → AreOrders ps cs others vs
     → others' ≡ set (map (map (Closed ps number row)) (set others 1 less)) 0 (other_at (map (map (Closed ps number row)) (set others 1 less)) 0 ++ Closed ps number row item ∷ []) → AreOrders ps cs others' (map (Closed ps number row) vs)
-orders_ended ps cs number row others others' vs less at item stand ends e h only a current is =
+orders_ended ps cs number row others others' vs less at item stand ends e h only a is =
     let f : RowVersion → RowVersion = Closed ps number row in
     let left : Lists = set others 1 less in
     let mapped : Lists = map (map f) left in
@@ -172,19 +178,23 @@ orders_ended ps cs number row others others' vs less at item stand ends e h only
       count = ap length is ∙ length-set mapped 0 last ∙ long ∙ a.count;
       ended = subst (λ l. AreEnded l (map f vs)) (sym (ap (λ l. other_at l 0) is ∙ get_or-set_same mapped 0 last [] (omega (arith, long, a.count)) ∙ ap (λ l. l ++ Closed ps number row item ∷ []) first))
           (ended_more ps number row (other_at others 0) vs at item stand ends e h only a.ended);
-      current = ap (λ l. other_at l 1) is ∙ next_set mapped last ∙ nth_map (map f) left 1 [] [] refl ∙ ap (map f) (get_or-set_same others 1 less [] (omega (arith, a.count))) ∙ current;
       indexed = λ j lt.
           subst (λ l. AreIndexed (columns_at cs j) ps l (map f vs))
           (sym (ap (λ l. other_at l (j + 2)) is ∙ later_set mapped last 0 j (omega arith) ∙ nth_map (map f) left (j + 2) [] [] refl ∙ ap (map f) (later_set others less 1 j (omega arith))))
           (indexed_closed (columns_at cs j) ps number (row ∷ []) (other_at others (j + 2)) vs (a.indexed j lt));
     }
 
+-- what stays in the order of the others
+pub others_ended : (f : RowVersion → RowVersion) (others others' : Lists) (less last : List RowVersion) → 1 < length others → others' ≡ set (map (map f) (set others 1 less)) 0 last → other_at others' 1 ≡ map f less
+others_ended f others others' less last lt is =
+    let left : Lists = set others 1 less in
+    ap (λ l. other_at l 1) is ∙ next_set (map (map f) left) last ∙ nth_map (map f) left 1 [] [] refl ∙ ap (map f) (get_or-set_same others 1 less [] lt)
+
 -- ---- versions that are kept
 pub orders_kept : (ps : List ℕ) (cs : List (List ℕ)) (p : RowVersion → Bool) (others : Lists) (vs : List RowVersion) → AreOrders ps cs others vs → AreOrders ps cs (map (filter p) others) (filter p vs)
 orders_kept ps cs p others vs a = record {
   count = length-map others (filter p) ∙ a.count;
   ended = subst (λ l. AreEnded l (filter p vs)) (sym (nth_map (filter p) others 0 [] [] refl)) (kept_ended p (other_at others 0) vs a.ended);
-  current = nth_map (filter p) others 1 [] [] refl ∙ ap (filter p) a.current ∙ filter_swap p is_open vs;
   indexed = λ j lt. subst (λ l. AreIndexed (columns_at cs j) ps l (filter p vs)) (sym (nth_map (filter p) others (j + 2) [] [] refl)) (indexed_kept (columns_at cs j) ps p (other_at others (j + 2)) vs (a.indexed j lt));
 }
 
@@ -196,7 +206,6 @@ orders_more ps cs c others others' vs a long filled same =
     record {
       count = omega (arith, long, n, a.count);
       ended = subst (λ l. AreEnded l vs) (sym (same 0 (λ e. absurd (omega (arith, e, a.count))))) a.ended;
-      current = same 1 (λ e. absurd (omega (arith, e, a.count))) ∙ a.current;
       indexed = λ j lt. by j (omega (arith, lt, n)) (nat_lt j (length cs)) refl;
     }
   where

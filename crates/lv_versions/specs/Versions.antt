@@ -135,12 +135,14 @@ has_index columns indexes = list_any (pointwise nat_eq columns) indexes
 abbrev pub with_index : List ℕ → List (List ℕ) → List (List ℕ)
 with_index columns indexes = cond (has_index columns indexes) indexes (indexes ++ columns ∷ [])
 
--- the further orders: first that of the versions that ended, then that of those that have not, as they stand, then an index by each of these
--- lists of columns
+-- what the order of the versions that have not ended has, which is kept from some time on
+abbrev pub current_of : Bool → List RowVersion → List RowVersion
+current_of kept versions = cond kept (filter is_open versions) []
+
+-- the further orders: first that of the versions that ended, then that of those that have not, then an index by each of these lists of columns
 pub record AreOrders (positions : List ℕ) (columns : List (List ℕ)) (others : List (List RowVersion)) (versions : List RowVersion) : Type 0 where
   pub count : length others ≡ length columns + 2
   pub ended : AreEnded (other_at others 0) versions
-  pub current : other_at others 1 ≡ filter is_open versions
   pub indexed : (j : ℕ) → j < length columns → AreIndexed (columns_at columns j) positions (other_at others (j + 2)) versions
 
 -- or not yet both of the first ones, and then no version and no room for one
@@ -159,10 +161,11 @@ IsSeen None others = Unit {0}
 IsSeen (Some order) others = order < length others
 
 -- and no version that a clean-up below the soonest end would drop, and the further orders
-pub record AreKept (positions : List ℕ) (last floor soonest : ℕ) (columns : List (List ℕ)) (spare : ℕ) (others : List (List RowVersion)) (versions : List RowVersion) : Type 0 where
+pub record AreKept (positions : List ℕ) (last floor soonest : ℕ) (columns : List (List ℕ)) (kept : Bool) (spare : ℕ) (others : List (List RowVersion)) (versions : List RowVersion) : Type 0 where
   pub are : AreVersions positions last floor versions
   pub ends : AllByRecursion (λ v. EndsFrom soonest v.until) versions
   pub orders : HaveOrders positions columns spare others versions
+  pub current : other_at others 1 ≡ current_of kept versions
 
 -- the soonest end after a commit that takes these rows away
 abbrev pub soonest_after : ℕ → ℕ → List (List Value) → ℕ

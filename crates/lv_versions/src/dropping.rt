@@ -1,10 +1,10 @@
 //! Versions that a clean-up drops.
 ghost use Rattle.std.specs.Prelude.{◌≡◌, ℕ, ◌+◌, ◌<◌, ◌≤◌, length, filter, slice_get, Some, true};
-ghost use Rattle.std.specs.List.{remove};
+ghost use Rattle.std.specs.List.{AllByRecursion, remove};
 ghost use Rattle.lv_shelf.specs.Cuts.{Apart, IsCut};
 ghost use Rattle.lv_shelf.specs.Shelves.{other_at};
 ghost use Rattle.lv_schema.specs.declared.version.RowVersion.{RowVersion};
-ghost use Rattle.lv_versions.specs.Versions.{AreOrders, HaveOrders, Precedes, ends_after, is_over};
+ghost use Rattle.lv_versions.specs.Versions.{AreOrders, HaveOrders, Precedes, ends_after, is_open, is_over};
 
 use crate::indexes::{ENDED, INDEXES, leave_each};
 use crate::rank::rank;
@@ -21,6 +21,8 @@ fn drop_first(positions: &[u8], indexes: &[Positions], versions: &mut Shelf<RowV
     requires stand { Apart (Precedes positions.now) versions.old.list }
     requires orders { AreOrders positions.now indexes.now versions.old.others versions.old.list }
     requires some { 0 < length (other_at versions.old.others 0) }
+    requires unended { AllByRecursion (λ v. is_open v ≡ true) (other_at versions.old.others 1) }
+    ensures current { other_at versions.new.others 1 ≡ other_at versions.old.others 1 }
     ensures stand { Apart (Precedes positions.now) versions.new.list }
     ensures orders { AreOrders positions.now indexes.now versions.new.others versions.new.list }
     ensures rest { other_at versions.new.others 0 ≡ remove (other_at versions.old.others 0) 0 }
@@ -50,6 +52,8 @@ fn drop_each(
     requires stand { Apart (Precedes positions.now) versions.old.list }
     requires orders { AreOrders positions.now indexes.now versions.old.others versions.old.list }
     requires over { IsCut (is_over floor) many (other_at versions.old.others 0) }
+    requires unended { AllByRecursion (λ v. is_open v ≡ true) (other_at versions.old.others 1) }
+    ensures current { other_at versions.new.others 1 ≡ other_at versions.old.others 1 }
     ensures kept { versions.new.list ≡ filter (λ v. ends_after floor v.until) versions.old.list }
     ensures orders { AreOrders positions.now indexes.now versions.new.others versions.new.list }
     ensures room { versions.old.spare ≤ versions.new.spare }
@@ -69,6 +73,8 @@ pub(crate) fn drop_over(
 )
     requires stand { Apart (Precedes positions.now) versions.old.list }
     requires orders { HaveOrders positions.now indexes.now versions.old.spare versions.old.others versions.old.list }
+    requires unended { AllByRecursion (λ v. is_open v ≡ true) (other_at versions.old.others 1) }
+    ensures current { other_at versions.new.others 1 ≡ other_at versions.old.others 1 }
     ensures kept { versions.new.list ≡ filter (λ v. ends_after floor v.until) versions.old.list }
     ensures orders { HaveOrders positions.now indexes.now versions.new.spare versions.new.others versions.new.list }
     ensures room { versions.old.spare ≤ versions.new.spare }

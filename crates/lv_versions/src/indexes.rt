@@ -19,7 +19,7 @@ use std::alloc::Global;
 /// The further order of the versions that ended.
 pub(crate) const ENDED: usize = 0;
 
-/// The further order of the versions that have not ended.
+/// The further order of the versions that have not ended, empty as long as it is not kept.
 pub(crate) const CURRENT: usize = 1;
 
 /// The further order of the first index.
@@ -178,6 +178,7 @@ pub(crate) fn add_index(
     ensures added { OnOk result (indexes.new.list ≡ indexes.old.list ++ columns.now ∷ []) }
     ensures refused { OnErr result (indexes.new.list ≡ indexes.old.list) }
     ensures orders { HaveOrders positions.now indexes.new.list versions.new.spare versions.new.others versions.new.list }
+    ensures current { other_at versions.new.others 1 ≡ other_at versions.old.others 1 }
     ensures same { versions.new.list ≡ versions.old.list }
     ensures room { versions.new.spare ≡ versions.old.spare }
 {
@@ -195,6 +196,7 @@ pub(crate) fn add_first(alloc: Global, versions: &mut Shelf<RowVersion>) -> Resu
     ensures same { versions.new.list ≡ versions.old.list }
     ensures room { versions.new.spare ≡ versions.old.spare }
     ensures there { OnOk result (1 < length versions.new.others) }
+    ensures current { other_at versions.new.others 1 ≡ other_at versions.old.others 1 }
     ensures orders { (positions : List ℕ) (indexes : List (List ℕ)) → HaveOrders positions indexes versions.old.spare versions.old.others versions.old.list → HaveOrders positions indexes versions.new.spare versions.new.others versions.new.list }
 {
     while versions.orders() < INDEXES {

@@ -2,6 +2,7 @@
 #![tactic(auto)]
 
 mod changing;
+mod crowding;
 mod dropping;
 mod indexes;
 mod rank;

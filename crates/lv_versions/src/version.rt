@@ -20,11 +20,18 @@ pub(crate) fn is_at(version: &RowVersion, n: u64) -> bool
     }
 }
 
+/// Whether the version has not ended.
+pub(crate) fn is_open(version: &RowVersion) -> bool
+    ensures { result ≡ spec.is_open version.now }
+{
+    version.until.is_none()
+}
+
 /// Whether the version has the row's key, came before a commit and has not ended.
 pub(crate) fn is_current(positions: &[u8], row: &Row, number: u64, version: &RowVersion) -> bool
     ensures { result ≡ spec.is_current positions.now row.now number version.now }
 {
-    version.until.is_none()
+    is_open(version)
         && (version.from < number && compare_keys(positions, &version.row, row).is_eq())
 }
 

@@ -8,9 +8,10 @@ ghost use Rattle.lv_schema.specs.Nets.{with_net};
 ghost use Rattle.lv_schema.specs.Once.{Ascends};
 ghost use Rattle.lv_shelf.specs.Cuts.{Apart, Falls, IsCut};
 ghost use Rattle.lv_shelf.specs.Shelves.{other_at};
-ghost use Rattle.lv_versions.specs.Versions.{Applies, EndsFrom, HaveOrders, IsBy, IsHigh, IsLow, Precedes, ends_after, is_upto, lost, new_version, row_with, rows_hit, rows_with, rows_within, soonest_after, soonest_pruned, state_at, with_index};
+ghost use Rattle.lv_versions.specs.Versions.{Applies, EndsFrom, HaveOrders, IsBy, IsHigh, IsLow, Precedes, ends_after, is_open, is_upto, lost, new_version, row_with, rows_hit, rows_with, rows_within, soonest_after, soonest_pruned, state_at, with_index};
 
 use crate::changing::change;
+use crate::crowding::keep_current;
 use crate::dropping::drop_over;
 use crate::indexes::{CURRENT, INDEXES, add_first, add_index, index_by};
 use crate::rank::rank_of_key;
@@ -34,6 +35,7 @@ pub struct Versions {
     last: u64,
     floor: u64,
     soonest: u64,
+    current: bool,
     alloc: Global,
 }
 
@@ -44,7 +46,7 @@ impl Model for Versions {
 
     ghost view = { λ v. record { def = v.def; versions = v.versions.list; spare = v.versions.spare; last = v.last; floor = v.floor; indexes = v.indexes.list; soonest = v.soonest } };
 
-    ghost invariant = { λ v. AreKept v.def.key v.last v.floor v.soonest v.indexes.list v.versions.spare v.versions.others v.versions.list };
+    ghost invariant = { λ v. AreKept v.def.key v.last v.floor v.soonest v.indexes.list v.current v.versions.spare v.versions.others v.versions.list };
 }
 
 impl Versions {
@@ -65,6 +67,7 @@ impl Versions {
             last: 0,
             floor: 0,
             soonest: u64::MAX,
+            current: false,
             alloc,
         }
     }
@@ -255,15 +258,13 @@ impl Versions {
         ensures soonest { self.new.soonest ≡ soonest_after self.old.soonest number net.minus }
     {
         let soonest = soonest_after(self.soonest, number, &net.minus);
-        change(
-            self.def.key.as_slice(),
-            self.indexes.as_slice(),
-            net,
-            number,
-            &mut self.versions,
-        );
+        let positions = self.def.key.as_slice();
+        let indexes = self.indexes.as_slice();
+        let current = keep_current(positions, self.current, &mut self.versions);
+        change(positions, indexes, current, net, number, &mut self.versions);
         self.last = number;
         self.soonest = soonest;
+        self.current = current;
     }
 
     /// Drops the versions that ended at or below a floor. It takes no memory. Cost: constant where none ended at or
@@ -300,13 +301,13 @@ impl Versions {
         let _ = &self.last;
     }
 
-    /// What shows the rows after commit n: from the last commit on the versions that have not ended, or else all.
-    /// Cost: constant.
+    /// What shows the rows after commit n: from the last commit on the versions that have not ended, where an order of
+    /// these is kept, or else all. Cost: constant.
     fn seen(&self, n: u64) -> Seen<'_>
         ensures rows { state_at n result ≡ state_at n self.now.versions }
         ensures stand { Apart (Precedes self.now.def.key) result }
     {
-        if self.last <= n && self.versions.orders() > CURRENT {
+        if self.current && self.last <= n && self.versions.orders() > CURRENT {
             Seen::of(&self.versions, CURRENT)
         } else {
             Seen::all(&self.versions)
@@ -344,11 +345,13 @@ fn drop_ended(
 ) -> u64
     requires stand { Apart (Precedes positions.now) versions.old.list }
     requires orders { HaveOrders positions.now indexes.now versions.old.spare versions.old.others versions.old.list }
+    requires unended { AllByRecursion (λ v. is_open v ≡ true) (other_at versions.old.others 1) }
     requires ends { AllByRecursion (λ v. EndsFrom soonest v.until) versions.old.list }
     requires each { AllByRecursion (IsBy last) versions.old.list }
     ensures kept { versions.new.list ≡ filter (λ v. ends_after floor v.until) versions.old.list }
     ensures room { versions.old.spare ≤ versions.new.spare }
     ensures orders { HaveOrders positions.now indexes.now versions.new.spare versions.new.others versions.new.list }
+    ensures current { other_at versions.new.others 1 ≡ other_at versions.old.others 1 }
     ensures ends { AllByRecursion (λ v. EndsFrom result v.until) versions.new.list }
     ensures soonest { result ≡ soonest_pruned floor last soonest }
 {

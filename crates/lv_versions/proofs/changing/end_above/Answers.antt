@@ -6,8 +6,8 @@ use Rattle.std.specs.declared.cmp.Ordering.TheVariants.{Less, Equal, Greater}
 use Rattle.lv_values.specs.Rows.{key_cmp}
 use Rattle.lv_schema.specs.declared.version.RowVersion.{RowVersion}
 use Rattle.lv_shelf.specs.Cuts.{Apart}
-use Rattle.lv_shelf.specs.Shelves.{Shelved}
-use Rattle.lv_versions.specs.Versions.{EndsAtMost, HaveOrders, Precedes, closed}
+use Rattle.lv_shelf.specs.Shelves.{Shelved, other_at}
+use Rattle.lv_versions.specs.Versions.{EndsAtMost, HaveOrders, Precedes, closed, current_of}
 use Rattle.lv_versions.proofs.Ending.{closed_last, closed_swap, closed_tied}
 use Rattle.lv_versions.proofs.changing.end_above.Goals as goal
 use Rattle.lv_versions.proofs.changing.end_above.Goals.{then-is_ne, else-is_ne}
@@ -38,6 +38,7 @@ loop-lost-preserved c =
             stand = subst (λ (v : Shelved RowVersion). Apart (Precedes ps) v.list) (sym w.versions-is) w.end_row.ensures.stand;
             ends = subst (λ (v : Shelved RowVersion). AllByRecursion (λ (x : RowVersion). EndsAtMost number x.until) v.list) (sym w.versions-is) w.end_row.ensures.ends;
             orders = subst (λ (v : Shelved RowVersion). HaveOrders ps cs v.spare v.others v.list) (sym w.versions-is) w.end_row.ensures.orders;
+            current = subst (λ (v : Shelved RowVersion). other_at v.others 1 ≡ current_of c.args.kept v.list) (sym w.versions-is) w.end_row.ensures.current;
             same = ap (λ l. rest (own l)) list ∙ ap rest (closed_swap ps number (row ∷ []) (lost ∷ []) vs) ∙ sym is ∙ inv.same;
             room = ap (λ (v : Shelved RowVersion). v.spare) w.versions-is ∙ w.end_row.ensures.room ∙ inv.room;
           }
@@ -47,6 +48,7 @@ loop-lost-preserved c =
             stand = subst (λ (v : Shelved RowVersion). Apart (Precedes ps) v.list) (sym w.versions-is) inv.stand;
             ends = subst (λ (v : Shelved RowVersion). AllByRecursion (λ (x : RowVersion). EndsAtMost number x.until) v.list) (sym w.versions-is) inv.ends;
             orders = subst (λ (v : Shelved RowVersion). HaveOrders ps cs v.spare v.others v.list) (sym w.versions-is) inv.orders;
+            current = subst (λ (v : Shelved RowVersion). other_at v.others 1 ≡ current_of c.args.kept v.list) (sym w.versions-is) inv.current;
             same = ap (λ (v : Shelved RowVersion). rest (own v.list)) w.versions-is ∙ ap rest (sym (closed_tied ps number lost row vs tied)) ∙ sym is ∙ inv.same;
             room = ap (λ (v : Shelved RowVersion). v.spare) w.versions-is ∙ inv.room;
           }

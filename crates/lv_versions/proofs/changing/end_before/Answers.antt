@@ -23,7 +23,8 @@ end_at-requires c =
       ends = c.requires.ends;
       orders = some_version ps c.args.indexes.now old.spare old.others old.list (at - 1) item c.get.ensures c.requires.orders;
       cut = subst (λ n. IsCut (comes_before ps row number) n old.list) is c.requires.cut;
-      current = λ v e. subst (λ w. is_current ps row number w ≡ true) (same_item old.list (at - 1) item v c.get.ensures e) current;
+      current = c.requires.current;
+      is = λ v e. subst (λ w. is_current ps row number w ≡ true) (same_item old.list (at - 1) item v c.get.ensures e) current;
     }
 
 pub returns-else-at-gt0-clause-ended : goal.returns-else-at-gt0-clause-ended

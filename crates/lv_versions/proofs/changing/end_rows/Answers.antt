@@ -9,6 +9,7 @@ loop-row-init c = record {
   stand = c.requires.stand;
   ends = c.requires.ends;
   orders = c.requires.orders;
+  current = c.requires.current;
   ended = sym (closed_none c.args.positions.now c.args.number c.args.versions.now.list);
   room = search rules;
 }
@@ -26,6 +27,7 @@ loop-row-preserved c =
       stand = c.end_row.ensures.stand;
       ends = c.end_row.ensures.ends;
       orders = c.end_row.ensures.orders;
+      current = c.end_row.ensures.current;
       ended = c.end_row.ensures.ended ∙ ap (map (closed ps number (row ∷ []))) c.loop-row.invariant.ended ∙ closed_more ps number (take i rows) row start ∙ ap (λ l. map (closed ps number l) start) (sym more);
       room = c.end_row.ensures.room ∙ c.loop-row.invariant.room;
     }

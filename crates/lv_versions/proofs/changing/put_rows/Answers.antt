@@ -42,6 +42,7 @@ loop-row-init c =
       stand = c.requires.stand;
       ends = c.requires.ends;
       orders = c.requires.orders;
+      current = c.requires.current;
       new = c.requires.new;
       put = refl;
       front = sym (ap (λ l. plus ++ l) (drop_all (length plus) plus (omega arith)) ∙ append-nil plus);
@@ -79,6 +80,7 @@ loop-row-preserved c =
       ends = subst (AllByRecursion (λ (v : RowVersion). EndsAtMost number v.until)) (sym c.put_row.ensures.put)
           (all_placed (version_cmp ps) (λ (v : RowVersion). EndsAtMost number v.until) (new_version number row) own tt (closed_at_most ps number (row ∷ []) mid c.end_above.ensures.ends));
       orders = c.put_row.ensures.orders;
+      current = c.put_row.ensures.current;
       new = subst (AreNew ps number rest) (sym moved) (rest_new ps number rest row due new);
       put = ap (with_versions ps number rest) moved ∙ sym (put_last ps number rest row due) ∙ ap (λ l. with_versions ps number l due) (sym popped) ∙ ap (with_versions ps number plus) (sym is) ∙ c.loop-row.invariant.put;
       front = whole ∙ ap (λ l. rest ++ l) (sym (ap (drop (length rest)) whole ∙ drop-append_seam rest (row ∷ more)));

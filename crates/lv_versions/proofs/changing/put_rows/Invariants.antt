@@ -2,7 +2,8 @@ use Rattle.std.proofs.Common.{◌≡◌, ◌+◌, ◌++◌, ◌≤◌, drop, fal
 use Rattle.std.specs.Prelude.{IfSome, slice_get}
 use Rattle.std.specs.List.{AllByRecursion}
 use Rattle.lv_shelf.specs.Cuts.{Apart}
-use Rattle.lv_versions.specs.Versions.{HaveOrders, AreNew, EndsAtMost, Precedes, closed, ends_from, with_versions}
+use Rattle.lv_shelf.specs.Shelves.{other_at}
+use Rattle.lv_versions.specs.Versions.{current_of, HaveOrders, AreNew, EndsAtMost, Precedes, closed, ends_from, with_versions}
 use Rattle.lv_versions.proofs.changing.put_rows.Given as goal
 
 abbrev pub invariant-loop-row : goal.invariant-loop-row
@@ -10,6 +11,7 @@ invariant-loop-row l = record {
   stand : Apart (Precedes l.positions) l.versions.list;
   ends : AllByRecursion (λ v. EndsAtMost l.number v.until) l.versions.list;
   orders : HaveOrders l.positions l.indexes l.versions.spare l.versions.others l.versions.list;
+  current : other_at l.versions.others 1 ≡ current_of l.kept l.versions.list;
   new : AreNew l.positions l.number l.plus (map (closed l.positions l.number l.plus) (map (closed l.positions l.number l.minus) l.versions.list));
   put : with_versions l.positions l.number l.plus (map (closed l.positions l.number l.plus) (map (closed l.positions l.number l.minus) l.versions.list))
       ≡ with_versions l.initial.positions l.initial.number l.initial.plus (map (closed l.initial.positions l.initial.number l.initial.plus) (map (closed l.initial.positions l.initial.number l.initial.minus) l.initial.versions.list));

@@ -1,7 +1,8 @@
-use Rattle.std.proofs.Common.{◌≡◌, ◌+◌, ◌-◌, suc, sym, subst, ◌∙◌, arith}
+use Rattle.std.proofs.Common.{◌≡◌, ◌+◌, ◌-◌, suc, true, sym, subst, ◌∙◌, arith}
+use Rattle.std.specs.List.{AllByRecursion}
 use Rattle.lv_shelf.specs.Cuts.{IsCut}
 use Rattle.lv_shelf.specs.Shelves.{other_at}
-use Rattle.lv_versions.specs.Versions.{is_over}
+use Rattle.lv_versions.specs.Versions.{is_open, is_over}
 use Rattle.lv_versions.proofs.Cleaning.{first_passes, none_over, rest_cut}
 use Rattle.lv_versions.proofs.Keeping.{item_there}
 use Rattle.lv_versions.proofs.dropping.drop_each.Goals as goal
@@ -26,6 +27,8 @@ loop-preserved c =
       orders = c.drop_first.ensures.orders;
       over = subst (IsCut over (many - (i + 1))) (sym c.drop_first.ensures.rest) rest.1;
       kept = c.drop_first.ensures.kept first.0 c.args.floor first.1 (first_passes over (many - i) (many - (i + 1)) order first.0 is first.1 c.loop.invariant.over) ∙ c.loop.invariant.kept;
+      unended = subst (AllByRecursion (λ v. is_open v ≡ true)) (sym c.drop_first.ensures.current) c.loop.invariant.unended;
+      current = c.drop_first.ensures.current ∙ c.loop.invariant.current;
       room = omega (arith, c.drop_first.ensures.room, c.loop.invariant.room);
     }
 

@@ -1,6 +1,9 @@
-use Rattle.std.proofs.Common.{◌<◌, refl, length, arith}
+use Rattle.std.proofs.Common.{◌<◌, [], filter, refl, ap, length, ◌∙◌, arith}
 use Rattle.lv_shelf.specs.Shelves.{other_at}
 use Rattle.lv_versions.specs.Versions.{ends_after}
+use Rattle.lv_schema.specs.declared.version.RowVersion.{RowVersion}
+use Rattle.lv_shelf.proofs.Orders.{nth_map}
+use Rattle.lv_versions.proofs.Current.{open_stay}
 use Rattle.lv_versions.proofs.Cleaning.{over_falls}
 use Rattle.lv_versions.proofs.Keeping.{no_orders, orders_have, orders_kept, some_orders}
 use Rattle.lv_versions.proofs.dropping.drop_over.Goals as goal
@@ -32,3 +35,9 @@ returns-else-many-le-FEW-clause-orders c =
     let some : 1 < length old.others = let h = c.if-orders-lt-INDEXES.false in omega (arith, c.orders.ensures) in
     orders_have ps cs now.spare now.others now.list
     (rw (c.keep.ensures.others, c.keep.ensures.kept) (orders_kept ps cs (λ v. ends_after c.args.floor v.until) old.others old.list (some_orders ps cs old.spare old.others old.list some c.requires.orders)))
+
+pub returns-else-many-le-FEW-clause-current : goal.returns-else-many-le-FEW-clause-current
+returns-else-many-le-FEW-clause-current c =
+    let old = c.args.versions.now in
+    let kept = λ (v : RowVersion). ends_after c.args.floor v.until in
+    ap (λ l. other_at l 1) c.keep.ensures.others ∙ nth_map (filter kept) old.others 1 [] [] refl ∙ open_stay c.args.floor (other_at old.others 1) c.requires.unended

@@ -1,8 +1,10 @@
-use Rattle.std.proofs.Common.{◌<◌, ◌++◌, map, sym, ap, ◌∙◌, subst, arith, rules}
+use Rattle.std.proofs.Common.{◌≡◌, ◌<◌, ◌++◌, map, sym, ap, ◌∙◌, subst, arith, rules}
 use Rattle.std.specs.List.Sorted.{IsPermutation}
+use Rattle.std.specs.List.{AllByRecursion}
 use Rattle.lv_schema.specs.Nets.{with_net}
+use Rattle.lv_schema.specs.declared.version.RowVersion.{RowVersion}
 use Rattle.lv_shelf.specs.Cuts.{Apart}
-use Rattle.lv_versions.specs.Versions.{Applies, HaveOrders, Precedes, lost, new_version, soonest_after, state_at}
+use Rattle.lv_versions.specs.Versions.{Applies, AreNew, EndsAtMost, HaveOrders, Precedes, closed, lost, new_version, soonest_after, state_at, with_versions}
 use Rattle.lv_versions.proofs.Cleaning.{all_at_most}
 use Rattle.lv_versions.proofs.Committed.{after_before, after_ends, after_is, after_state, after_versions, are_new, closed_left}
 use Rattle.lv_versions.proofs.versions.Versions.commit.Goals as goal
@@ -14,13 +16,19 @@ change-requires c =
     let later : s.last < c.args.number = omega (arith, c.requires.later, ap (λ v. v.last) c.self.view_is) in
     let above : s.floor < c.args.number = omega (arith, c.requires.above, ap (λ v. v.floor) c.self.view_is) in
     let applies : Applies s.def.key c.args.net (state_at s.last vs) = subst (λ v. Applies v.def.key c.args.net (state_at v.last v.versions)) (sym c.self.view_is) c.requires.applies in
-    rw (c.as_slice.ensures, c.as_slice-2.ensures) (record {
-      stand = c.self.invariant.are.order;
-      ends = all_at_most s.last c.args.number vs later c.self.invariant.are.each;
-      orders = c.self.invariant.orders;
-      keys = closed_left s.def.key s.last s.floor c.args.number c.args.net vs later above c.self.invariant.are applies;
-      new = are_new s.def.key s.last s.floor c.args.number c.args.net vs later above c.self.invariant.are applies;
-      room = omega (arith, c.requires.room, ap (λ v. v.spare) c.self.view_is);
+    let kept = c.keep_current-current.new.versions in
+    let same : kept.list ≡ vs = c.keep_current-current.ensures.same in
+    let ps = s.def.key in
+    let number = c.args.number in
+    let net = c.args.net in
+    rw (c.as_slice-positions.ensures, c.as_slice-indexes.ensures) (record {
+      stand = subst (Apart (Precedes ps)) (sym same) c.self.invariant.are.order;
+      ends = subst (AllByRecursion (λ (v : RowVersion). EndsAtMost number v.until)) (sym same) (all_at_most s.last number vs later c.self.invariant.are.each);
+      orders = (rw c.as_slice-positions.ensures at c.keep_current-current.ensures.orders) s.indexes.list c.self.invariant.orders;
+      current = c.keep_current-current.ensures.current;
+      keys = subst (λ l. map (closed ps number net.plus) (map (closed ps number net.minus) l) ≡ map (lost number net.minus) l) (sym same) (closed_left ps s.last s.floor number net vs later above c.self.invariant.are applies);
+      new = subst (λ l. AreNew ps number net.plus (map (lost number net.minus) l)) (sym same) (are_new ps s.last s.floor number net vs later above c.self.invariant.are applies);
+      room = omega (arith, c.requires.room, ap (λ v. v.spare) c.self.view_is, c.keep_current-current.ensures.room);
     })
 
 pub invariant_of-self : goal.invariant_of-self
@@ -30,12 +38,13 @@ invariant_of-self c =
     let later : s.last < c.args.number = omega (arith, c.requires.later, ap (λ v. v.last) c.self.view_is) in
     let above : s.floor < c.args.number = omega (arith, c.requires.above, ap (λ v. v.floor) c.self.view_is) in
     let applies : Applies s.def.key c.args.net (state_at s.last vs) = subst (λ v. Applies v.def.key c.args.net (state_at v.last v.versions)) (sym c.self.view_is) c.requires.applies in
-    let changed = rw c.as_slice.ensures at c.change.ensures.changed in
-    let order = subst (Apart (Precedes s.def.key)) changed (rw c.as_slice.ensures at c.change.ensures.stand) in
+    let changed = (rw c.as_slice-positions.ensures at c.change.ensures.changed) ∙ ap (λ l. with_versions s.def.key c.args.number c.args.net.plus (map (lost c.args.number c.args.net.minus) l)) c.keep_current-current.ensures.same in
+    let order = subst (Apart (Precedes s.def.key)) changed (rw c.as_slice-positions.ensures at c.change.ensures.stand) in
     rw (changed, c.soonest_after-soonest.ensures) (record {
       are = after_is s.def.key s.last s.floor c.args.number c.args.net vs later above c.self.invariant.are applies order;
       ends = after_ends s.def.key s.soonest c.args.number c.args.net vs c.self.invariant.ends;
-      orders = subst (HaveOrders s.def.key s.indexes.list c.change.new.versions.spare c.change.new.versions.others) changed (rw (c.as_slice.ensures, c.as_slice-2.ensures) at c.change.ensures.orders);
+      orders = subst (HaveOrders s.def.key s.indexes.list c.change.new.versions.spare c.change.new.versions.others) changed (rw (c.as_slice-positions.ensures, c.as_slice-indexes.ensures) at c.change.ensures.orders);
+      current = rw changed at c.change.ensures.current;
     })
 
 pub returns : goal.returns
@@ -45,8 +54,8 @@ returns c =
     let later : s.last < c.args.number = omega (arith, c.requires.later, ap (λ v. v.last) c.self.view_is) in
     let above : s.floor < c.args.number = omega (arith, c.requires.above, ap (λ v. v.floor) c.self.view_is) in
     let applies : Applies s.def.key c.args.net (state_at s.last vs) = subst (λ v. Applies v.def.key c.args.net (state_at v.last v.versions)) (sym c.self.view_is) c.requires.applies in
-    let changed = rw c.as_slice.ensures at c.change.ensures.changed in
-    let order = subst (Apart (Precedes s.def.key)) changed (rw c.as_slice.ensures at c.change.ensures.stand) in
+    let changed = (rw c.as_slice-positions.ensures at c.change.ensures.changed) ∙ ap (λ l. with_versions s.def.key c.args.number c.args.net.plus (map (lost c.args.number c.args.net.minus) l)) c.keep_current-current.ensures.same in
+    let order = subst (Apart (Precedes s.def.key)) changed (rw c.as_slice-positions.ensures at c.change.ensures.stand) in
     record {
       state = λ n le.
           ap (state_at n) changed
@@ -62,7 +71,7 @@ returns c =
       last = search rules;
       def = ap (λ v. v.def) c.self.view_is;
       floor = ap (λ v. v.floor) c.self.view_is;
-      room = omega (arith, c.change.ensures.room, ap (λ v. v.spare) c.self.view_is);
+      room = omega (arith, c.change.ensures.room, c.keep_current-current.ensures.room, ap (λ v. v.spare) c.self.view_is);
       indexes = ap (λ v. v.indexes) c.self.view_is;
       soonest = c.soonest_after-soonest.ensures ∙ ap (λ v. soonest_after v.soonest c.args.number c.args.net.minus) c.self.view_is;
     }

@@ -1,7 +1,9 @@
-use Rattle.std.proofs.Common.{sym, ap, ◌∙◌, subst, Bool, arith}
+use Rattle.std.proofs.Common.{◌≡◌, sym, ap, ◌∙◌, subst, Bool, true, arith}
+use Rattle.std.specs.List.{AllByRecursion}
 use Rattle.lv_schema.proofs.Apart.{all_filter, apart_filter}
 use Rattle.lv_schema.specs.declared.version.RowVersion.{RowVersion}
-use Rattle.lv_versions.specs.Versions.{AreVersions, IsBy, Precedes, ends_after, state_at}
+use Rattle.lv_versions.specs.Versions.{AreVersions, IsBy, Precedes, current_of, ends_after, is_open, state_at}
+use Rattle.lv_versions.proofs.Current.{current_open, current_stay}
 use Rattle.lv_versions.proofs.Finding.{pruned_newest, pruned_state}
 use Rattle.lv_shelf.proofs.Cutting.{all_kept}
 use Rattle.lv_versions.proofs.versions.Versions.prune.Goals as goal
@@ -18,7 +20,15 @@ invariant_of-self c =
       });
       orders = rw (c.as_slice.ensures, c.as_slice-2.ensures) at c.drop_ended-soonest.ensures.orders;
       ends = c.drop_ended-soonest.ensures.ends;
+      current = c.drop_ended-soonest.ensures.current
+          ∙ c.self.invariant.current
+          ∙ sym (ap (current_of s.current) c.drop_ended-soonest.ensures.kept ∙ current_stay s.current c.args.floor s.versions.list);
     }
+
+pub drop_ended-soonest-requires-clause-unended : goal.drop_ended-soonest-requires-clause-unended
+drop_ended-soonest-requires-clause-unended c =
+    let s = c.self.inside in
+    subst (AllByRecursion (λ (v : RowVersion). is_open v ≡ true)) (sym c.self.invariant.current) (current_open s.current s.versions.list)
 
 pub returns-clause-stays : goal.returns-clause-stays
 returns-clause-stays c = λ n le.

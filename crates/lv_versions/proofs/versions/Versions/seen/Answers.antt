@@ -1,24 +1,20 @@
-use Rattle.std.proofs.Common.{◌<◌, filter, length, sym, ap, ◌∙◌, subst, arith}
+use Rattle.std.proofs.Common.{◌≡◌, filter, sym, ap, ◌∙◌, subst}
 use Rattle.lv_schema.proofs.Apart.{apart_filter}
 use Rattle.lv_shelf.specs.Cuts.{Apart}
-use Rattle.lv_versions.specs.Versions.{Precedes, is_open, state_at}
+use Rattle.lv_shelf.specs.Shelves.{other_at}
+use Rattle.lv_versions.specs.Versions.{Precedes, current_of, is_open, state_at}
 use Rattle.lv_versions.proofs.Current.{open_rows}
-use Rattle.lv_versions.proofs.Keeping.{some_orders}
 use Rattle.lv_versions.proofs.versions.Versions.seen.Goals as goal
 
 pub returns-then-orders-gt-CURRENT-clause-rows : goal.returns-then-orders-gt-CURRENT-clause-rows
 returns-then-orders-gt-CURRENT-clause-rows c =
     let s = c.self.inside in
-    let some : 1 < length s.versions.others = omega (arith, c.orders.ensures, c.if-orders-gt-CURRENT.true) in
-    let orders = some_orders s.def.key s.indexes.list s.versions.spare s.versions.others s.versions.list some c.self.invariant.orders in
-    ap (state_at c.args.n) (c.of.ensures ∙ orders.current)
+    ap (state_at c.args.n) (c.of.ensures ∙ c.self.invariant.current ∙ ap (λ b. current_of b s.versions.list) c.if-self.true)
     ∙ open_rows c.args.n s.last s.versions.list c.if-self-n.true c.self.invariant.are.each
     ∙ ap (λ v. state_at c.args.n v.versions) c.self.view_is
 
 pub returns-then-orders-gt-CURRENT-clause-stand : goal.returns-then-orders-gt-CURRENT-clause-stand
 returns-then-orders-gt-CURRENT-clause-stand c =
     let s = c.self.inside in
-    let some : 1 < length s.versions.others = omega (arith, c.orders.ensures, c.if-orders-gt-CURRENT.true) in
-    let orders = some_orders s.def.key s.indexes.list s.versions.spare s.versions.others s.versions.list some c.self.invariant.orders in
     subst (λ v. Apart (Precedes v.def.key) c.of.result) c.self.view_is
-    (subst (Apart (Precedes s.def.key)) (sym (c.of.ensures ∙ orders.current)) (apart_filter (Precedes s.def.key) is_open s.versions.list c.self.invariant.are.order))
+    (subst (Apart (Precedes s.def.key)) (sym (c.of.ensures ∙ c.self.invariant.current ∙ ap (λ b. current_of b s.versions.list) c.if-self.true)) (apart_filter (Precedes s.def.key) is_open s.versions.list c.self.invariant.are.order))
