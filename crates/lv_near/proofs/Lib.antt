@@ -1,3 +1,6 @@
+pub mod FoundPairs
+pub mod LookingUp
+pub mod AlikePairs
 pub mod Ordered
 pub mod Picked
 pub mod Parts

@@ -4,12 +4,15 @@
 
 mod changes;
 mod differing;
+mod entries;
 mod input;
 mod ordering;
 mod orders;
 mod pairs;
+mod partners;
 mod picking;
 mod source;
+mod stepping;
 
 pub use input::{step_difference, step_input};
 pub use orders::index_links;
