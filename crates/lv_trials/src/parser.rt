@@ -20,9 +20,6 @@ fn prints_as(alloc: Global, line: &str, wanted: &str) -> Option<bool> {
 
 #[test]
 fn statements_are_printed(rt: HostRuntime) {
-    let line = "create table Item (Id int, Name text not null, primary key (ID))";
-    let wanted = "create table item(id int,name text,primary key(id))";
-    assert_eq!(rt; prints_as(rt.alloc(), line, wanted), Some(true));
     let line = "delete from t where (a = 1 and b != 2) or not ((c = -03 or d = 'it''s'))";
     let wanted = "delete from t where a=1and b<>2or not(c=-3or d='it''s')";
     assert_eq!(rt; prints_as(rt.alloc(), line, wanted), Some(true));
