@@ -2,11 +2,12 @@
 use mathlib.Core.Logic.{⊎_elim}
 use Rattle.std.proofs.Common.{◌≡◌, ℕ, zero, suc, ◌+◌, ◌-◌, ◌*◌, ◌/◌, ◌<◌, ◌≤◌, List, [], ◌∷◌, ◌++◌, length, length-append, take, drop, get_or, set, refl, sym, ap, ap₂, ◌∙◌, subst, arith}
 use Rattle.std.specs.List.{concat, insert, remove}
-use Rattle.std.proofs.lemmas.Bool.{cases_eq}
+use Rattle.std.proofs.lemmas.Bool.{cases_eq, cases_lt}
 use Rattle.std.proofs.lemmas.List.{append_assoc, get_or_push, get_or-append_right, get_or-set_other, get_or-set_same, get_or_append_left, drop-append-le, length-set, length-take, take-append-le, set-append_left, set-append_right, set-get_or}
+use Rattle.std.proofs.Math.Nat.{mul-le-mul_left, mul-le-mul_right}
 use Rattle.std.proofs.Math.Seq.{drop-append-add}
 use Rattle.std.proofs.lemmas.List.Edits.{insert-append_left, insert-append_right, length-insert, length-remove, remove-append_left, remove-append_right}
-use Rattle.lv_places.specs.Blocks.{ArePacked, HaveOneMore, LackOne, block_at, block_size, share}
+use Rattle.lv_places.specs.Blocks.{ArePacked, HaveOneMore, LackOne, block_at, share}
 
 -- ---- the numbers round a block
 concat_set : (bs : List (List ℕ)) (j : ℕ) (b : List ℕ) → j < length bs → concat (set bs j b) ≡ concat (take j bs) ++ (b ++ concat (drop (suc j) bs))
@@ -17,34 +18,38 @@ concat_set (c ∷ bs) (suc j) b lt = ap (λ l. c ++ l) (concat_set bs j b (omega
 concat_at : (bs : List (List ℕ)) (j : ℕ) → j < length bs → concat bs ≡ concat (take j bs) ++ (block_at bs j ++ concat (drop (suc j) bs))
 concat_at bs j lt = ap concat (sym (set-get_or bs j [])) ∙ concat_set bs j (block_at bs j) lt
 
-front_long : (bs : List (List ℕ)) (j : ℕ) → j ≤ length bs → ((k : ℕ) → k < j → length (block_at bs k) ≡ block_size) → length (concat (take j bs)) ≡ j * block_size
-front_long bs zero le h = refl
-front_long [] (suc j) le h = absurd (omega arith)
-front_long (c ∷ bs) (suc j) le h =
-    let ih = front_long bs j (omega arith) (λ k lt. h (suc k) (omega arith)) in
+front_long : (s : ℕ) (bs : List (List ℕ)) (j : ℕ) → j ≤ length bs → ((k : ℕ) → k < j → length (block_at bs k) ≡ s) → length (concat (take j bs)) ≡ j * s
+front_long s bs zero le h = omega arith
+front_long s [] (suc j) le h = absurd (omega arith)
+front_long s (c ∷ bs) (suc j) le h =
+    let ih = front_long s bs j (omega arith) (λ k lt. h (suc k) (omega arith)) in
     omega (arith, length-append c (concat (take j bs)), ih, h 0 (omega arith))
 
+-- where a block ends, the next ones begin
+before : (s k j : ℕ) → k < j → k * s + s ≤ j * s
+before s k j lt = let le : suc k ≤ j = omega arith in omega (arith, mul-le-mul_right s le)
+
 -- the blocks before one that has a number are full
-full : (n : ℕ) (bs : List (List ℕ)) (j : ℕ) → ArePacked n bs → j ≤ length bs → j * block_size ≤ n → length (concat (take j bs)) ≡ j * block_size
-full n bs j p le more = front_long bs j le (λ k lt. omega (arith, p.shares k (omega arith), lt, more))
+full : (s n : ℕ) (bs : List (List ℕ)) (j : ℕ) → ArePacked s n bs → j ≤ length bs → j * s ≤ n → length (concat (take j bs)) ≡ j * s
+full s n bs j p le more = front_long s bs j le (λ k lt. omega (arith, p.shares k (omega arith), before s k j lt, more))
 
 -- ---- a read and a change of a block
-pub got_in : (n : ℕ) (bs : List (List ℕ)) (j o : ℕ) (d : ℕ) → ArePacked n bs → j < length bs → o < length (block_at bs j) → get_or (concat bs) (j * block_size + o) d ≡ get_or (block_at bs j) o d
-got_in n bs j o d p lt in_block =
-    let long = full n bs j p (omega arith) (omega (arith, p.shares j lt, in_block)) in
-    let at : j * block_size + o - j * block_size ≡ o = omega arith in
-    ap (λ l. get_or l (j * block_size + o) d) (concat_at bs j lt)
-    ∙ get_or-append_right (concat (take j bs)) (block_at bs j ++ concat (drop (suc j) bs)) (j * block_size) (j * block_size + o) d long (omega arith)
+pub got_in : (s n : ℕ) (bs : List (List ℕ)) (j o : ℕ) (d : ℕ) → ArePacked s n bs → j < length bs → o < length (block_at bs j) → get_or (concat bs) (j * s + o) d ≡ get_or (block_at bs j) o d
+got_in s n bs j o d p lt in_block =
+    let long = full s n bs j p (omega arith) (omega (arith, p.shares j lt, in_block)) in
+    let at : j * s + o - j * s ≡ o = omega arith in
+    ap (λ l. get_or l (j * s + o) d) (concat_at bs j lt)
+    ∙ get_or-append_right (concat (take j bs)) (block_at bs j ++ concat (drop (suc j) bs)) (j * s) (j * s + o) d long (omega arith)
     ∙ ap (λ i. get_or (block_at bs j ++ concat (drop (suc j) bs)) i d) at
     ∙ get_or_append_left (block_at bs j) (concat (drop (suc j) bs)) d o in_block
 
 -- from a place on: what its block has from there on, and the blocks behind
-pub rest_in : (n : ℕ) (bs : List (List ℕ)) (j o : ℕ) → ArePacked n bs → j < length bs → o < length (block_at bs j) → drop (j * block_size + o) (concat bs) ≡ drop o (block_at bs j) ++ concat (drop (suc j) bs)
-rest_in n bs j o p lt in_block =
-    let long = full n bs j p (omega arith) (omega (arith, p.shares j lt, in_block)) in
+pub rest_in : (s n : ℕ) (bs : List (List ℕ)) (j o : ℕ) → ArePacked s n bs → j < length bs → o < length (block_at bs j) → drop (j * s + o) (concat bs) ≡ drop o (block_at bs j) ++ concat (drop (suc j) bs)
+rest_in s n bs j o p lt in_block =
+    let long = full s n bs j p (omega arith) (omega (arith, p.shares j lt, in_block)) in
     let front = concat (take j bs) in
     let behind = concat (drop (suc j) bs) in
-    ap (λ l. drop (j * block_size + o) l) (concat_at bs j lt)
+    ap (λ l. drop (j * s + o) l) (concat_at bs j lt)
     ∙ ap (λ i. drop (i + o) (front ++ (block_at bs j ++ behind))) (sym long)
     ∙ drop-append-add front (block_at bs j ++ behind) o
     ∙ drop-append-le o (block_at bs j) behind (omega (arith, in_block))
@@ -53,41 +58,41 @@ rest_in n bs j o p lt in_block =
 pub run_longer : (r xs ys : List ℕ) → r ≡ take (length r) xs → r ≡ take (length r) (xs ++ ys)
 run_longer r xs ys e = e ∙ sym (take-append-le (length r) xs ys (omega (arith, ap length e, length-take (length r) xs)))
 
-pub put_in : (n : ℕ) (bs : List (List ℕ)) (j o x : ℕ) → ArePacked n bs → j < length bs → j * block_size ≤ n → o ≤ length (block_at bs j) → concat (set bs j (insert (block_at bs j) o x)) ≡ insert (concat bs) (j * block_size + o) x
-put_in n bs j o x p lt more in_block =
-    let long = full n bs j p (omega arith) more in
-    let at : j * block_size + o - j * block_size ≡ o = omega arith in
+pub put_in : (s n : ℕ) (bs : List (List ℕ)) (j o x : ℕ) → ArePacked s n bs → j < length bs → j * s ≤ n → o ≤ length (block_at bs j) → concat (set bs j (insert (block_at bs j) o x)) ≡ insert (concat bs) (j * s + o) x
+put_in s n bs j o x p lt more in_block =
+    let long = full s n bs j p (omega arith) more in
+    let at : j * s + o - j * s ≡ o = omega arith in
     let front = concat (take j bs) in
     let behind = concat (drop (suc j) bs) in
     concat_set bs j (insert (block_at bs j) o x) lt
     ∙ ap (λ l. front ++ l) (sym (insert-append_left (block_at bs j) behind o x in_block))
     ∙ ap (λ i. front ++ insert (block_at bs j ++ behind) i x) (sym at)
-    ∙ sym (insert-append_right front (block_at bs j ++ behind) (j * block_size) (j * block_size + o) x long (omega arith))
-    ∙ ap (λ l. insert l (j * block_size + o) x) (sym (concat_at bs j lt))
+    ∙ sym (insert-append_right front (block_at bs j ++ behind) (j * s) (j * s + o) x long (omega arith))
+    ∙ ap (λ l. insert l (j * s + o) x) (sym (concat_at bs j lt))
 
-pub taken_in : (n : ℕ) (bs : List (List ℕ)) (j o : ℕ) → ArePacked n bs → j < length bs → o < length (block_at bs j) → concat (set bs j (remove (block_at bs j) o)) ≡ remove (concat bs) (j * block_size + o)
-taken_in n bs j o p lt in_block =
-    let long = full n bs j p (omega arith) (omega (arith, p.shares j lt, in_block)) in
-    let at : j * block_size + o - j * block_size ≡ o = omega arith in
+pub taken_in : (s n : ℕ) (bs : List (List ℕ)) (j o : ℕ) → ArePacked s n bs → j < length bs → o < length (block_at bs j) → concat (set bs j (remove (block_at bs j) o)) ≡ remove (concat bs) (j * s + o)
+taken_in s n bs j o p lt in_block =
+    let long = full s n bs j p (omega arith) (omega (arith, p.shares j lt, in_block)) in
+    let at : j * s + o - j * s ≡ o = omega arith in
     let front = concat (take j bs) in
     let behind = concat (drop (suc j) bs) in
     concat_set bs j (remove (block_at bs j) o) lt
     ∙ ap (λ l. front ++ l) (sym (remove-append_left (block_at bs j) behind o in_block))
     ∙ ap (λ i. front ++ remove (block_at bs j ++ behind) i) (sym at)
-    ∙ sym (remove-append_right front (block_at bs j ++ behind) (j * block_size) (j * block_size + o) long (omega arith))
-    ∙ ap (λ l. remove l (j * block_size + o)) (sym (concat_at bs j lt))
+    ∙ sym (remove-append_right front (block_at bs j ++ behind) (j * s) (j * s + o) long (omega arith))
+    ∙ ap (λ l. remove l (j * s + o)) (sym (concat_at bs j lt))
 
-pub set_in : (n : ℕ) (bs : List (List ℕ)) (j o x : ℕ) → ArePacked n bs → j < length bs → o < length (block_at bs j) → concat (set bs j (set (block_at bs j) o x)) ≡ set (concat bs) (j * block_size + o) x
-set_in n bs j o x p lt in_block =
-    let long = full n bs j p (omega arith) (omega (arith, p.shares j lt, in_block)) in
-    let at : j * block_size + o - j * block_size ≡ o = omega arith in
+pub set_in : (s n : ℕ) (bs : List (List ℕ)) (j o x : ℕ) → ArePacked s n bs → j < length bs → o < length (block_at bs j) → concat (set bs j (set (block_at bs j) o x)) ≡ set (concat bs) (j * s + o) x
+set_in s n bs j o x p lt in_block =
+    let long = full s n bs j p (omega arith) (omega (arith, p.shares j lt, in_block)) in
+    let at : j * s + o - j * s ≡ o = omega arith in
     let front = concat (take j bs) in
     let behind = concat (drop (suc j) bs) in
     concat_set bs j (set (block_at bs j) o x) lt
     ∙ ap (λ l. front ++ l) (sym (set-append_left (block_at bs j) behind o x in_block))
     ∙ ap (λ i. front ++ set (block_at bs j ++ behind) i x) (sym at)
-    ∙ sym (set-append_right front (block_at bs j ++ behind) (j * block_size) (j * block_size + o) x long (omega arith))
-    ∙ ap (λ l. set l (j * block_size + o) x) (sym (concat_at bs j lt))
+    ∙ sym (set-append_right front (block_at bs j ++ behind) (j * s) (j * s + o) x long (omega arith))
+    ∙ ap (λ l. set l (j * s + o) x) (sym (concat_at bs j lt))
 
 -- ---- a number that goes on to the next block, or back
 pub passed : (bs : List (List ℕ)) (j x : ℕ) (b : List ℕ) → suc j < length bs → block_at bs j ≡ b ++ x ∷ [] → concat (set (set bs j b) (suc j) (x ∷ block_at bs (suc j))) ≡ concat bs
@@ -103,8 +108,8 @@ pulled (c ∷ d ∷ bs) zero x b lt e = append_assoc c (x ∷ []) (b ++ concat b
 pulled (c ∷ bs) (suc j) x b lt e = ap (λ l. c ++ l) (pulled bs j x b (omega arith) e)
 
 -- ---- blocks that are packed but for one number
-pub packed_more : (n : ℕ) (bs : List (List ℕ)) → ArePacked n bs → ArePacked n (bs ++ [] ∷ [])
-packed_more n bs p =
+pub packed_more : (s n : ℕ) (bs : List (List ℕ)) → ArePacked s n bs → ArePacked s n (bs ++ [] ∷ [])
+packed_more s n bs p =
     let none : List (List ℕ) = [] ∷ [] in
     let long = length-append bs none in
     record {
@@ -112,20 +117,20 @@ packed_more n bs p =
           (λ (e : j ≡ length bs). ap length (get_or_push bs [] [] j (sym e)) ∙ empty_past j e)
           (λ (ne : j ≡ length bs → ⊥). let within : j < length bs = omega (arith, lt, long, ne) in ap length (get_or_append_left bs none [] j within) ∙ p.shares j within)
           (cases_eq j (length bs));
-      fits = omega (arith, p.fits, long);
+      fits = omega (arith, p.fits, ap (λ m. s * m) long);
     }
   where
-    empty_past : (j : ℕ) → j ≡ length bs → 0 ≡ share n j
-    empty_past j e = omega (arith, p.fits, e)
+    empty_past : (j : ℕ) → j ≡ length bs → 0 ≡ share s n j
+    empty_past j e = omega (arith, p.fits, ap (λ m. m * s) e)
 
-pub packed_added : (n : ℕ) (bs : List (List ℕ)) (j o x : ℕ) → ArePacked n bs → j < length bs → o ≤ length (block_at bs j) → HaveOneMore n j (set bs j (insert (block_at bs j) o x))
-packed_added n bs j o x p lt le = record {
+pub packed_added : (s n : ℕ) (bs : List (List ℕ)) (j o x : ℕ) → ArePacked s n bs → j < length bs → o ≤ length (block_at bs j) → HaveOneMore s n j (set bs j (insert (block_at bs j) o x))
+packed_added s n bs j o x p lt le = record {
   over = ap length (get_or-set_same bs j (insert (block_at bs j) o x) [] lt) ∙ length-insert (block_at bs j) o x le ∙ ap (λ m. m + 1) (p.shares j lt);
   shares = λ k ne within. ap length (get_or-set_other bs j k (insert (block_at bs j) o x) [] ne) ∙ p.shares k (omega (arith, within, length-set bs j (insert (block_at bs j) o x)));
 }
 
-pub packed_taken : (n : ℕ) (bs : List (List ℕ)) (j o : ℕ) → ArePacked n bs → j < length bs → o < length (block_at bs j) → LackOne n j (set bs j (remove (block_at bs j) o))
-packed_taken n bs j o p lt le = record {
+pub packed_taken : (s n : ℕ) (bs : List (List ℕ)) (j o : ℕ) → ArePacked s n bs → j < length bs → o < length (block_at bs j) → LackOne s n j (set bs j (remove (block_at bs j) o))
+packed_taken s n bs j o p lt le = record {
   lacks = ap (λ b. length b + 1) (get_or-set_same bs j (remove (block_at bs j) o) [] lt) ∙ length-remove (block_at bs j) o le ∙ p.shares j lt;
   shares = λ k ne within. ap length (get_or-set_other bs j k (remove (block_at bs j) o) [] ne) ∙ p.shares k (omega (arith, within, length-set bs j (remove (block_at bs j) o)));
 }
@@ -139,9 +144,9 @@ pub record IsMoved (more : ℕ → List (List ℕ) → Type 0) (i : ℕ) (old ne
   pub but : more i new
   pub count : length new ≡ length old
 
-pub passed_on : (n i j x : ℕ) (bs mid new : List (List ℕ)) → i ≡ suc j → j < n / block_size → n / block_size < length bs → HaveOneMore n j bs
-    → block_at bs j ≡ block_at mid j ++ x ∷ [] → mid ≡ set bs j (block_at mid j) → new ≡ set mid i (x ∷ block_at mid i) → IsMoved (HaveOneMore n) i bs new
-passed_on n i j x bs mid new is lt last p rest to onto =
+pub passed_on : (s n i j x : ℕ) (bs mid new : List (List ℕ)) → i ≡ suc j → j < n / s → n / s < length bs → HaveOneMore s n j bs
+    → block_at bs j ≡ block_at mid j ++ x ∷ [] → mid ≡ set bs j (block_at mid j) → new ≡ set mid i (x ∷ block_at mid i) → IsMoved (HaveOneMore s n) i bs new
+passed_on s n i j x bs mid new is lt last p rest to onto =
     let b = block_at mid j in
     let within : i < length bs = omega (arith, is, lt, last) in
     let ne : i ≡ j → ⊥ = λ e. omega (arith, is, e) in
@@ -157,16 +162,16 @@ passed_on n i j x bs mid new is lt last p rest to onto =
             ap (λ m. length (block_at (set (set bs j b) i (x ∷ block_at bs i)) m)) e
             ∙ ap length (get_or-set_other (set bs j b) i j (x ∷ block_at bs i) [] (λ e'. ne (sym e')) ∙ get_or-set_same bs j b [] (omega (arith, within, is)))
             ∙ omega (arith, ap length rest, length-append b (x ∷ []), p.over)
-            ∙ ap (share n) (sym e))
+            ∙ ap (share s n) (sym e))
             (λ (other : k ≡ j → ⊥). ap length (set_twice bs j i k b (x ∷ block_at bs i) other ne') ∙ p.shares k other (omega (arith, lt', ap length is_new, length-set (set bs j b) i (x ∷ block_at bs i), wide)))
             (cases_eq k j);
       };
       count = ap length is_new ∙ length-set (set bs j b) i (x ∷ block_at bs i) ∙ wide;
     }
 
-pub pulled_up : (n i j x : ℕ) (bs mid new : List (List ℕ)) → i ≡ suc j → i < length bs → LackOne n j bs
-    → block_at bs i ≡ x ∷ block_at mid i → mid ≡ set bs i (block_at mid i) → new ≡ set mid j (block_at mid j ++ x ∷ []) → IsMoved (LackOne n) i bs new
-pulled_up n i j x bs mid new is within p rest to onto =
+pub pulled_up : (s n i j x : ℕ) (bs mid new : List (List ℕ)) → i ≡ suc j → i < length bs → LackOne s n j bs
+    → block_at bs i ≡ x ∷ block_at mid i → mid ≡ set bs i (block_at mid i) → new ≡ set mid j (block_at mid j ++ x ∷ []) → IsMoved (LackOne s n) i bs new
+pulled_up s n i j x bs mid new is within p rest to onto =
     let b = block_at mid i in
     let ne : i ≡ j → ⊥ = λ e. omega (arith, is, e) in
     let ne_back : j ≡ i → ⊥ = λ e. omega (arith, is, e) in
@@ -186,7 +191,7 @@ pulled_up n i j x bs mid new is within p rest to onto =
             ∙ ap length (get_or-set_same (set bs i b) j more [] (omega (arith, within, is, wide)))
             ∙ length-append (block_at bs j) (x ∷ [])
             ∙ p.lacks
-            ∙ ap (share n) (sym e))
+            ∙ ap (share s n) (sym e))
             (λ (other : k ≡ j → ⊥). ap length (set_twice bs i j k b more ne' other) ∙ p.shares k other (omega (arith, lt', ap length is_new, length-set (set bs i b) j more, wide)))
             (cases_eq k j);
       };
@@ -197,32 +202,52 @@ pulled_up n i j x bs mid new is within p rest to onto =
     pulled_at {k} e lt r = subst (λ m. concat (set (set bs m (block_at mid k)) j (block_at bs j ++ x ∷ [])) ≡ concat bs) (sym e) (pulled bs j x (block_at mid k) (omega (arith, lt, e)) (ap (block_at bs) (sym e) ∙ r))
 
 -- ---- and packed again
-pub packed_on : (n j : ℕ) (bs : List (List ℕ)) → j ≡ n / block_size → j < length bs → HaveOneMore n j bs → ArePacked (n + 1) bs
-packed_on n j bs is lt p = record {
+-- which numbers lie in a block of which the number comes from a division
+pub in_block : (s n j : ℕ) → 0 < s → j ≡ n / s → (j * s ≤ n) × (n < j * s + s)
+in_block s n j some is = (omega (arith, there), omega (arith, there))
+  where
+    there : j * s ≡ s * (n / s)
+    there = omega (arith, ap (λ m. m * s) is)
+
+-- the shares of two counts elsewhere, where they differ in a block
+beside : (s n j k : ℕ) → j * s ≤ n → n < j * s + s → (k ≡ j → ⊥) → share s n k ≡ share s (n + 1) k
+beside s n j k le lt ne = ⊎_elim
+    (λ (less : k < j). omega (arith, le, before s k j less))
+    (λ (past : j ≤ k). omega (arith, lt, before s j k (omega (arith, past, ne))))
+    (cases_lt k j)
+
+pub packed_on : (s n j : ℕ) (bs : List (List ℕ)) → j * s ≤ n → n < j * s + s → j < length bs → HaveOneMore s n j bs → ArePacked s (n + 1) bs
+packed_on s n j bs le less lt p = record {
   shares = λ k within. ⊎_elim
       (λ (e : k ≡ j). ap (λ m. length (block_at bs m)) e ∙ p.over ∙ here k e)
-      (λ (ne : k ≡ j → ⊥). p.shares k ne within ∙ there k ne)
+      (λ (ne : k ≡ j → ⊥). p.shares k ne within ∙ beside s n j k le less ne)
       (cases_eq k j);
-  fits = omega (arith, is, lt);
+  fits = omega (arith, less, before s j (length bs) lt);
 }
   where
-    here : (k : ℕ) → k ≡ j → share n j + 1 ≡ share (n + 1) k
-    here k e = omega (arith, is, e)
+    here : (k : ℕ) → k ≡ j → share s n j + 1 ≡ share s (n + 1) k
+    here k e = omega (arith, le, less, ap (λ m. m * s) e)
 
-    there : (k : ℕ) → (k ≡ j → ⊥) → share n k ≡ share (n + 1) k
-    there k ne = omega (arith, is, ne)
-
-pub packed_back : (n m j : ℕ) (bs : List (List ℕ)) → n ≡ m + 1 → j ≡ m / block_size → n ≤ block_size * length bs → LackOne n j bs → ArePacked m bs
-packed_back n m j bs one is fit p = record {
+pub packed_back : (s n m j : ℕ) (bs : List (List ℕ)) → n ≡ m + 1 → j * s ≤ m → m < j * s + s → n ≤ s * length bs → LackOne s n j bs → ArePacked s m bs
+packed_back s n m j bs one le less fit p = record {
   shares = λ k within. ⊎_elim
       (λ (e : k ≡ j). here k e (ap (λ i. length (block_at bs i) + 1) e ∙ p.lacks))
-      (λ (ne : k ≡ j → ⊥). p.shares k ne within ∙ there k ne)
+      (λ (ne : k ≡ j → ⊥). p.shares k ne within ∙ ap (λ i. share s i k) one ∙ sym (beside s m j k le less ne))
       (cases_eq k j);
   fits = omega (arith, one, fit);
 }
   where
-    here : (k : ℕ) → k ≡ j → length (block_at bs k) + 1 ≡ share n j → length (block_at bs k) ≡ share m k
-    here k e h = omega (arith, one, is, e, h)
+    here : (k : ℕ) → k ≡ j → length (block_at bs k) + 1 ≡ share s n j → length (block_at bs k) ≡ share s m k
+    here k e h = omega (arith, one, le, less, ap (λ i. i * s) e, h)
 
-    there : (k : ℕ) → (k ≡ j → ⊥) → share n k ≡ share m k
-    there k ne = omega (arith, one, is, ne)
+-- a place below the end of all blocks lies in one of them
+pub below_end : (s at m : ℕ) → 0 < s → at < s * m → at / s < m
+below_end s at m some lt = ⊎_elim
+    (λ (less : at / s < m). less)
+    (λ (past : m ≤ at / s). absurd (omega (arith, some, lt, mul-le-mul_left s past)))
+    (cases_lt (at / s) m)
+
+-- blocks with room for a number have a size
+pub some_size : (s n m : ℕ) → n < s * m → 0 < s
+some_size zero n m lt = absurd (omega (arith, lt))
+some_size (suc s) n m lt = omega arith

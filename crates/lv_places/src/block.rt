@@ -2,27 +2,22 @@
 ghost use Rattle.std.specs.Prelude.{◌≡◌, ◌≤◌, ◌<◌, ◌++◌, ◌∷◌, [], length, slice_index_or, slice_set, drop, take, IfOk};
 ghost use Rattle.std.specs.List.{insert, remove};
 ghost use Rattle.std.specs.VecDeque.{deque_capacity};
-ghost use Rattle.lv_places.specs.Blocks.{block_size};
 
 use lv_values::NoMemory;
 use std::alloc::Global;
 use std::collections::VecDeque;
 use std::marker::Model;
 
-/// How many numbers a full block has.
-pub(crate) const SIZE: usize = 1024;
-
 /// Numbers, with room for those of a full block and one more.
 #[derive(Drop)]
-pub(crate) struct Block {
+pub(crate) struct Block<const SIZE: usize> {
     numbers: VecDeque<u32>,
 }
 
-impl Model for Block {
+impl<const SIZE: usize> Model for Block<SIZE> {
     ghost use Rattle.std.specs.Prelude.{ℕ, List, ◌<◌};
     ghost use Rattle.std.specs.Coded.{coded_list, coded_ℕ};
     ghost use Rattle.std.specs.VecDeque.{deque_capacity};
-    ghost use Rattle.lv_places.specs.Blocks.{block_size};
 
     ghost Value = { List ℕ };
 
@@ -30,15 +25,16 @@ impl Model for Block {
 
     ghost view = { λ b. b.numbers.items };
 
-    ghost invariant = { λ b. block_size < deque_capacity b.numbers };
+    ghost invariant = { λ b. SIZE < deque_capacity b.numbers };
 }
 
-impl Block {
+impl<const SIZE: usize> Block<SIZE> {
     /// No number.
-    pub(crate) fn new(alloc: Global) -> Result<Block, NoMemory>
+    pub(crate) fn new(alloc: Global) -> Result<Block<SIZE>, NoMemory>
         ensures { IfOk result (λ b. b ≡ []) }
     {
-        let numbers = VecDeque::with_capacity(alloc, SIZE + 1)?;
+        let room = SIZE.checked_add(1).ok_or(NoMemory)?;
+        let numbers = VecDeque::with_capacity(alloc, room)?;
         Ok(Block { numbers })
     }
 
@@ -75,7 +71,7 @@ impl Block {
     /// Puts a number at a place. Cost: a move of those behind it or of those before it, which are fewer.
     pub(crate) fn insert(&mut self, at: usize, number: u32)
         requires place { at ≤ length self.old }
-        requires room { length self.old ≤ block_size }
+        requires room { length self.old ≤ SIZE }
         ensures { self.new ≡ insert self.old at number }
     {
         self.numbers.insert(at, number).unwrap();
@@ -91,7 +87,7 @@ impl Block {
 
     /// Puts a number before the others. Cost: constant.
     pub(crate) fn push_front(&mut self, number: u32)
-        requires { length self.old ≤ block_size }
+        requires { length self.old ≤ SIZE }
         ensures { self.new ≡ number ∷ self.old }
     {
         self.numbers.push_front_reserved(number);
@@ -99,7 +95,7 @@ impl Block {
 
     /// Puts a number behind the others. Cost: constant.
     pub(crate) fn push_back(&mut self, number: u32)
-        requires { length self.old ≤ block_size }
+        requires { length self.old ≤ SIZE }
         ensures { self.new ≡ self.old ++ number ∷ [] }
     {
         self.numbers.push_back_reserved(number);

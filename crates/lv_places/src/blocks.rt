@@ -1,220 +1,148 @@
-//! Blocks, each of which is full before the next one has a number.
-ghost use Rattle.std.specs.Prelude.{◌≡◌, ℕ, ◌+◌, ◌-◌, ◌*◌, ◌/◌, ◌≤◌, ◌<◌, ◌++◌, ◌∷◌, [], length, slice_index_or, slice_set, drop, take, OnOk, OnErr};
-ghost use Rattle.std.specs.List.{concat, insert, remove};
-ghost use Rattle.lv_places.specs.Blocks.{ArePacked, LackOne, HaveOneMore, block_at, block_size};
+//! Numbers in blocks.
+ghost use Rattle.std.specs.Prelude.{◌≡◌, ◌≤◌, ◌<◌, ◌==◌, [], length, slice_index_or, slice_set, drop, take, IfOk, OnOk};
+ghost use Rattle.std.specs.List.{insert, remove};
 
-use crate::block::{Block, SIZE};
+use crate::block::Block;
+use crate::numbers::Numbers;
+use crate::passing::{add_blocks, insert_number, number_at, remove_number, run_at, set_number};
 use lv_values::NoMemory;
 use std::alloc::Global;
+use std::marker::Model;
 
-/// Makes one block more.
-fn add_block(alloc: Global, blocks: &mut Vec<Block>) -> Result<(), NoMemory>
-    ensures added { OnOk result (blocks.new.items ≡ blocks.old.items ++ [] ∷ []) }
-    ensures refused { OnErr result (blocks.new.items ≡ blocks.old.items) }
-{
-    let block = Block::new(alloc)?;
-    blocks.push(block)?;
-    Ok(())
-}
-
-/// Makes so many blocks in all.
-pub(crate) fn add_blocks(
+/// Numbers in blocks of a size, each a ring, and each full before the next one has a number.
+#[derive(Drop)]
+pub(crate) struct Blocks<const SIZE: usize> {
+    blocks: Vec<Block<SIZE>>,
+    len: usize,
     alloc: Global,
-    count: usize,
-    blocks: &mut Vec<Block>,
-) -> Result<(), NoMemory>
-    ensures same { concat blocks.new.items ≡ concat blocks.old.items }
-    ensures packed { (n : ℕ) → ArePacked n blocks.old.items → ArePacked n blocks.new.items }
-    ensures count { OnOk result (count ≤ length blocks.new.items) }
-    ensures kept { length blocks.old.items ≤ length blocks.new.items }
-    ensures most { (m : ℕ) → length blocks.old.items ≤ m → count ≤ m → length blocks.new.items ≤ m }
-{
-    for _ in blocks.len()..count {
-        add_block(alloc, blocks)?;
+}
+
+impl<const SIZE: usize> Model for Blocks<SIZE> {
+    ghost use Rattle.std.specs.Prelude.{◌*◌, length};
+    ghost use Rattle.std.specs.List.{concat};
+    ghost use Rattle.lv_places.specs.Blocks.{AreBlocks, Roomed, roomed_code};
+
+    ghost Value = { Roomed };
+
+    ghost coded = { roomed_code };
+
+    ghost view = { λ b. record { list = concat b.blocks.items; room = SIZE * length b.blocks.items } };
+
+    ghost invariant = { λ b. AreBlocks SIZE b.len b.blocks.items };
+}
+
+impl<const SIZE: usize> Blocks<SIZE> {
+    /// No block. It takes no memory.
+    pub(crate) fn new(alloc: Global) -> Blocks<SIZE>
+        ensures list { result.list ≡ [] }
+        ensures room { result.room ≡ 0 }
+    {
+        Blocks {
+            blocks: Vec::new(alloc),
+            len: 0,
+            alloc,
+        }
     }
-    Ok(())
-}
 
-/// The block with a number.
-fn block_in(blocks: &[Block], block: usize) -> &Block
-    requires { block < length blocks.now }
-    ensures { result.now ≡ block_at blocks.now block }
-{
-    &blocks[block]
-}
-
-/// The number at a place.
-pub(crate) fn number_at(len: usize, blocks: &[Block], at: usize) -> u32
-    requires packed { ArePacked len blocks.now }
-    requires place { at < len }
-    ensures { result ≡ slice_index_or (concat blocks.now) at result }
-{
-    block_in(blocks, at / SIZE).at(at % SIZE)
-}
-
-/// The numbers that lie side by side from a place on.
-pub(crate) fn run_at(len: usize, blocks: &[Block], at: usize) -> &[u32]
-    requires packed { ArePacked len blocks.now }
-    requires place { at < len }
-    ensures some { 0 < length result.now }
-    ensures run { result.now ≡ take (length result.now) (drop at (concat blocks.now)) }
-{
-    block_in(blocks, at / SIZE).run(at % SIZE)
-}
-
-/// Puts a number into a block.
-fn insert_in(blocks: &mut Vec<Block>, block: usize, at: usize, number: u32)
-    requires block { block < length blocks.old.items }
-    requires place { at ≤ length (block_at blocks.old.items block) }
-    requires room { length (block_at blocks.old.items block) ≤ block_size }
-    ensures { blocks.new.items ≡ slice_set blocks.old.items block (insert (block_at blocks.old.items block) at number) }
-{
-    blocks[block].insert(at, number);
-}
-
-/// Takes a number out of a block.
-fn remove_in(blocks: &mut Vec<Block>, block: usize, at: usize)
-    requires block { block < length blocks.old.items }
-    requires place { at < length (block_at blocks.old.items block) }
-    ensures { blocks.new.items ≡ slice_set blocks.old.items block (remove (block_at blocks.old.items block) at) }
-{
-    blocks[block].remove(at);
-}
-
-/// Puts a number in a block in the place of another one.
-fn set_in(blocks: &mut Vec<Block>, block: usize, at: usize, number: u32)
-    requires block { block < length blocks.old.items }
-    requires place { at < length (block_at blocks.old.items block) }
-    ensures { blocks.new.items ≡ slice_set blocks.old.items block (slice_set (block_at blocks.old.items block) at number) }
-{
-    blocks[block].set(at, number);
-}
-
-/// Takes the last number out of a block.
-fn pop_back(blocks: &mut Vec<Block>, block: usize) -> u32
-    requires block { block < length blocks.old.items }
-    requires some { 0 < length (block_at blocks.old.items block) }
-    ensures rest { block_at blocks.old.items block ≡ block_at blocks.new.items block ++ result ∷ [] }
-    ensures set { blocks.new.items ≡ slice_set blocks.old.items block (block_at blocks.new.items block) }
-{
-    blocks[block].pop_back()
-}
-
-/// Takes the first number out of a block.
-fn pop_front(blocks: &mut Vec<Block>, block: usize) -> u32
-    requires block { block < length blocks.old.items }
-    requires some { 0 < length (block_at blocks.old.items block) }
-    ensures rest { block_at blocks.old.items block ≡ result ∷ block_at blocks.new.items block }
-    ensures set { blocks.new.items ≡ slice_set blocks.old.items block (block_at blocks.new.items block) }
-{
-    blocks[block].pop_front()
-}
-
-/// Puts a number behind those of a block.
-fn push_back(blocks: &mut Vec<Block>, block: usize, number: u32)
-    requires block { block < length blocks.old.items }
-    requires room { length (block_at blocks.old.items block) ≤ block_size }
-    ensures { blocks.new.items ≡ slice_set blocks.old.items block (block_at blocks.old.items block ++ number ∷ []) }
-{
-    blocks[block].push_back(number);
-}
-
-/// Puts a number before those of a block.
-fn push_front(blocks: &mut Vec<Block>, block: usize, number: u32)
-    requires block { block < length blocks.old.items }
-    requires room { length (block_at blocks.old.items block) ≤ block_size }
-    ensures { blocks.new.items ≡ slice_set blocks.old.items block (number ∷ block_at blocks.old.items block) }
-{
-    blocks[block].push_front(number);
-}
-
-/// Moves the last number of a block to the front of the next one.
-fn pass_on(len: usize, blocks: &mut Vec<Block>, block: usize)
-    requires over { HaveOneMore len block blocks.old.items }
-    requires before { block < len / block_size }
-    requires last { len / block_size < length blocks.old.items }
-    ensures same { concat blocks.new.items ≡ concat blocks.old.items }
-    ensures over { HaveOneMore len (block + 1) blocks.new.items }
-    ensures count { length blocks.new.items ≡ length blocks.old.items }
-{
-    let number = pop_back(blocks, block);
-    push_front(blocks, block + 1, number);
-}
-
-/// Moves the first number of the next block to the end of a block.
-fn pull_up(len: usize, blocks: &mut Vec<Block>, block: usize)
-    requires lacks { LackOne len block blocks.old.items }
-    requires before { (block + 1) * block_size < len }
-    requires last { block + 1 < length blocks.old.items }
-    ensures same { concat blocks.new.items ≡ concat blocks.old.items }
-    ensures lacks { LackOne len (block + 1) blocks.new.items }
-    ensures count { length blocks.new.items ≡ length blocks.old.items }
-{
-    let number = pop_front(blocks, block + 1);
-    push_back(blocks, block, number);
-}
-
-/// Moves one number on in each block from one on, which has one too many, up to the last.
-fn pass_all(len: usize, blocks: &mut Vec<Block>, block: usize)
-    requires over { HaveOneMore len block blocks.old.items }
-    requires before { block ≤ len / block_size }
-    requires last { len / block_size < length blocks.old.items }
-    ensures same { concat blocks.new.items ≡ concat blocks.old.items }
-    ensures over { HaveOneMore len (len / block_size) blocks.new.items }
-    ensures count { length blocks.new.items ≡ length blocks.old.items }
-{
-    for j in block..len / SIZE {
-        pass_on(len, blocks, j);
+    /// Numbers that lie elsewhere, with room for so many. Cost: constant for each.
+    pub(crate) fn of<L: Numbers>(
+        alloc: Global,
+        room: usize,
+        numbers: &L,
+    ) -> Result<Blocks<SIZE>, NoMemory>
+        requires { length (L.roomed numbers.now).list ≤ room }
+        ensures same { IfOk result (λ b. b.list ≡ (L.roomed numbers.now).list) }
+        ensures room { IfOk result (λ b. room ≤ b.room) }
+    {
+        let mut blocks = Blocks::new(alloc);
+        blocks.reserve(room)?;
+        for i in 0..numbers.len() {
+            blocks.insert(i, numbers.at(i));
+        }
+        Ok(blocks)
     }
-}
 
-/// Moves one number back in each block after one, which lacks one, up to the last.
-fn pull_all(len: usize, blocks: &mut Vec<Block>, block: usize)
-    requires some { 0 < len }
-    requires lacks { LackOne len block blocks.old.items }
-    requires before { block ≤ (len - 1) / block_size }
-    requires last { (len - 1) / block_size < length blocks.old.items }
-    ensures same { concat blocks.new.items ≡ concat blocks.old.items }
-    ensures lacks { LackOne len ((len - 1) / block_size) blocks.new.items }
-    ensures count { length blocks.new.items ≡ length blocks.old.items }
-{
-    for j in block..(len - 1) / SIZE {
-        pull_up(len, blocks, j);
+    /// How many numbers there are.
+    pub(crate) fn len(&self) -> usize
+        ensures { result ≡ length self.now.list }
+    {
+        self.len
     }
-}
 
-/// Puts a number at a place.
-pub(crate) fn insert_number(len: usize, blocks: &mut Vec<Block>, at: usize, number: u32)
-    requires packed { ArePacked len blocks.old.items }
-    requires place { at ≤ len }
-    requires room { len < block_size * length blocks.old.items }
-    ensures added { concat blocks.new.items ≡ insert (concat blocks.old.items) at number }
-    ensures packed { ArePacked (len + 1) blocks.new.items }
-    ensures count { length blocks.new.items ≡ length blocks.old.items }
-{
-    insert_in(blocks, at / SIZE, at % SIZE, number);
-    pass_all(len, blocks, at / SIZE);
-}
+    /// For how many numbers there is room.
+    pub(crate) fn room(&self) -> usize
+        ensures room { result ≡ self.now.room }
+        ensures within { length self.now.list ≤ result }
+    {
+        SIZE * self.blocks.len()
+    }
 
-/// Takes the number at a place out.
-pub(crate) fn remove_number(len: usize, blocks: &mut Vec<Block>, at: usize)
-    requires packed { ArePacked len blocks.old.items }
-    requires place { at < len }
-    ensures rest { concat blocks.new.items ≡ remove (concat blocks.old.items) at }
-    ensures packed { ArePacked (len - 1) blocks.new.items }
-    ensures count { length blocks.new.items ≡ length blocks.old.items }
-{
-    remove_in(blocks, at / SIZE, at % SIZE);
-    pull_all(len, blocks, at / SIZE);
-}
+    /// Whether there is room for no number.
+    pub(crate) fn is_empty(&self) -> bool
+        ensures { result ≡ (self.now.room == 0) }
+    {
+        self.room() == 0
+    }
 
-/// Puts a number in the place of another one.
-pub(crate) fn set_number(len: usize, blocks: &mut Vec<Block>, at: usize, number: u32)
-    requires packed { ArePacked len blocks.old.items }
-    requires place { at < len }
-    ensures replaced { concat blocks.new.items ≡ slice_set (concat blocks.old.items) at number }
-    ensures packed { ArePacked len blocks.new.items }
-    ensures count { length blocks.new.items ≡ length blocks.old.items }
-{
-    set_in(blocks, at / SIZE, at % SIZE, number);
+    /// The number at a place. Cost: constant.
+    pub(crate) fn at(&self, at: usize) -> u32
+        requires { at < length self.now.list }
+        ensures { result ≡ slice_index_or self.now.list at result }
+    {
+        number_at(self.len, self.blocks.as_slice(), at)
+    }
+
+    /// The numbers that lie side by side from a place on. Cost: constant.
+    pub(crate) fn run(&self, at: usize) -> &[u32]
+        requires { at < length self.now.list }
+        ensures some { 0 < length result.now }
+        ensures run { result.now ≡ take (length result.now) (drop at self.now.list) }
+    {
+        run_at(self.len, self.blocks.as_slice(), at)
+    }
+
+    /// Makes room for so many numbers in all. Cost: constant for each block.
+    pub(crate) fn reserve(&mut self, room: usize) -> Result<(), NoMemory>
+        ensures same { self.new.list ≡ self.old.list }
+        ensures room { OnOk result (room ≤ self.new.room) }
+        ensures kept { self.old.room ≤ self.new.room }
+    {
+        let Some(end) = room.checked_add(SIZE) else {
+            return Err(NoMemory);
+        };
+        let Some(count) = end.checked_div(SIZE) else {
+            return Err(NoMemory);
+        };
+        add_blocks(self.alloc, count, &mut self.blocks)
+    }
+
+    /// Puts a number at a place. Cost: a move of at most half a block, and of one number more in each block behind.
+    pub(crate) fn insert(&mut self, at: usize, number: u32)
+        requires place { at ≤ length self.old.list }
+        requires room { length self.old.list < self.old.room }
+        ensures added { self.new.list ≡ insert self.old.list at number }
+        ensures room { self.new.room ≡ self.old.room }
+    {
+        insert_number(self.len, &mut self.blocks, at, number);
+        self.len += 1;
+    }
+
+    /// Takes the number at a place out. Cost: as of `insert`.
+    pub(crate) fn remove(&mut self, at: usize)
+        requires { at < length self.old.list }
+        ensures rest { self.new.list ≡ remove self.old.list at }
+        ensures room { self.new.room ≡ self.old.room }
+    {
+        remove_number(self.len, &mut self.blocks, at);
+        self.len -= 1;
+    }
+
+    /// Puts a number in the place of another one. Cost: constant.
+    pub(crate) fn set(&mut self, at: usize, number: u32)
+        requires { at < length self.old.list }
+        ensures replaced { self.new.list ≡ slice_set self.old.list at number }
+        ensures room { self.new.room ≡ self.old.room }
+    {
+        set_number(self.len, &mut self.blocks, at, number);
+    }
 }

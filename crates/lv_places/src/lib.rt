@@ -3,7 +3,10 @@
 
 mod block;
 mod blocks;
+mod few;
 mod held;
+mod numbers;
+mod passing;
 mod places;
 
 pub use places::Places;
