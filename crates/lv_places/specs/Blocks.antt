@@ -33,11 +33,12 @@ pub record LackOne (size n one : ℕ) (blocks : List (List ℕ)) : Type 0 where
   pub lacks : length (block_at blocks one) + 1 ≡ share size n one
   pub shares : (j : ℕ) → (j ≡ one → ⊥) → j < length blocks → length (block_at blocks j) ≡ share size n j
 
--- n numbers in blocks of a size, all of which 64 bits count
+-- n numbers in blocks of a size, if there are any, all of which 64 bits count
 pub record AreBlocks (size n : ℕ) (blocks : List (List ℕ)) : Type 0 where
   pub count : n ≡ length (concat blocks)
   pub packed : ArePacked size n blocks
   pub most : size * length blocks < 2 ^ 64
+  pub sized : 0 < length blocks → 0 < size
 
 -- the numbers: those in blocks, unless there is room for none in blocks
 abbrev pub held : Roomed → Roomed → Roomed

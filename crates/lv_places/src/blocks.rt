@@ -81,7 +81,7 @@ impl<const SIZE: usize> Blocks<SIZE> {
     pub(crate) fn is_empty(&self) -> bool
         ensures { result ≡ (self.now.room == 0) }
     {
-        self.room() == 0
+        self.blocks.is_empty()
     }
 
     /// The number at a place. Cost: constant.

@@ -20,4 +20,5 @@ invariant_of-self g c =
           (λ (more : length old < count). omega (arith, mul-le-mul_left s (c.add_blocks.ensures.most count (omega (arith, more)) (omega arith)), fit))
           (λ (enough : count ≤ length old). omega (arith, i.most, mul-le-mul_left s (c.add_blocks.ensures.most (length old) (omega arith) enough)))
           (cases_lt (length old) count);
+      sized = λ _. some;
     }
