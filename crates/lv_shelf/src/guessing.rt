@@ -6,9 +6,6 @@ use crate::ranked_places::RankedPlaces;
 /// Fewer places than these are searched by halves at once.
 const MANY: usize = 32;
 
-/// How far from an even place a search looks first.
-const STEP: usize = 4;
-
 /// Numbers from this one on are wide: a product with a number of places may not fit 64 bits.
 const WIDE: u64 = 1 << 40;
 
@@ -32,25 +29,8 @@ fn share_of(places: usize, part: u64, span: u64) -> usize {
     (part.saturating_mul(places as u64) / span.saturating_add(1)) as usize
 }
 
-/// The place where a rank would stand if the ranks rose evenly from the first to the last.
-fn even_place(rank: i64, places: &RankedPlaces) -> usize
-    requires some { 0 < length places.now.list }
-    ensures within { result < length places.now.list }
-{
-    let last_place = places.len() - 1;
-    let first = places.rank(places.at(0));
-    let last = places.rank(places.at(last_place));
-    if rank <= first {
-        return 0;
-    }
-    if rank >= last {
-        return last_place;
-    }
-    share_of(last_place, rank.abs_diff(first), last.abs_diff(first)).min(last_place)
-}
-
-/// Two places between which the ranks pass one, behind a place. Cost: a look for each time that the distance from there
-/// fourfolds.
+/// Two places between which the ranks pass one, behind a place. Cost: a look, and one more for each time that the distance
+/// from there fourfolds.
 fn bounds_above(rank: i64, places: &RankedPlaces, at: usize) -> (usize, usize)
     requires { at < length places.now.list }
     ensures order { result.0 ≤ result.1 }
@@ -58,14 +38,14 @@ fn bounds_above(rank: i64, places: &RankedPlaces, at: usize) -> (usize, usize)
 {
     let len = places.len();
     let mut low = at + 1;
-    let mut step = STEP;
+    let mut step: usize = 0;
     while step < len - low {
         let next = low + step;
         if !is_up_to(rank, places, next) {
             return (low, next);
         }
         low = next + 1;
-        step = step.saturating_mul(4);
+        step = step.saturating_mul(4).saturating_add(3);
     }
     (low, len)
 }
@@ -77,7 +57,7 @@ fn bounds_below(rank: i64, places: &RankedPlaces, at: usize) -> (usize, usize)
     ensures within { result.1 ≤ length places.now.list }
 {
     let mut high = at;
-    let mut step = STEP;
+    let mut step: usize = 1;
     while step < high {
         let next = high - step;
         if is_up_to(rank, places, next) {
@@ -89,7 +69,8 @@ fn bounds_below(rank: i64, places: &RankedPlaces, at: usize) -> (usize, usize)
     (0, high)
 }
 
-/// Two places between which the ranks pass one.
+/// Two places between which the ranks pass one: near the place up to which they would be up to it if as many slots had each
+/// rank from the first one to the last.
 fn bounds_near(rank: i64, places: &RankedPlaces) -> (usize, usize)
     ensures order { result.0 ≤ result.1 }
     ensures within { result.1 ≤ length places.now.list }
@@ -98,7 +79,16 @@ fn bounds_near(rank: i64, places: &RankedPlaces) -> (usize, usize)
     if len < MANY {
         return (0, len);
     }
-    let at = even_place(rank, places);
+    let first = places.rank(places.at(0));
+    let last = places.rank(places.at(len - 1));
+    if rank < first {
+        return (0, 0);
+    }
+    if rank >= last {
+        return (len, len);
+    }
+    let part = rank.abs_diff(first).saturating_add(1);
+    let at = share_of(len, part, last.abs_diff(first)).min(len - 1);
     if is_up_to(rank, places, at) {
         bounds_above(rank, places, at)
     } else {
