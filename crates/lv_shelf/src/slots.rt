@@ -1,8 +1,8 @@
 //! Slots, and the elements in them.
-ghost use Rattle.std.specs.Prelude.{◌≡◌, ◌≤◌, ◌<◌, ◌+◌, ◌-◌, ◌++◌, ◌∷◌, [], length, slice_get, slice_set, slice_index_or, filter, true, false, Some, None, if◌then◌else◌, vec_capacity};
+ghost use Rattle.std.specs.Prelude.{◌≡◌, ◌≤◌, ◌<◌, ◌+◌, ◌-◌, ◌^◌, ◌++◌, ◌∷◌, [], length, slice_get, slice_set, slice_index_or, filter, replicate, true, false, Some, None, if◌then◌else◌, vec_capacity};
 ghost use Rattle.std.specs.List.{AllByRecursion};
 ghost use Rattle.lv_shelf.specs.Cuts.{Falls, IsCut};
-ghost use Rattle.lv_shelf.specs.Shelves.{IsHeld, cleared, clear_of, dropped, is_taken, items_at, passes_in, slot_of};
+ghost use Rattle.lv_shelf.specs.Shelves.{IsHeld, cleared, clear_of, dropped, falling, is_taken, items_at, passes_in, slot_of};
 
 use crate::guessing::count_up_to;
 use crate::ranked_places::RankedPlaces;
@@ -41,6 +41,25 @@ pub(crate) fn set_slot<T: Drop>(slots: &mut Vec<Option<T>>, slot: u32, item: T)
     ensures { slots.new.items ≡ slice_set slots.old.items slot (Some item) }
 {
     slots[slot as usize] = Some(item);
+}
+
+/// Makes so many empty slots in the room that there is, and lists them as free. The lowest of them is listed last, and so is
+/// taken first: elements that come one after another lie in rising slots.
+pub(crate) fn push_slots<T>(count: usize, slots: &mut Vec<Option<T>>, free: &mut Vec<u32>)
+    requires numbers { length slots.old.items + count ≤ 2 ^ 32 }
+    requires slots_room { length slots.old.items + count ≤ vec_capacity slots.old }
+    requires free_room { length free.old.items + count ≤ vec_capacity free.old }
+    ensures slots { slots.new.items ≡ slots.old.items ++ replicate count None }
+    ensures free { free.new.items ≡ free.old.items ++ falling (length slots.old.items) count }
+    ensures capacity { vec_capacity free.new ≡ vec_capacity free.old }
+{
+    let first = slots.len();
+    let mut left = count;
+    while left > 0 {
+        left -= 1;
+        slots.push_reserved(None);
+        free.push_reserved((first + left) as u32);
+    }
 }
 
 /// Whether a slot has an element that passes.
