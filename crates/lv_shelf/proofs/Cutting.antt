@@ -1,7 +1,8 @@
 -- Where a test stops to pass, as a search finds it.
-use Rattle.std.proofs.Common.{◌≡◌, ◌∙◌, ap, ℕ, zero, suc, ◌-◌, ◌<◌, ◌≤◌, Bool, true, false, not, cond, List, [], ◌∷◌, length, filter, get_or, Some, refl, arith}
+use Rattle.std.proofs.Common.{◌≡◌, ◌∙◌, ap, ℕ, zero, suc, ◌+◌, ◌-◌, ◌<◌, ◌≤◌, Bool, true, false, not, cond, List, [], ◌∷◌, length, take, drop, filter, get_or, Some, refl, arith}
 use Rattle.std.specs.Prelude.{slice_get}
 use Rattle.std.specs.List.{AllByRecursion}
+use Rattle.std.proofs.lemmas.List.{get_or-drop, get_or-take, length-drop, length-take-le}
 use Rattle.lv_shelf.specs.Cuts.{Falls, IsCut}
 
 pub all_at : {X : Type 0} (P : X → Type 0) (xs : List X) (i : ℕ) (d : X) → i < length xs → AllByRecursion P xs → P (get_or xs i d)
@@ -32,6 +33,16 @@ cut_from p xs zero le h g = all_from (λ x. p x ≡ false) xs (λ k d lt. g k d 
 cut_from p [] (suc i) le h g = absurd (omega arith)
 cut_from p (x ∷ xs) (suc i) le h g =
     (h 0 x (omega arith), cut_from p xs i (omega arith) (λ k d lt. h (suc k) d (omega arith)) (λ k d a b. g (suc k) d (omega arith) (omega arith)))
+
+-- the same among the elements from one place up to another
+pub cut_within : {X : Type 0} (p : X → Bool) (xs : List X) (first i end : ℕ) → first ≤ i → i ≤ end → end ≤ length xs → ((k : ℕ) (d : X) → first ≤ k → k < i → p (get_or xs k d) ≡ true)
+    → ((k : ℕ) (d : X) → i ≤ k → k < end → p (get_or xs k d) ≡ false) → IsCut p (i - first) (take (end - first) (drop first xs))
+cut_within {X} p xs first i end le le' within h g =
+    let some = take (end - first) (drop first xs) in
+    let long : length some ≡ end - first = length-take-le (end - first) (drop first xs) (omega (arith, length-drop first xs, within)) in
+    let at : (k : ℕ) (d : X) → k < end - first → get_or some k d ≡ get_or xs (first + k) d = λ k d lt. get_or-take (end - first) (drop first xs) k d lt ∙ get_or-drop first xs k d in
+    cut_from p some (i - first) (omega (arith, long, le, le')) (λ k d lt. ap p (at k d (omega (arith, lt, le, le'))) ∙ h (first + k) d (omega arith) (omega (arith, lt, le)))
+    (λ k d a b. ap p (at k d (omega (arith, b, long))) ∙ g (first + k) d (omega (arith, a, le)) (omega (arith, b, long)))
 
 -- what a read of a place gives
 pub got : {X : Type 0} (xs : List X) (i : ℕ) (x d : X) → slice_get xs i ≡ Some x → get_or xs i d ≡ x

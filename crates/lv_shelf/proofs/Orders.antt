@@ -1,15 +1,15 @@
 -- Further orders of the elements in slots.
-use Rattle.std.proofs.Common.{◌≡◌, ℕ, zero, suc, ◌+◌, ◌<◌, ◌≤◌, Bool, true, false, cond, List, [], ◌∷◌, ◌++◌, length, length-append, map, take, drop, get_or, set, filter, Option, Some, None, refl, sym, ap, ap₂, ◌∙◌, subst, arith}
+use Rattle.std.proofs.Common.{◌≡◌, ℕ, zero, suc, ◌+◌, ◌<◌, ◌≤◌, Bool, true, false, cond, List, [], ◌∷◌, ◌++◌, length, map, take, drop, get_or, set, filter, replicate, Option, Some, None, refl, sym, ap, ap₂, ◌∙◌, subst, arith}
 use Rattle.std.specs.Prelude.{is_some, slice_get, ◌==◌}
 use Rattle.std.specs.List.{AllByRecursion, cons_option, insert, remove}
 use Rattle.std.proofs.lemmas.List.{append-nil, drop-drop, drop-set-lt, get_or-drop, get_or-set_same, get_or_read, length-map, map-set, take_more, take_more_set}
 use Rattle.std.proofs.lemmas.List.Elements.{filter-append}
 use Rattle.std.proofs.Math.Seq.{map-set_same}
 use Rattle.lv_schema.proofs.Apart.{all_weaker, apart_filter}
-use Rattle.lv_shelf.specs.Shelves.{AreShelved, ChangesOnly, Differ, HaveRoom, IsEmpty, IsHeld, IsOrder, LacksItem, Roomed, clear_of, cleared, is_among, is_taken, items_at, lists_of, passes, passes_in, slot_of}
+use Rattle.lv_shelf.specs.Shelves.{AreShelved, ChangesOnly, Differ, HaveRoom, IsEmpty, IsHeld, IsOrder, LacksItem, Roomed, clear_of, cleared, falling, is_among, is_taken, items_at, lists_of, passes, passes_in, slot_of}
 use Rattle.lv_shelf.proofs.Among.{all_remove, among_all, apart_remove, eq_of, most, ne_of}
 use Rattle.lv_shelf.proofs.Cutting.{all_at, all_kept}
-use Rattle.lv_shelf.proofs.Shelved.{all_differ, all_insert, apart_insert, clear_other, get_items, grown_items, grown_shelf, grown_slot, held_gone, held_set, in_range, items_other, length_items, slot_other, some_of, taken_in}
+use Rattle.lv_shelf.proofs.Shelved.{all_differ, all_insert, apart_insert, clear_other, get_items, grown_items, grown_shelf, grown_slot, held_gone, held_set, in_range, items_other, length_grown, length_items, slot_other, some_of, taken_in}
 
 -- ---- maps
 pub map_same : {X Y : Type 0} (g h : X → Y) (xs : List X) → AllByRecursion (λ x. g x ≡ h x) xs → map g xs ≡ map h xs
@@ -48,15 +48,15 @@ others_inserted slots p x ls e a =
     map_same (items_at (set slots p (Some x))) (items_at slots) ls
     (all_weaker (IsOrder slots) (λ l. items_at (set slots p (Some x)) l ≡ items_at slots l) (λ l o. items_other slots l p (Some x) (all_differ slots l p e.1 o.held)) ls a)
 
--- ---- a slot more
-pub orders_grown : {T : Type 0} (slots : List (Option T)) (ls : List (List ℕ)) → AllByRecursion (IsOrder slots) ls → AllByRecursion (IsOrder (slots ++ None ∷ [])) ls
-orders_grown slots ls a =
-    all_weaker (IsOrder slots) (IsOrder (slots ++ None ∷ []))
-    (λ l o. record { held = all_weaker (IsHeld slots) (IsHeld (slots ++ None ∷ [])) (λ q t. ap is_some (grown_slot slots q) ∙ t) l o.held; apart = o.apart }) ls a
+-- ---- so many slots more
+pub orders_grown : {T : Type 0} (slots : List (Option T)) (n : ℕ) (ls : List (List ℕ)) → AllByRecursion (IsOrder slots) ls → AllByRecursion (IsOrder (slots ++ replicate n None)) ls
+orders_grown slots n ls a =
+    all_weaker (IsOrder slots) (IsOrder (slots ++ replicate n None))
+    (λ l o. record { held = all_weaker (IsHeld slots) (IsHeld (slots ++ replicate n None)) (λ q t. ap is_some (grown_slot slots n q) ∙ t) l o.held; apart = o.apart }) ls a
 
-pub others_grown : {T : Type 0} (slots : List (Option T)) (ls : List (List ℕ)) → map (items_at (slots ++ None ∷ [])) ls ≡ map (items_at slots) ls
-others_grown slots [] = refl
-others_grown slots (l ∷ ls) = ap₂ (λ y t. y ∷ t) (grown_items slots l) (others_grown slots ls)
+pub others_grown : {T : Type 0} (slots : List (Option T)) (n : ℕ) (ls : List (List ℕ)) → map (items_at (slots ++ replicate n None)) ls ≡ map (items_at slots) ls
+others_grown slots n [] = refl
+others_grown slots n (l ∷ ls) = ap₂ (λ y t. y ∷ t) (grown_items slots n l) (others_grown slots n ls)
 
 -- ---- an element that changes
 -- a change leaves the element in a slot as it is, if it is another slot
@@ -350,15 +350,13 @@ roomier slots order free a b a' b' os os' le le' is more s = record {
   rooms = more (length slots) s.rooms;
 }
 
-pub shelved_grown : {T : Type 0} (slots : List (Option T)) (order free : List ℕ) (n a b a' b' : ℕ) (os os' : List Roomed) → n ≡ length slots → n < a' → n < b' → lists_of os' ≡ lists_of os → HaveRoom (length slots + 1) os'
-    → AreShelved slots order free a b os → AreShelved (slots ++ None ∷ []) order (free ++ n ∷ []) a' b' os'
-shelved_grown {T} slots order free n a b a' b' os os' e la lb is more s =
-    let none : List (Option T) = None ∷ [] in
-    record {
-      own = grown_shelf slots order free n a b a' b' e la lb s.own;
-      lists = orders_grown slots (lists_of os') (subst (AllByRecursion (IsOrder slots)) (sym is) s.lists);
-      rooms = subst (λ k. HaveRoom k os') (sym (length-append slots none)) more;
-    }
+pub shelved_grown : {T : Type 0} (slots : List (Option T)) (order free : List ℕ) (n a b a' b' : ℕ) (os os' : List Roomed) → length slots + n ≤ a' → length slots + n ≤ b' → lists_of os' ≡ lists_of os
+    → HaveRoom (length slots + n) os' → AreShelved slots order free a b os → AreShelved (slots ++ replicate n None) order (free ++ falling (length slots) n) a' b' os'
+shelved_grown slots order free n a b a' b' os os' la lb is more s = record {
+  own = grown_shelf slots order free n a b a' b' la lb s.own;
+  lists = orders_grown slots n (lists_of os') (subst (AllByRecursion (IsOrder slots)) (sym is) s.lists);
+  rooms = subst (λ k. HaveRoom k os') (sym (length_grown slots n)) more;
+}
 
 -- ---- numbers that stay
 -- each element passes the test that all pass

@@ -1,12 +1,12 @@
 -- Elements in slots, seen as a list.
-use Rattle.std.proofs.Common.{◌≡◌, ℕ, zero, suc, ◌+◌, ◌<◌, ◌≤◌, Bool, true, false, cond, List, [], ◌∷◌, ◌++◌, length, length-append, append_assoc, get_or, set, filter, Option, Some, None, refl, sym, ap, ◌∙◌, subst, arith}
+use Rattle.std.proofs.Common.{◌≡◌, ℕ, zero, suc, ◌+◌, ◌<◌, ◌≤◌, Bool, true, false, cond, List, [], ◌∷◌, ◌++◌, length, length-append, append_assoc, get_or, set, filter, replicate, Option, Some, None, refl, sym, ap, ◌∙◌, subst, arith}
 use Rattle.std.specs.Prelude.{slice_get, is_some, ◌==◌}
 use Rattle.std.specs.List.{AllByRecursion, cons_option, insert, remove}
-use Rattle.std.proofs.lemmas.List.{get_or-set_same, get_or-set_other, length-set, get_or_past}
+use Rattle.std.proofs.lemmas.List.{get_or-set_same, get_or-set_other, length-replicate, length-set, get_or_past}
 use Rattle.std.proofs.lemmas.List.Edits.{length-insert, length-remove}
 use Rattle.lv_schema.proofs.Apart.{all_weaker, all_append, all_both, apart_append, apart_filter}
 use Rattle.lv_shelf.specs.Cuts.{Apart}
-use Rattle.lv_shelf.specs.Shelves.{slot_of, items_at, is_taken, passes, passes_in, IsHeld, IsEmpty, Differ, clear_of, cleared, dropped, is_among, IsShelf}
+use Rattle.lv_shelf.specs.Shelves.{slot_of, items_at, is_taken, passes, passes_in, IsHeld, IsEmpty, Differ, clear_of, cleared, dropped, falling, is_among, IsShelf}
 use Rattle.lv_shelf.proofs.Cutting.{all_at, all_kept}
 use Rattle.lv_shelf.proofs.Among.{among_filter, among_insert, among_insert_here, among_remove, all_remove, apart_remove, eq_of, ne_of, removed_differ}
 
@@ -174,37 +174,63 @@ edited_shelf slots order free p y a b t s =
       free_long = omega (arith, s.free_long, same);
     }
 
--- ---- an empty slot more
-pub grown_slot : {T : Type 0} (slots : List (Option T)) (p : ℕ) → slot_of (slots ++ None ∷ []) p ≡ slot_of slots p
-grown_slot [] zero = refl
-grown_slot [] (suc p) = refl
-grown_slot (s ∷ slots) zero = refl
-grown_slot (s ∷ slots) (suc p) = grown_slot slots p
+-- ---- empty slots more
+nones : {T : Type 0} (n p : ℕ) → slot_of (replicate {A = Option T} n None) p ≡ None
+nones zero zero = refl
+nones zero (suc p) = refl
+nones (suc n) zero = refl
+nones (suc n) (suc p) = nones n p
 
-pub grown_items : {T : Type 0} (slots : List (Option T)) (ps : List ℕ) → items_at (slots ++ None ∷ []) ps ≡ items_at slots ps
-grown_items slots [] = refl
-grown_items slots (p ∷ ps) = ap (λ s. cons_option s (items_at (slots ++ None ∷ []) ps)) (grown_slot slots p) ∙ ap (cons_option (slot_of slots p)) (grown_items slots ps)
+pub grown_slot : {T : Type 0} (slots : List (Option T)) (n p : ℕ) → slot_of (slots ++ replicate n None) p ≡ slot_of slots p
+grown_slot [] n zero = nones n zero
+grown_slot [] n (suc p) = nones n (suc p)
+grown_slot (s ∷ slots) n zero = refl
+grown_slot (s ∷ slots) n (suc p) = grown_slot slots n p
 
-below_differs : (n q : ℕ) → q < n → Differ q n
-below_differs n q lt e = omega arith
+pub grown_items : {T : Type 0} (slots : List (Option T)) (n : ℕ) (ps : List ℕ) → items_at (slots ++ replicate n None) ps ≡ items_at slots ps
+grown_items slots n [] = refl
+grown_items slots n (p ∷ ps) = ap (λ s. cons_option s (items_at (slots ++ replicate n None) ps)) (grown_slot slots n p) ∙ ap (cons_option (slot_of slots p)) (grown_items slots n ps)
 
-pub grown_shelf : {T : Type 0} (slots : List (Option T)) (order free : List ℕ) (n a b a' b' : ℕ) → n ≡ length slots → n < a' → n < b' → IsShelf slots order free a b
-    → IsShelf (slots ++ None ∷ []) order (free ++ n ∷ []) a' b'
-grown_shelf {T} slots order free n a b a' b' is la lb s =
-    let none : List (Option T) = None ∷ [] in
-    let long : length (slots ++ none) ≡ length slots + 1 = length-append slots none in
+pub length_grown : {T : Type 0} (slots : List (Option T)) (n : ℕ) → length (slots ++ replicate n None) ≡ length slots + n
+length_grown slots n = length-append slots (replicate n None) ∙ ap (λ k. length slots + k) (length-replicate n None)
+
+-- the numbers of the new slots: none is that of a slot before, and none comes twice
+abbrev IsFrom : ℕ → ℕ → ℕ → Type 0
+IsFrom from n q = (from ≤ q) × (q < from + n)
+
+all_falling : (from n : ℕ) → AllByRecursion (IsFrom from n) (falling from n)
+all_falling from zero = tt
+all_falling from (suc n) =
+    ((omega arith, omega arith), all_weaker (IsFrom from n) (IsFrom from (suc n)) (λ q h. (h.0, omega (arith, h.1))) (falling from n) (all_falling from n))
+
+apart_falling : (from n : ℕ) → Apart Differ (falling from n)
+apart_falling from zero = tt
+apart_falling from (suc n) = (all_weaker (IsFrom from n) (Differ (from + n)) (λ q h e. omega (arith, h.1, e)) (falling from n) (all_falling from n), apart_falling from n)
+
+pub length_falling : (from n : ℕ) → length (falling from n) ≡ n
+length_falling from zero = refl
+length_falling from (suc n) = ap suc (length_falling from n)
+
+pub grown_shelf : {T : Type 0} (slots : List (Option T)) (order free : List ℕ) (n a b a' b' : ℕ) → length slots + n ≤ a' → length slots + n ≤ b' → IsShelf slots order free a b
+    → IsShelf (slots ++ replicate n None) order (free ++ falling (length slots) n) a' b'
+grown_shelf {T} slots order free n a b a' b' la lb s =
+    let first = length slots in
+    let after : List (Option T) = slots ++ replicate n None in
+    let more = falling first n in
+    let long = length_grown slots n in
     record {
-      held = all_weaker (IsHeld slots) (IsHeld (slots ++ none)) (λ q t. ap is_some (grown_slot slots q) ∙ t) order s.held;
+      held = all_weaker (IsHeld slots) (IsHeld after) (λ q t. ap is_some (grown_slot slots n q) ∙ t) order s.held;
       apart = s.apart;
-      empty = all_append (IsEmpty (slots ++ none)) free (n ∷ [])
-          (all_weaker (IsEmpty slots) (IsEmpty (slots ++ none)) (λ q e. (omega (arith, e.0, long), grown_slot slots q ∙ e.1)) free s.empty)
-          ((omega (arith, long, is), grown_slot slots n ∙ get_or_past slots n None (omega (arith, is))), tt);
-      free_apart = apart_append Differ free (n ∷ []) s.free_apart (tt, tt)
-          (all_weaker (IsEmpty slots) (λ q. AllByRecursion (Differ q) (n ∷ [])) (λ q e. (below_differs n q (omega (arith, e.0, is)), tt)) free s.empty);
-      all = λ q t. s.all q (sym (ap is_some (grown_slot slots q)) ∙ t);
-      long = omega (arith, s.long, long, length-append free (n ∷ []));
-      order_long = omega (arith, long, is, la);
-      free_long = omega (arith, long, is, lb);
+      empty = all_append (IsEmpty after) free more
+          (all_weaker (IsEmpty slots) (IsEmpty after) (λ q e. (omega (arith, e.0, long), grown_slot slots n q ∙ e.1)) free s.empty)
+          (all_weaker (IsFrom first n) (IsEmpty after) (λ q h. (omega (arith, h.1, long), grown_slot slots n q ∙ get_or_past slots q None h.0)) more (all_falling first n));
+      free_apart = apart_append Differ free more s.free_apart (apart_falling first n)
+          (all_weaker (IsEmpty slots) (λ q. AllByRecursion (Differ q) more)
+          (λ q e. all_weaker (IsFrom first n) (Differ q) (λ r h same. omega (arith, e.0, h.0, same)) more (all_falling first n)) free s.empty);
+      all = λ q t. s.all q (sym (ap is_some (grown_slot slots n q)) ∙ t);
+      long = omega (arith, s.long, long, length-append free more, length_falling first n);
+      order_long = omega (arith, long, la);
+      free_long = omega (arith, long, lb);
     }
 
 -- ---- elements that go

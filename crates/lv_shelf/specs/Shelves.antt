@@ -70,6 +70,11 @@ abbrev pub dropped : {T : Type 0} → (T → Bool) → List (Option T) → List 
 dropped test slots [] = []
 dropped test slots (p ∷ ps) = cond (passes_in test slots p) (dropped test slots ps) (p ∷ dropped test (slice_set slots p None) ps)
 
+-- so many numbers from one on, the last of them first
+abbrev pub falling : ℕ → ℕ → List ℕ
+falling from zero = []
+falling from (suc n) = (from + n) ∷ falling from n
+
 -- whether a number is among others
 abbrev pub is_among : ℕ → List ℕ → Bool
 is_among q ps = list_any (λ p. q == p) ps

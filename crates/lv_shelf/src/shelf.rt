@@ -7,10 +7,15 @@ ghost use Rattle.lv_shelf.specs.Shelves.{ChangesOnly, LacksItem, other_at};
 use crate::order::{keep_each, keep_taken, make_room};
 use crate::ranked_places::RankedPlaces;
 use crate::run::{Run, run_of};
-use crate::slots::{clear_failing, cut_at, cut_near, edit_slot, exchange_slot, item_at, set_slot};
+use crate::slots::{
+    clear_failing, cut_at, cut_near, edit_slot, exchange_slot, item_at, push_slots, set_slot,
+};
 use lv_values::{Edit, NoMemory, Test};
 use std::alloc::Global;
 use std::marker::Model;
+
+/// How many slots there are at most, since their numbers have 32 bits.
+const MOST: usize = 1 << 32;
 
 /// A list whose elements lie still: each keeps its slot as long as it is in the list, and the order is kept by the
 /// numbers of the slots, four bytes each, in blocks. Beside the list there may be further orders, each of some of its
@@ -161,58 +166,45 @@ impl<T> Shelf<T> {
 }
 
 impl<T: Drop> Shelf<T> {
-    /// Makes one empty slot.
-    fn add_slot(&mut self) -> Result<(), NoMemory>
+    /// Makes so many empty slots at least, and a sixteenth of the slots more, as far as numbers of 32 bits go. Each list takes
+    /// its memory once.
+    fn add_slots(&mut self, missing: u64) -> Result<(), NoMemory>
         ensures same { self.new.list ≡ self.old.list }
         ensures others { self.new.others ≡ self.old.others }
-        ensures room { OnOk result (self.new.spare ≡ self.old.spare + 1) }
+        ensures room { OnOk result (self.old.spare + missing ≤ self.new.spare) }
         ensures kept { OnErr result (self.new.spare ≡ self.old.spare) }
     {
         let slots = self.slots.len();
-        let Ok(slot) = u32::try_from(slots) else {
+        let Some(left) = MOST.checked_sub(slots) else {
             return Err(NoMemory);
         };
+        if missing > left as u64 {
+            return Err(NoMemory);
+        }
+        let count = left.min(missing as usize + slots / 16);
         make_room(
-            1,
+            count,
             &mut self.slots,
             &mut self.order,
             &mut self.free,
             &mut self.others,
         )?;
-        self.slots.push_reserved(None);
-        self.free.push_reserved(slot);
+        push_slots(count, &mut self.slots, &mut self.free);
         Ok(())
     }
 
-    /// Takes memory at once for so many slots that are still to be made.
-    fn make_room(&mut self, more: usize) -> Result<(), NoMemory>
-        ensures same { self.new.list ≡ self.old.list }
-        ensures others { self.new.others ≡ self.old.others }
-        ensures kept { self.new.spare ≡ self.old.spare }
-    {
-        make_room(
-            more,
-            &mut self.slots,
-            &mut self.order,
-            &mut self.free,
-            &mut self.others,
-        )
-    }
-
-    /// Makes room for `more` elements, in every order: each list takes its memory once. The list stays as it was, and the
-    /// room never shrinks.
+    /// Makes room for `more` elements, in every order. Where some is missing, room for a sixteenth of the slots is made beyond
+    /// it, so that the next calls find it. The list stays as it was, and the room never shrinks.
+    /// Cost: a comparison where there is room; over many calls, constant for each element and order.
     pub fn reserve(&mut self, more: u64) -> Result<(), NoMemory>
         ensures same { self.new.list ≡ self.old.list }
         ensures others { self.new.others ≡ self.old.others }
         ensures room { OnOk result (more ≤ self.new.spare) }
         ensures kept { self.old.spare ≤ self.new.spare }
     {
-        let missing = more.saturating_sub(self.spare());
-        if missing > 1 {
-            self.make_room(missing as usize)?;
-        }
-        for _ in self.spare()..more {
-            self.add_slot()?;
+        let spare = self.spare();
+        if more > spare {
+            self.add_slots(more - spare)?;
         }
         Ok(())
     }

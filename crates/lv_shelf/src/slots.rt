@@ -1,8 +1,8 @@
 //! Slots, and the elements in them.
-ghost use Rattle.std.specs.Prelude.{◌≡◌, ◌≤◌, ◌<◌, ◌+◌, ◌-◌, ◌++◌, ◌∷◌, [], length, slice_get, slice_set, slice_index_or, filter, true, false, Some, None, if◌then◌else◌, vec_capacity};
+ghost use Rattle.std.specs.Prelude.{◌≡◌, ◌≤◌, ◌<◌, ◌+◌, ◌-◌, ◌^◌, ◌++◌, ◌∷◌, [], length, slice_get, slice_set, slice_index_or, drop, take, filter, replicate, true, false, Some, None, if◌then◌else◌, vec_capacity};
 ghost use Rattle.std.specs.List.{AllByRecursion};
 ghost use Rattle.lv_shelf.specs.Cuts.{Falls, IsCut};
-ghost use Rattle.lv_shelf.specs.Shelves.{IsHeld, cleared, clear_of, dropped, is_taken, items_at, passes_in, slot_of};
+ghost use Rattle.lv_shelf.specs.Shelves.{IsHeld, cleared, clear_of, dropped, falling, is_taken, items_at, passes_in, slot_of};
 
 use crate::guessing::count_up_to;
 use crate::ranked_places::RankedPlaces;
@@ -41,6 +41,25 @@ pub(crate) fn set_slot<T: Drop>(slots: &mut Vec<Option<T>>, slot: u32, item: T)
     ensures { slots.new.items ≡ slice_set slots.old.items slot (Some item) }
 {
     slots[slot as usize] = Some(item);
+}
+
+/// Makes so many empty slots in the room that there is, and lists them as free. The lowest of them is listed last, and so is
+/// taken first: elements that come one after another lie in rising slots.
+pub(crate) fn push_slots<T>(count: usize, slots: &mut Vec<Option<T>>, free: &mut Vec<u32>)
+    requires numbers { length slots.old.items + count ≤ 2 ^ 32 }
+    requires slots_room { length slots.old.items + count ≤ vec_capacity slots.old }
+    requires free_room { length free.old.items + count ≤ vec_capacity free.old }
+    ensures slots { slots.new.items ≡ slots.old.items ++ replicate count None }
+    ensures free { free.new.items ≡ free.old.items ++ falling (length slots.old.items) count }
+    ensures capacity { vec_capacity free.new ≡ vec_capacity free.old }
+{
+    let first = slots.len();
+    let mut left = count;
+    while left > 0 {
+        left -= 1;
+        slots.push_reserved(None);
+        free.push_reserved((first + left) as u32);
+    }
 }
 
 /// Whether a slot has an element that passes.
@@ -111,17 +130,7 @@ pub(crate) fn cut_at<T, P: Test<T>>(test: &P, slots: &[Option<T>], places: &Rank
     if is_cut_at(test, slots, places, len) {
         return len;
     }
-    let mut low = 0;
-    let mut high = len;
-    while low < high {
-        let middle = low + (high - low) / 2;
-        if test.passes(item_at(slots, places, middle)) {
-            low = middle + 1;
-        } else {
-            high = middle;
-        }
-    }
-    low
+    cut_between(test, slots, places, 0, len)
 }
 
 /// Whether the elements in some slots pass a test up to a place and fail it from there on. Cost: two looks.
@@ -138,8 +147,8 @@ fn is_cut_at<T, P: Test<T>>(test: &P, slots: &[Option<T>], places: &RankedPlaces
     at == places.len() || !test.passes(item_at(slots, places, at))
 }
 
-/// About how many of the elements in some slots pass a test: as many, where those before one place pass and those from another
-/// one on do not. Cost: a look for each time that the places between halve.
+/// Up to which place, from `first` on and not behind `end`, the elements in some slots pass a test that no later one passes
+/// where an earlier one fails. Cost: a look for each time that the places between halve.
 fn cut_between<T, P: Test<T>>(
     test: &P,
     slots: &[Option<T>],
@@ -148,9 +157,12 @@ fn cut_between<T, P: Test<T>>(
     end: usize,
 ) -> usize
     requires held { AllByRecursion (IsHeld slots.now) places.now.list }
+    requires falls { Falls (P.passed test.now) (items_at slots.now places.now.list) }
     requires order { first ≤ end }
     requires end { end ≤ length places.now.list }
-    ensures within { result ≤ length places.now.list }
+    ensures first { first ≤ result }
+    ensures end { result ≤ end }
+    ensures cut { IsCut (P.passed test.now) (result - first) (take (end - first) (drop first (items_at slots.now places.now.list))) }
 {
     let mut low = first;
     let mut high = end;

@@ -11,10 +11,11 @@ use Rattle.lv_schema.proofs.Apart.{all_filter, all_weaker}
 use Rattle.lv_schema.specs.declared.version.RowVersion.{RowVersion}
 use Rattle.lv_shelf.specs.Cuts.{Apart, Falls, IsCut}
 use Rattle.lv_shelf.specs.Shelves.{ChangesOnly, LacksItem}
-use Rattle.lv_shelf.proofs.Cutting.{all_kept, cut_from, got, got_within, passed_up_to}
+use Rattle.lv_shelf.proofs.Cutting.{all_kept, cut_from, cut_long, got, got_within, passed_up_to}
 use Rattle.lv_versions.specs.Versions.{EndsAtMost, HasEnded, IsBy, Precedes, comes_before, ends_after, is_at, current_of, is_current, is_open, state_at}
 use Rattle.lv_versions.proofs.Cleaning.{changes_one}
 use Rattle.lv_versions.proofs.Ending.{Closed, closed_current}
+use Rattle.lv_versions.proofs.Keeping.{item_there}
 use Rattle.lv_versions.proofs.Standing.{true_not_false}
 
 -- ---- what a reader sees of them
@@ -114,7 +115,7 @@ first_of : (a b : Bool) → (a && b) ≡ true → a ≡ true
 first_of true b h = refl
 first_of false b h = cc
 
-pub left_current : (ps : List ℕ) (row : List Value) (number at k : ℕ) (vs shown : List RowVersion) (item : RowVersion) → Apart (Precedes ps) vs → slice_get vs at ≡ Some item → is_current ps row number item ≡ true
+left_current : (ps : List ℕ) (row : List Value) (number at k : ℕ) (vs shown : List RowVersion) (item : RowVersion) → Apart (Precedes ps) vs → slice_get vs at ≡ Some item → is_current ps row number item ≡ true
     → IsCut (comes_before ps row number) (at + 1) vs → shown ≡ filter is_open vs → IsCut (comes_before ps row number) k shown → Left is_open (comes_before ps row number) (Closed ps number row) k item vs
 left_current ps row number at k vs shown item stand e h cut is cut' =
     let next : suc at ≡ at + 1 = omega arith in
@@ -124,6 +125,29 @@ left_current ps row number at k vs shown item stand e h cut is cut' =
     (first_of (is_none item.until) (nat_lt item.from number && same_key ps item.row row) h)
     (ap is_open (closed_current ps number row item h))
     (subst (IsCut (comes_before ps row number) k) is cut')
+
+-- it leaves the order of those that have not ended, which is kept: it is the last one there before the row's place
+pub record Leaves (ps : List ℕ) (row : List Value) (number k : ℕ) (kept : Bool) (vs shown : List RowVersion) : Type 0 where
+  pub some : 0 < k
+  pub within : k - 1 < length shown
+  pub rest : map (Closed ps number row) (remove shown (k - 1)) ≡ current_of kept (map (Closed ps number row) vs)
+  pub cut : IsCut (comes_before ps row number) (k - 1) (current_of kept (map (Closed ps number row) vs))
+
+pub leaving : (ps : List ℕ) (row : List Value) (number at k : ℕ) (kept : Bool) (vs shown : List RowVersion) → kept ≡ true → Apart (Precedes ps) vs → IsCut (comes_before ps row number) (at + 1) vs
+    → ((v : RowVersion) → slice_get vs at ≡ Some v → is_current ps row number v ≡ true) → shown ≡ current_of kept vs → IsCut (comes_before ps row number) k shown → Leaves ps row number k kept vs shown
+leaving ps row number at k kept vs shown t stand cut is these cut' =
+    let before = comes_before ps row number in
+    let f = Closed ps number row in
+    let item = item_there vs at (omega (arith, cut_long before (at + 1) vs cut)) in
+    let current : shown ≡ filter is_open vs = these ∙ ap (λ b. current_of b vs) t in
+    let left = left_current ps row number at k vs shown item.0 stand item.1 (is item.0 item.1) cut current cut' in
+    let place : k - 1 ≡ left.place = omega (arith, left.is) in
+    record {
+      some = omega (arith, left.is);
+      within = omega (arith, left.is, got_within (filter is_open vs) left.place item.0 left.there, ap length current);
+      rest = ap (map f) (ap₂ (λ l i. remove l i) current place) ∙ left.rest ∙ sym (ap (λ b. current_of b (map f vs)) t);
+      cut = subst (λ b. IsCut before (k - 1) (current_of b (map f vs))) (sym t) (subst (λ i. IsCut before i (filter is_open (map f vs))) (sym place) left.cut);
+    }
 
 -- one that passes is put in
 module _ {X : Type 0} (p c : X → Bool) where

@@ -1,5 +1,5 @@
 //! The versions that a reader looks at.
-ghost use Rattle.std.specs.Prelude.{◌≡◌, ◌≤◌, ◌<◌, ◌+◌, length, slice_get, drop, take, Some, true};
+ghost use Rattle.std.specs.Prelude.{◌≡◌, ◌≤◌, ◌<◌, ◌+◌, length, slice_get, drop, take, Some, true, false};
 ghost use Rattle.lv_shelf.specs.Cuts.{Falls, IsCut};
 ghost use Rattle.lv_shelf.specs.Shelves.{other_at};
 
@@ -100,7 +100,8 @@ impl<'a> Seen<'a> {
     fn is_last<P: Test<RowVersion>>(&self, at: usize, test: &P) -> bool
         requires falls { Falls (P.passed test.now) self.now }
         requires within { at < length self.now }
-        ensures { result ≡ true → IsCut (P.passed test.now) (at + 1) self.now }
+        ensures cut { result ≡ true → IsCut (P.passed test.now) (at + 1) self.now }
+        ensures other { result ≡ false → IsCut (P.passed test.now) (at + 1) self.now → ⊥ }
     {
         let len = self.len();
         let next = at + 1;

@@ -25,8 +25,10 @@ use std::marker::Model;
 use std::sync::ledger::Ledger;
 
 /// A table's rows after each commit. It may have indexes, by columns of which `probe` is asked: they make it faster, and
-/// its answers are the same. A search looks at ranks, which lie close together, and at few rows (`Shelf::cut_near`). A move of small numbers, in the costs below, is one of at most 512 numbers, and of one
-/// more for each 1,024 versions behind the place.
+/// its answers are the same. From the first commit on that finds 1,024 ended versions or more, and four for each that has
+/// not ended, an order of those that have not is kept (`keep_current`). A search looks at ranks, which lie close together,
+/// and at few rows (`Shelf::cut_near`). A move of small numbers, in the costs below, is one of at most 512 numbers, and of
+/// one more for each 1,024 versions behind the place.
 #[derive(Drop)]
 pub struct Versions {
     def: TableDef,
@@ -101,8 +103,8 @@ impl Versions {
         }
     }
 
-    /// The rows after commit n, in the order of their keys. Cost: one pass over the versions, from the last commit on over
-    /// those alone that have not ended, and a copy of each row.
+    /// The rows after commit n, in the order of their keys. Cost: one pass over all versions, or, from the last commit on and
+    /// where the order of those that have not ended is kept, over those alone, and a copy of each row.
     pub fn scan<L: Ledger>(
         &self,
         alloc: Global,
@@ -120,9 +122,10 @@ impl Versions {
     }
 
     /// Those rows of `scan` that pass. Where all that pass have first key values no less than some, or no greater than some,
-    /// those may be given. Cost: two binary searches, or one for one row from the last commit on, and one pass over those
-    /// versions between these values that `scan` goes over, with a copy of each row that passes; a step is taken for each
-    /// row between them, which is tested, and for no other.
+    /// those may be given. Cost: two binary searches, or one where one of the versions that `scan` goes over is between these
+    /// values, and one pass over those of them that are, with a copy of each row that passes. Only where the order of those
+    /// that have not ended is kept, and from the last commit on, are ended ones left out. A step is taken for each row between
+    /// these values, which is tested, and for no other.
     pub fn scan_between<L: Ledger, T: Test<Row>>(
         &self,
         alloc: Global,
@@ -241,7 +244,8 @@ impl Versions {
 
     /// Commits a net change. It takes no memory. Cost: a binary search for each key of a row that goes or comes, where
     /// these are in the order of their keys, and a move of small numbers for each that comes, with a search and a move
-    /// more in each index.
+    /// more in each index, and in the order of the versions that have not ended where it is kept. The commit from which on it
+    /// is kept begins with one pass over all versions.
     pub fn commit(&mut self, number: u64, net: Net)
         requires later { self.old.last < number }
         requires above { self.old.floor < number }

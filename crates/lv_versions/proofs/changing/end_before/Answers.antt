@@ -1,10 +1,8 @@
-use Rattle.std.proofs.Common.{◌≡◌, ◌-◌, ◌+◌, suc, Some, true, sym, subst, ◌∙◌, arith}
-use Rattle.std.specs.Prelude.{slice_get}
-use Rattle.lv_schema.specs.declared.version.RowVersion.{RowVersion}
+use Rattle.std.proofs.Common.{◌≡◌, ◌-◌, ◌+◌, suc, true, sym, subst, ◌∙◌, arith}
 use Rattle.lv_shelf.specs.Cuts.{IsCut}
 use Rattle.lv_versions.specs.Versions.{comes_before, is_current, new_version}
 use Rattle.lv_versions.proofs.Ending.{none_ended, not_ended_here}
-use Rattle.lv_versions.proofs.Keeping.{orders_have, same_item, some_version}
+use Rattle.lv_versions.proofs.Keeping.{same_item, some_version}
 use Rattle.lv_versions.proofs.changing.end_before.Goals as goal
 use Rattle.lv_versions.proofs.changing.end_before.Goals.{else-at-gt0-via-then-at-gt0+else-is_current, else-at-gt0-via-else-at-gt0}
 

@@ -1,4 +1,4 @@
-use Rattle.std.proofs.Common.{◌<◌, length, subst, sym, ◌∙◌}
+use Rattle.std.proofs.Common.{◌<◌, length, subst, sym}
 use Rattle.lv_versions.specs.Versions.{AreOrders}
 use Rattle.lv_versions.proofs.Keeping.{orders_apart, orders_have, some_orders}
 use Rattle.lv_versions.proofs.crowding.keep_current.Goals as goal

@@ -1,7 +1,6 @@
-use Rattle.std.proofs.Common.{◌≡◌, filter, sym, ap, ◌∙◌, subst}
+use Rattle.std.proofs.Common.{sym, ap, ◌∙◌, subst}
 use Rattle.lv_schema.proofs.Apart.{apart_filter}
 use Rattle.lv_shelf.specs.Cuts.{Apart}
-use Rattle.lv_shelf.specs.Shelves.{other_at}
 use Rattle.lv_versions.specs.Versions.{Precedes, current_of, is_open, state_at}
 use Rattle.lv_versions.proofs.Current.{open_rows}
 use Rattle.lv_versions.proofs.versions.Versions.seen.Goals as goal
