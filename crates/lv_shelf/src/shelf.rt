@@ -230,7 +230,7 @@ impl<T: Drop> Shelf<T> {
     }
 
     /// Puts an element with a rank at a place, before those from there on. It comes into no further order. It takes no
-    /// memory. Cost: a move of at most 512 numbers of slots, and of one more for each 1,024 behind.
+    /// memory. Cost: a move of small numbers, as of `Places::insert`.
     pub fn insert(&mut self, at: usize, item: T, rank: i64)
         requires room { 0 < self.old.spare }
         requires place { at ≤ length self.old.list }

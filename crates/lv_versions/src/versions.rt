@@ -28,7 +28,7 @@ use std::sync::ledger::Ledger;
 /// its answers are the same. From the first commit on that finds 1,024 ended versions or more, and four for each that has
 /// not ended, an order of those that have not is kept (`keep_current`). A search looks at ranks, which lie close together,
 /// and at few rows (`Shelf::cut_near`). A move of small numbers, in the costs below, is one of at most 512 numbers, and of
-/// one more for each 1,024 versions behind the place.
+/// one more for each 1,024 versions behind the place; of more than 65,536 versions, of at most 4,096, and one for each 8,192.
 #[derive(Drop)]
 pub struct Versions {
     def: TableDef,

@@ -244,7 +244,7 @@ impl ViewRows {
     /// Installs a change, whose commits end at `hi`: from there on the rows are those before with it, and below they stay.
     /// It takes no memory. Cost: for each changed row a search from the place of the one before it, of about
     /// log (versions / changed rows) comparisons where these are spread evenly and never more than twice log (versions); and
-    /// for each that comes a move of at most 512 four-byte places, and of one more for each 1,024 versions behind.
+    /// for each that comes a move of small numbers, as of `Shelf::insert`.
     pub fn install(&mut self, hi: u64, changes: Signed)
         requires change { CanInstall self.old hi changes }
         requires room { length changes ≤ self.old.spare }
