@@ -5,14 +5,19 @@ use lv_values::{NoMemory, Text};
 use std::alloc::Global;
 use std::test::Fail;
 
-/// A line of a word, a number, a text, a sign and a word.
-fn written(alloc: Global) -> Result<Text, NoMemory> {
-    let mut writer = Writer::new(alloc);
+/// Writes a word, a number, a text, a sign and a word.
+fn write_line(alloc: Global, writer: &mut Writer) -> Result<(), NoMemory> {
     writer.word("limit")?;
     writer.number(18)?;
-    writer.text(alloc, &Text::from_str(alloc, "it's")?)?;
+    let text = Text::from_str(alloc, "it's")?;
+    writer.text(alloc, &text)?;
     writer.sign("(")?;
-    writer.word("x")?;
+    writer.word("x")
+}
+
+fn written(alloc: Global) -> Result<Text, NoMemory> {
+    let mut writer = Writer::new(alloc);
+    write_line(alloc, &mut writer)?;
     writer.finish(alloc)
 }
 

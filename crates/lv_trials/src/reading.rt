@@ -4,8 +4,8 @@ ghost use Rattle.lv_reading.specs.Numbers.{natural};
 ghost use Rattle.lv_reading.specs.Reading.{begins};
 
 use lv_reading::{Cursor, Part, Repeated, Stop, read_many, read_separated, read_times};
+use lv_values::Items;
 use std::alloc::Global;
-use std::test::Fail;
 
 fn signed_in(bytes: &[u8]) -> Option<i128> {
     let mut cursor = Cursor::new(bytes);
@@ -20,14 +20,36 @@ fn natural_in(bytes: &[u8]) -> Option<u64> {
 }
 
 #[test]
-fn numbers(rt: HostRuntime) {
-    let least = b"-170141183460469231731687303715884105728".as_slice();
-    assert_eq!(rt; signed_in(least), Some(i128::MIN));
-    assert_eq!(rt; signed_in(b"-7"), Some(-7));
-    assert_eq!(rt; natural_in(b"18446744073709551615"), Some(u64::MAX));
-    assert_eq!(rt; natural_in(b"18446744073709551616"), None);
-    assert_eq!(rt; Cursor::new(b"4294967295;").small(), Ok(u32::MAX));
-    assert_eq!(rt; Cursor::new(b"4294967296;").small(), Err(Stop::Bad));
+fn signed_numbers(rt: HostRuntime) {
+    for (bytes, wanted) in [
+        (
+            b"-170141183460469231731687303715884105728".as_slice(),
+            Some(i128::MIN),
+        ),
+        (b"-7", Some(-7)),
+    ] {
+        assert_eq!(rt; signed_in(bytes), wanted);
+    }
+}
+
+#[test]
+fn natural_numbers(rt: HostRuntime) {
+    for (bytes, wanted) in [
+        (b"18446744073709551615", Some(u64::MAX)),
+        (b"18446744073709551616", None),
+    ] {
+        assert_eq!(rt; natural_in(bytes), wanted);
+    }
+}
+
+#[test]
+fn small_numbers(rt: HostRuntime) {
+    for (bytes, wanted) in [
+        (b"4294967295;", Ok(u32::MAX)),
+        (b"4294967296;", Err(Stop::Bad)),
+    ] {
+        assert_eq!(rt; Cursor::new(bytes).small(), wanted);
+    }
 }
 
 /// A number that follows `#`.
@@ -55,21 +77,21 @@ impl Repeated<u64> for Marked {
     }
 }
 
+/// Whether this was read.
+fn is_read(read: Result<Items<u64>, Stop>, wanted: &[u64]) -> bool {
+    read.is_ok_and(|read| read.as_slice() == wanted)
+}
+
 #[test]
-fn parts(rt: HostRuntime) -> Result<(), Fail> {
+fn parts(rt: HostRuntime) {
     let alloc = rt.alloc();
     let mut cursor = Cursor::new(b"#1#20#300;#4,#5#6#7");
-    let many = read_many(alloc, &Marked, &mut cursor).ok().ok_or("many")?;
-    assert_eq!(rt; many.as_slice(), [1, 20, 300].as_slice());
+    let many = read_many(alloc, &Marked, &mut cursor);
+    assert!(rt; is_read(many, &[1, 20, 300]));
     assert_eq!(rt; cursor.expect(b";"), Ok(()));
-    let separated = read_separated(alloc, b",", &Marked, &mut cursor)
-        .ok()
-        .ok_or("separated")?;
-    assert_eq!(rt; separated.as_slice(), [4, 5].as_slice());
-    let two = read_times(alloc, &Marked, 2, &mut cursor)
-        .ok()
-        .ok_or("times")?;
-    assert_eq!(rt; two.as_slice(), [6, 7].as_slice());
+    let separated = read_separated(alloc, b",", &Marked, &mut cursor);
+    assert!(rt; is_read(separated, &[4, 5]));
+    let two = read_times(alloc, &Marked, 2, &mut cursor);
+    assert!(rt; is_read(two, &[6, 7]));
     assert!(rt; read_times(alloc, &Marked, 1, &mut cursor).is_err());
-    Ok(())
 }

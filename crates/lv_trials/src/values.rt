@@ -48,12 +48,24 @@ fn lists_with_room(rt: HostRuntime) -> Result<(), Fail> {
     room.edit_each(&Doubled);
     room.keep(&Small);
     assert_eq!(rt; room.as_slice(), [2u64].as_slice());
+    Ok(())
+}
+
+#[test]
+fn lists(rt: HostRuntime) -> Result<(), Fail> {
     let mut items = Items::from_slice(rt.alloc(), &[9u64, 2])?;
     items.keep(&Small);
     items.edit_each(&Doubled);
     assert_eq!(rt; items.as_slice(), [4u64].as_slice());
+    Ok(())
+}
+
+#[test]
+fn boxes_are_copied(rt: HostRuntime) -> Result<(), Fail> {
     let boxed = Boxed::new(rt.alloc(), 7u64)?;
-    assert_eq!(rt; boxed.copy(rt.alloc())?.into_inner(), 7);
+    let copy = boxed.copy(rt.alloc());
+    drop(boxed);
+    assert_eq!(rt; copy?.into_inner(), 7);
     Ok(())
 }
 

@@ -60,8 +60,21 @@ fn open(alloc: Global, bytes: &[u8]) -> Opened {
 }
 
 #[test]
-fn damaged_files_are_refused_with_a_place(rt: HostRuntime) -> Result<(), Fail> {
-    assert_eq!(rt; open(rt.alloc(), WORKED), Opened::Records(2));
+fn damaged_files_are_refused_with_a_place(rt: HostRuntime) {
+    for (bytes, want) in [
+        (WORKED, Opened::Records(2)),
+        (b"LVJRNL02\x00", Opened::Bad(0)),
+        (b"LVJRNL01\x02\x01", Opened::Records(0)),
+        (b"LVJRNL01\x01\x00\x00\x00\x00", Opened::Bad(9)),
+        (b"LVJRNL01\x01\xff\xff\xff\xff\x00", Opened::Bad(9)),
+    ] {
+        let length = bytes.len();
+        assert_eq!(rt; open(rt.alloc(), bytes), want, "{length} bytes");
+    }
+}
+
+#[test]
+fn cut_files_are_refused_with_a_place(rt: HostRuntime) {
     for (length, want) in [
         (0, Opened::Records(0)),
         (3, Opened::Bad(0)),
@@ -74,17 +87,6 @@ fn damaged_files_are_refused_with_a_place(rt: HostRuntime) -> Result<(), Fail> {
         let front = WORKED.get(..length).unwrap_or(b"");
         assert_eq!(rt; open(rt.alloc(), front), want, "cut to {length}");
     }
-    assert_eq!(rt; open(rt.alloc(), b"LVJRNL02\x00"), Opened::Bad(0));
-    assert_eq!(rt; open(rt.alloc(), b"LVJRNL01\x02\x01"), Opened::Records(0));
-    assert_eq!(rt;
-        open(rt.alloc(), b"LVJRNL01\x01\x00\x00\x00\x00"),
-        Opened::Bad(9)
-    );
-    assert_eq!(rt;
-        open(rt.alloc(), b"LVJRNL01\x01\xff\xff\xff\xff\x00"),
-        Opened::Bad(9)
-    );
-    Ok(())
 }
 
 /// A new journal, ready to be written.
@@ -105,16 +107,20 @@ fn put(journal: &mut Journal<MemDisk>, payload: &[u8]) -> bool {
     journal.reserve(payload.len() as u64).is_ok() && journal.put(payload).is_ok()
 }
 
+/// Puts the two records: whether the first stands, what the second needs, whether it stands, and how many faults there are.
+fn put_both(journal: &mut Journal<MemDisk>) -> (bool, u64, bool, u64) {
+    let first = put(journal, TABLE);
+    let need = journal.need(38);
+    let second = put(journal, COMMIT);
+    (first, need, second, journal.faults())
+}
+
 #[test]
 fn two_records_make_the_worked_file(rt: HostRuntime) -> Result<(), Fail> {
-    let Some(mut journal) = new_journal(rt.alloc()) else {
-        return Err(Fail::from(NoMemory));
-    };
-    assert!(rt; put(&mut journal, TABLE));
-    assert_eq!(rt; journal.need(38), 77);
-    assert!(rt; put(&mut journal, COMMIT));
-    assert_eq!(rt; journal.faults(), 0);
+    let mut journal = new_journal(rt.alloc()).ok_or(NoMemory)?;
+    let went = put_both(&mut journal);
     let disk = journal.into_disk();
+    assert_eq!(rt; went, (true, 77, true, 0));
     assert_eq!(rt; disk.bytes(), WORKED);
     Ok(())
 }

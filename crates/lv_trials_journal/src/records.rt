@@ -17,13 +17,14 @@ const MARK: &[u8] = b"\x04\x00\x02\x01\x00\x00\x00\x00\x00\x00";
 
 /// The record that the bytes spell, written again.
 fn again(alloc: Global, bytes: &[u8]) -> Option<Bytes> {
-    let Ok(Some(rec)) = decode(alloc, bytes) else {
-        return None;
+    let rec = decode(alloc, bytes).ok()??;
+    let written = if size(&rec) < 4294967296 {
+        encode(alloc, &rec).ok()
+    } else {
+        None
     };
-    if size(&rec) >= 4294967296 {
-        return None;
-    }
-    encode(alloc, &rec).ok()
+    drop(rec);
+    written
 }
 
 /// Whether the bytes spell a record, which is written in the same way.

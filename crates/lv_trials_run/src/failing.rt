@@ -152,88 +152,93 @@ fn each_failing_call_of_the_disk_is_survived(rt: HostRuntime) -> Result<(), Fail
     Ok(())
 }
 
-/// Whether a run over empty disks in memory ends so.
-fn ends_as<R: Threads + Wait + Sync>(
-    rt: &R,
-    alloc: Global,
-    words: &[&str],
-    script: &[u8],
-    source_fails: &[u64],
+/// A run over empty disks in memory, and how it is to end.
+struct Case {
+    words: &'static [&'static str],
+    script: &'static [u8],
+    source_fails: &'static [u64],
     disk_fails: u64,
     status: Status,
-) -> Result<bool, NoMemory> {
+}
+
+static CASES: [Case; 8] = [
+    Case {
+        words: &["--combine", "0"],
+        script: b"\xff",
+        source_fails: &[1],
+        disk_fails: 1,
+        status: Status::Words,
+    },
+    Case {
+        words: &["--log", ""],
+        script: b"",
+        source_fails: &[],
+        disk_fails: 9,
+        status: Status::Words,
+    },
+    Case {
+        words: &["--make", "9", "--threads"],
+        script: b"",
+        source_fails: &[],
+        disk_fails: 9,
+        status: Status::Words,
+    },
+    Case {
+        words: &[],
+        script: AGAIN,
+        source_fails: &[2],
+        disk_fails: 1,
+        status: Status::SourceFault,
+    },
+    Case {
+        words: &[],
+        script: b"\xff",
+        source_fails: &[],
+        disk_fails: 1,
+        status: Status::Script { line: 1, kind: 1 },
+    },
+    Case {
+        words: &[],
+        script: AGAIN,
+        source_fails: &[],
+        disk_fails: 1,
+        status: Status::OpenFault,
+    },
+    Case {
+        words: &["--log", "x"],
+        script: AGAIN,
+        source_fails: &[],
+        disk_fails: 9,
+        status: Status::Done,
+    },
+    Case {
+        words: &["--make", "9"],
+        script: b"\xff",
+        source_fails: &[1],
+        disk_fails: 9,
+        status: Status::Done,
+    },
+];
+
+/// Whether a run ends so.
+fn ends_so<R: Threads + Wait + Sync>(rt: &R, alloc: Global, case: &Case) -> Result<bool, NoMemory> {
     let mut fails = Items::new(alloc);
-    fails.push(disk_fails)?;
+    fails.push(case.disk_fails)?;
     let mut disks = MemDisks::new(alloc, fails);
     let given = Given {
-        words,
-        script,
-        source_fails,
+        words: case.words,
+        script: case.script,
+        source_fails: case.source_fails,
         sink_fails: &[],
     };
     let left = run_over(rt, alloc, &given, &mut disks, &FreeGate)?;
-    Ok(left.status == status)
+    Ok(left.status == case.status)
 }
 
 #[test]
 fn each_status_comes_before_the_next(rt: HostRuntime) -> Result<(), Fail> {
-    assert!(rt;
-        ends_as(
-            &rt,
-            rt.alloc(),
-            &["--combine", "0"],
-            b"\xff",
-            &[1],
-            1,
-            Status::Words
-        )?
-    );
-    assert!(rt; ends_as(&rt, rt.alloc(), &["--log", ""], b"", &[], 9, Status::Words)?);
-    assert!(rt;
-        ends_as(
-            &rt,
-            rt.alloc(),
-            &["--make", "9", "--threads"],
-            b"",
-            &[],
-            9,
-            Status::Words
-        )?
-    );
-    assert!(rt; ends_as(&rt, rt.alloc(), &[], AGAIN, &[2], 1, Status::SourceFault)?);
-    assert!(rt;
-        ends_as(
-            &rt,
-            rt.alloc(),
-            &[],
-            b"\xff",
-            &[],
-            1,
-            Status::Script { line: 1, kind: 1 }
-        )?
-    );
-    assert!(rt; ends_as(&rt, rt.alloc(), &[], AGAIN, &[], 1, Status::OpenFault)?);
-    assert!(rt;
-        ends_as(
-            &rt,
-            rt.alloc(),
-            &["--log", "x"],
-            AGAIN,
-            &[],
-            9,
-            Status::Done
-        )?
-    );
-    assert!(rt;
-        ends_as(
-            &rt,
-            rt.alloc(),
-            &["--make", "9"],
-            b"\xff",
-            &[1],
-            9,
-            Status::Done
-        )?
-    );
+    for at in 0..CASES.len() {
+        assert!(rt; ends_so(&rt, rt.alloc(), &CASES[at])?, "case {at}");
+    }
     Ok(())
 }

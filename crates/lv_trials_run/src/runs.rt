@@ -60,19 +60,34 @@ pub(crate) fn disk_of(
     Ok(MemDisk::new(Bytes::from_slice(alloc, bytes)?, list))
 }
 
-/// Runs a script over disks.
-pub(crate) fn run_with<
-    R: Threads + Wait + Sync,
-    D: Disk + Send + Drop,
-    O: Disks<Disk = D>,
-    G: Gate + Sync,
->(rt: &R, alloc: Global, given: &Given<'_>, disks: &mut O, gate: &G) -> Result<Ended<D>, NoMemory>
-    requires { (O.openings disks.old).asked < 2 ^ 64 - 1 }
-{
+/// These words.
+fn words_of(alloc: Global, list: &[&str]) -> Result<Items<Text>, NoMemory> {
     let mut words = Items::new(alloc);
-    for word in given.words {
+    for word in list {
         words.push(Text::from_str(alloc, word)?)?;
     }
+    Ok(words)
+}
+
+/// A source that gives the script, of which calls fail as given.
+fn source_of(alloc: Global, given: &Given<'_>) -> Result<MemSource, NoMemory> {
+    let fails = numbers(alloc, given.source_fails)?;
+    let script = Bytes::from_slice(alloc, given.script)?;
+    Ok(MemSource::new(script, fails))
+}
+
+/// Runs with a picker of each kind. A function of its own, so that no way out of it lets go of what the run reads and writes.
+fn run_picked<R: Threads + Wait + Sync, D: Disk + Send + Drop, O: Disks<Disk = D>, G: Gate + Sync>(
+    rt: &R,
+    alloc: Global,
+    words: &[Text],
+    source: &mut MemSource,
+    sink: &mut MemSink,
+    disks: &mut O,
+    gate: &G,
+) -> Result<Ran<D>, NoMemory>
+    requires { (O.openings disks.old).asked < 2 ^ 64 - 1 }
+{
     let oldest: Choice = Box::new(
         alloc,
         |list: &[Pending]| -> usize
@@ -98,21 +113,23 @@ pub(crate) fn run_with<
     pickers.push(Picker::new(0, oldest))?;
     pickers.push(Picker::new(1, most))?;
     pickers.push(Picker::new(2, first))?;
-    let mut source = MemSource::new(
-        Bytes::from_slice(alloc, given.script)?,
-        numbers(alloc, given.source_fails)?,
-    );
+    Ok(run(rt, alloc, words, source, sink, disks, pickers, gate))
+}
+
+/// Runs a script over disks.
+pub(crate) fn run_with<
+    R: Threads + Wait + Sync,
+    D: Disk + Send + Drop,
+    O: Disks<Disk = D>,
+    G: Gate + Sync,
+>(rt: &R, alloc: Global, given: &Given<'_>, disks: &mut O, gate: &G) -> Result<Ended<D>, NoMemory>
+    requires { (O.openings disks.old).asked < 2 ^ 64 - 1 }
+{
+    let words = words_of(alloc, given.words)?;
+    let mut source = source_of(alloc, given)?;
     let mut sink = MemSink::new(alloc, numbers(alloc, given.sink_fails)?);
-    let Ran { status, disk } = run(
-        rt,
-        alloc,
-        words.as_slice(),
-        &mut source,
-        &mut sink,
-        disks,
-        pickers,
-        gate,
-    );
+    let words = words.as_slice();
+    let Ran { status, disk } = run_picked(rt, alloc, words, &mut source, &mut sink, disks, gate)?;
     let text = Bytes::from_slice(alloc, sink.written())?;
     Ok(Ended { status, text, disk })
 }
