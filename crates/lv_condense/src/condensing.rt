@@ -106,6 +106,22 @@ fn push_run<'a, G: Gathers<'a>>(
     push_gained(alloc, first.first, last.last, net)
 }
 
+/// How many rows the touches may lose: as many as begin with a row that goes.
+fn count_lost(touches: &[Touch<'_>]) -> usize {
+    touches
+        .iter()
+        .filter(|touch| touch.first.kind == ActionKind::Delete)
+        .count()
+}
+
+/// How many rows the touches may gain: as many as end with a row that comes.
+fn count_gained(touches: &[Touch<'_>]) -> usize {
+    touches
+        .iter()
+        .filter(|touch| touch.last.kind == ActionKind::Insert)
+        .count()
+}
+
 /// What touches in the order of their keys come to, key by key, where it is known whether each is of a lower key than the
 /// next one.
 fn gather<'a, G: Gathers<'a>>(
@@ -118,7 +134,7 @@ fn gather<'a, G: Gathers<'a>>(
     ensures lost { IfOk result (λ net. (G.net net).minus ≡ by_key lost_in touches.now) }
     ensures gained { IfOk result (λ net. (G.net net).plus ≡ by_key gained_in touches.now) }
 {
-    let mut net = G::with_room(alloc, touches.len())?;
+    let mut net = G::with_room(alloc, count_lost(touches), count_gained(touches))?;
     let mut at = 0;
     while at < touches.len() {
         let rest = touches.split_at(at).1;

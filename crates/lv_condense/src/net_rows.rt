@@ -14,8 +14,9 @@ pub(crate) trait Gathers<'a>: Drop {
     /// The net change.
     ghost net: { Self → ANet };
 
-    /// No rows, with room for so many in each list, which is taken once.
-    fn with_room(alloc: Global, room: usize) -> Result<Self, NoMemory>
+    /// No rows, with room for so many that are lost and so many that are gained; each list takes its room once, and none
+    /// where no row is expected.
+    fn with_room(alloc: Global, lost: usize, gained: usize) -> Result<Self, NoMemory>
         ensures lost { IfOk result (λ rows. (net rows).minus ≡ []) }
         ensures gained { IfOk result (λ rows. (net rows).plus ≡ []) };
 
@@ -33,10 +34,10 @@ pub(crate) trait Gathers<'a>: Drop {
 impl<'a> Gathers<'a> for Net {
     ghost net = { λ net. net };
 
-    fn with_room(alloc: Global, room: usize) -> Result<Self, NoMemory> {
+    fn with_room(alloc: Global, lost: usize, gained: usize) -> Result<Self, NoMemory> {
         Ok(Net {
-            minus: Rows::from_vec(Vec::with_capacity(alloc, room)?),
-            plus: Rows::from_vec(Vec::with_capacity(alloc, room)?),
+            minus: Rows::from_vec(Vec::with_capacity(alloc, lost)?),
+            plus: Rows::from_vec(Vec::with_capacity(alloc, gained)?),
         })
     }
 
@@ -69,10 +70,10 @@ impl<'a> Model for NetRows<'a> {
 impl<'a> Gathers<'a> for NetRows<'a> {
     ghost net = { λ net. net };
 
-    fn with_room(alloc: Global, room: usize) -> Result<Self, NoMemory> {
+    fn with_room(alloc: Global, lost: usize, gained: usize) -> Result<Self, NoMemory> {
         Ok(NetRows {
-            minus: Vec::with_capacity(alloc, room)?,
-            plus: Vec::with_capacity(alloc, room)?,
+            minus: Vec::with_capacity(alloc, lost)?,
+            plus: Vec::with_capacity(alloc, gained)?,
         })
     }
 

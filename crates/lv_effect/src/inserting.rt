@@ -53,7 +53,8 @@ fn is_taken<L: Ledger>(
     earlier.get(table.no, key).is_some() || row_there(table, base, n, own, key, steps).is_some()
 }
 
-/// The key of the first new row whose key is taken. The keys of the rows before it are kept as writes are.
+/// The key of the first new row whose key is taken. The keys of the rows before it are kept as writes are, but for the last
+/// row's, behind which none comes.
 /// Cost: for each new row three binary searches at most, a copy of its key, and a move of small numbers.
 fn first_taken<L: Ledger>(
     alloc: Global,
@@ -71,13 +72,16 @@ fn first_taken<L: Ledger>(
     ensures cost { steps.new ≤ steps.old + length new.now }
 {
     let mut earlier = Overlay::new(alloc);
-    earlier.reserve(new.len() as u64)?;
-    for row in new {
+    let followed = new.len().saturating_sub(1);
+    earlier.reserve(followed as u64)?;
+    for (at, row) in new.iter().enumerate() {
         let key = key_of(alloc, table.key.as_slice(), row)?;
         if is_taken(table, base, n, own, &key, &earlier, steps) {
             return Ok(Some(key));
         }
-        earlier.put(table.no, key, None);
+        if at < followed {
+            earlier.put(table.no, key, None);
+        }
     }
     Ok(None)
 }
