@@ -4,4 +4,5 @@ pub mod NetChanges
 pub mod Places
 pub mod Prepared
 pub mod Reindexed
+pub mod Spared
 pub mod Told

@@ -6,6 +6,7 @@ use Rattle.std.specs.List.Sorted.{IsPermutation}
 use Rattle.std.specs.Ordering.{is_eq}
 use Rattle.std.specs.declared.cmp.Ordering.{Ordering}
 use Rattle.std.specs.declared.cmp.Ordering.TheVariants.{Less, Equal, Greater}
+use Rattle.std.proofs.lemmas.List.{append-nil}
 use Rattle.std.proofs.lemmas.List.Sorted.{sum_by-IsPermutation}
 use Rattle.lv_values.specs.declared.value.Value.{Value}
 use Rattle.lv_values.specs.Rows.{key_cmp}
@@ -17,7 +18,8 @@ use Rattle.lv_schema.proofs.Apart.{all_both, all_filter}
 use Rattle.lv_schema.proofs.NetsLead.{any_lacking, elements, net_leads, one_of_key, passes}
 use Rattle.lv_schema.proofs.Replay.{ascends_filter}
 use Rattle.lv_stands.specs.Kept.{shown}
-use Rattle.lv_stands.specs.Moves.{rows_after, TableCommits}
+use Rattle.lv_stands.specs.Moves.{no_net, rows_after, TableCommits}
+use Rattle.lv_stands.proofs.Untouched.{lost_none, no_change}
 use Rattle.lv_stands.proofs.Refusals.{rows_counted}
 use Rattle.lv_versions.specs.Versions.{Applies, Kept, lost, new_version, state_at}
 use Rattle.lv_base.specs.Bases.{CanTakeNet, kept_of}
@@ -123,3 +125,14 @@ module _ (m : ℕ) (net : Net) (old : Kept) (takes : CanTakeNet m net old) (newe
       let counted : length before + length net.plus - length net.minus ≡ length takes.leads.after =
       ap (rows_after (length before)) takes.leads.net_is ∙ rows_counted key before takes.leads.after takes.leads.from_up takes.leads.after_up in
       omega (arith, whole, counted, gone_fewer, is, minus, plus, ap length last_is)
+
+-- a net change of no row leaves a table as it is
+pub unchanged : (m : ℕ) (net : Net) (k : Kept) → CanTakeNet m net k → ((n : ℕ) → k.last ≤ n → state_at n k.versions ≡ state_at k.last k.versions) → net ≡ no_net → TableCommits m net (kept_of k) (kept_of k)
+unchanged m net k takes newest is = subst (λ (n : Net). TableCommits m n (kept_of k) (kept_of k)) (sym is) record {
+  def_stays = refl;
+  last_by = omega (arith, takes.by);
+  floor_stays = refl;
+  before = λ n le. refl;
+  from = λ n above. newest n (omega (arith, above, takes.by)) ∙ sym (newest m takes.by) ∙ sym (no_change k.def.key (shown m k.versions) takes.leads.from_up);
+  versions_are = λ f. ap (sum_by f) (sym (append-nil (map (lost (suc m) []) k.versions) ∙ lost_none (suc m) k.versions));
+}

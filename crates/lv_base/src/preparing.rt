@@ -1,6 +1,9 @@
 //! What a commit needs before it is made.
-ghost use Rattle.std.specs.Prelude.{◌≡◌, ◌≤◌, ◌<◌, ◌+◌, ◌^◌, ℕ, length, map, IfOk, OnOk};
+ghost use Rattle.std.specs.Prelude.{◌≡◌, ◌≤◌, ◌<◌, ◌+◌, ◌^◌, ℕ, List, length, map, IfOk, OnOk};
 ghost use Rattle.lv_schema.specs.Condensed.{condensed};
+ghost use Rattle.lv_schema.specs.Keys.{writes_table};
+ghost use Rattle.lv_schema.specs.World.{table_at};
+ghost use Rattle.lv_schema.specs.declared.table.TableDef.{TableDef};
 ghost use Rattle.lv_base.specs.Bases.{brought_in, indexes_in, kept_of, net_in, table_in, versions_in};
 
 use crate::ready::Ready;
@@ -8,9 +11,30 @@ use crate::table::Table;
 use crate::tables::count_all;
 use lv_condense::condense_actions;
 use lv_delta::Deltas;
-use lv_schema::{Action, Actions, Net, Nets};
-use lv_values::{Copying, NoMemory};
+use lv_schema::{Action, Actions, Net, Nets, TableDef};
+use lv_values::{Copying, NoMemory, Rows};
 use std::alloc::Global;
+
+/// Whether one of the actions is on a table.
+fn has_action(actions: &[Action], table: u32) -> bool
+    ensures { result ≡ writes_table actions.now table }
+{
+    actions.iter().any(|action| action.table == table)
+}
+
+/// The net change that actions make of a table: of one that no action is on none, at once.
+fn net_change(alloc: Global, table: &TableDef, actions: &[Action]) -> Result<Net, NoMemory>
+    ensures { IfOk result (λ net. (tables : List TableDef) → table_at tables table.now.no ≡ table.now → net ≡ condensed tables actions.now table.now.no) }
+{
+    if has_action(actions, table.no) {
+        condense_actions(alloc, table, actions)
+    } else {
+        Ok(Net {
+            minus: Rows::new(alloc),
+            plus: Rows::new(alloc),
+        })
+    }
+}
 
 /// The net change that actions make of each table. Cost: for each table one comparison of numbers for each action, and
 /// n log n comparisons of keys for the n actions on it.
@@ -19,9 +43,9 @@ fn condense_each(alloc: Global, tables: &[Table], actions: &[Action]) -> Result<
     ensures all { IfOk result (λ nets. length nets ≡ length tables.now) }
     ensures each { IfOk result (λ nets. (t : ℕ) → t < length tables.now → net_in nets t ≡ condensed (map (λ k. k.def) tables.now) actions.now t) }
 {
-    let mut nets = Nets::new(alloc);
+    let mut nets = Nets::from_vec(Vec::with_capacity(alloc, tables.len())?);
     for table in tables {
-        let net = condense_actions(alloc, table.versions().def(), actions)?;
+        let net = net_change(alloc, table.versions().def(), actions)?;
         nets.push(net)?;
     }
     Ok(nets)

@@ -89,7 +89,8 @@ impl Table {
         self.versions.add_index(columns)
     }
 
-    /// Takes a net change as the commit after `last`. It takes no memory.
+    /// Takes a net change as the commit after `last`. It takes no memory. Cost: that of `Versions::commit`; where nothing
+    /// changes, constant.
     pub(crate) fn commit(&mut self, last: u64, net: Net)
         requires takes { CanTakeNet last net self.old }
         requires fits { last + 1 < 2 ^ 64 }
@@ -97,9 +98,12 @@ impl Table {
         ensures indexes { self.new.indexes ≡ self.old.indexes }
         ensures soonest { self.new.soonest ≡ soonest_after self.old.soonest (last + 1) net.minus }
     {
+        self.versions.newest();
+        if net.minus.len() == 0 && net.plus.len() == 0 {
+            return;
+        }
         let gone = net.minus.as_slice().len() as u64;
         let come = net.plus.as_slice().len() as u64;
-        self.versions.newest();
         self.versions.commit(last + 1, net);
         self.rows = self.rows - gone + come;
     }

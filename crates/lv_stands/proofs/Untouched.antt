@@ -22,12 +22,12 @@ none_left : (p : List Value → Bool) (rows : List (List Value)) → AllByRecurs
 none_left p [] a = refl
 none_left p (r ∷ rows) a = rw a.0 (none_left p rows a.1)
 
-no_change : (key : List ℕ) (rows : List (List Value)) → Ascends (key_cmp key) rows → with_net key no_net rows ≡ rows
+pub no_change : (key : List ℕ) (rows : List (List Value)) → Ascends (key_cmp key) rows → with_net key no_net rows ≡ rows
 no_change key rows up =
     let none = none_left (λ r. has_row r rows) rows (elements rows) in
     ap (λ (net : Net). with_net key net rows) (λ i. record { minus = sym none i; plus = sym none i }) ∙ net_leads key rows rows up up
 
-lost_none : (k : ℕ) (vs : List RowVersion) → map (lost k []) vs ≡ vs
+pub lost_none : (k : ℕ) (vs : List RowVersion) → map (lost k []) vs ≡ vs
 lost_none k [] = refl
 lost_none k (v ∷ vs) = ap₂ (λ x xs. x ∷ xs) (ap (λ (u : Option ℕ). record v { until = u }) (by v.until)) (lost_none k vs)
   where

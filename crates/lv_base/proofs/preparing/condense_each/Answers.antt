@@ -19,7 +19,7 @@ loop-table-preserved c =
     let b = c.table-item.is in
     let d = item_is tables at c.table-item.result there in
     cc in
-    let last = condensed_at tables c.args.actions.now at c.def.result.now net (c.requires at there) (c.def.ensures ∙ ap (λ (k : Kept). k.def) versions) c.in_ok-net.ensures.condensed in
+    let last = condensed_at tables c.args.actions.now at c.def.result.now net (c.requires at there) (c.def.ensures ∙ ap (λ (k : Kept). k.def) versions) c.in_ok-net.ensures in
     record {
       all = ap length added ∙ length-append nets (net ∷ []) ∙ ap (λ n. n + 1) c.loop-table.invariant.all;
       each = λ t lt.
