@@ -6,7 +6,7 @@ use Rattle.lv_core.specs.Run.{Gave, rules_of, state_of, view_of}
 use Rattle.lv_core.proofs.Happened.{on_err, roomy}
 use Rattle.lv_core.proofs.Held.{limit_held, roomy_held, setup_held, stands_held}
 use Rattle.lv_core.proofs.MarksNamed.{marked_gave, unknown_gave}
-use Rattle.lv_core.proofs.Undone.{roomy_undone, same_undone, undone_here}
+use Rattle.lv_core.proofs.Undone.{IsLeft, is_left}
 use Rattle.lv_core.proofs.running.Run.mark.Goals as goal
 
 -- a name that is no view's
@@ -37,30 +37,20 @@ undone g c =
     let v = c.args.self.now in
     c.in_err-entry.ensures.case (rules_of v.settings v.program) (state_of v).world (limit_held g.D.Disk.seen g.D.Disk.may_leave g.D.Disk.moment g.D.Disk.left_since g.D.Disk.failures r.policy r.program r.engine r.opening.engine.value r.places r.entries.list r.entries.spare v c.self.invariant.roomy c.self.view_is) (stands_held g.D.Disk.seen g.D.Disk.may_leave g.D.Disk.moment g.D.Disk.left_since g.D.Disk.failures r.policy r.program r.engine r.opening.engine.value r.places r.entries.list r.entries.spare v c.self.invariant.roomy c.self.view_is)
 
-pub invariant_of-self-in_err-entry : goal.invariant_of-self-in_err-entry
-invariant_of-self-in_err-entry g c =
+-- what it leaves
+left : (g : _) (c : goal.After-from_residual-in_err-entry g) → let r = c.self.inside in IsLeft g.D.Disk.seen g.D.Disk.may_leave g.D.Disk.moment g.D.Disk.left_since g.D.Disk.failures c.args.self.now (view_of r.policy r.program c.mark_view.new.engine r.opening.engine.value r.places c.make_room.new.entries.list) c.make_room.new.entries.spare
+left g c =
     let r = c.self.inside in
-    let v = c.args.self.now in
-    record {
-      roomy = roomy_undone g.D.Disk.seen g.D.Disk.may_leave g.D.Disk.moment g.D.Disk.left_since g.D.Disk.failures r.policy r.program r.engine c.mark_view.new.engine r.opening.engine.value r.places r.entries.list c.make_room.new.entries.list v c.self.view_is c.in_ok-make_room.ensures.same (undone g c)
-          r.entries.spare c.make_room.new.entries.spare (roomy_held g.D.Disk.seen g.D.Disk.may_leave g.D.Disk.moment g.D.Disk.left_since g.D.Disk.failures r.policy r.program r.engine r.opening.engine.value r.places r.entries.list r.entries.spare v c.self.invariant.roomy c.self.view_is) c.in_ok-make_room.ensures.kept;
-      length_is = c.self.invariant.length_is;
-      faults_are = c.self.invariant.faults_are;
-    }
+    is_left g.D.Disk.seen g.D.Disk.may_leave g.D.Disk.moment g.D.Disk.left_since g.D.Disk.failures r.policy r.program r.engine c.mark_view.new.engine r.opening.engine.value r.places r.entries.list c.make_room.new.entries.list c.args.self.now c.self.view_is c.in_ok-make_room.ensures.same (undone g c) r.entries.spare c.make_room.new.entries.spare c.self.invariant.roomy c.in_ok-make_room.ensures.kept
+
+pub invariant_of-self-in_err-entry : goal.invariant_of-self-in_err-entry
+invariant_of-self-in_err-entry g c = record { roomy = (left g c).roomy; length_is = c.self.invariant.length_is; faults_are = c.self.invariant.faults_are }
 
 pub returns-in_err-entry-clause-kept : goal.returns-in_err-entry-clause-kept
-returns-in_err-entry-clause-kept g c =
-    let r = c.self.inside in
-    let v = c.args.self.now in
-    on_err c.from_residual-in_err-entry.result _
-    (same_undone g.D.Disk.seen g.D.Disk.may_leave g.D.Disk.moment g.D.Disk.left_since g.D.Disk.failures r.policy r.program r.engine c.mark_view.new.engine r.opening.engine.value r.places r.entries.list c.make_room.new.entries.list v c.self.view_is c.in_ok-make_room.ensures.same (undone g c))
+returns-in_err-entry-clause-kept g c = on_err c.from_residual-in_err-entry.result _ (left g c).same
 
 pub returns-in_err-entry-clause-journal : goal.returns-in_err-entry-clause-journal
-returns-in_err-entry-clause-journal g c =
-    let r = c.self.inside in
-    let v = c.args.self.now in
-    on_err c.from_residual-in_err-entry.result _
-    (undone_here g.D.Disk.seen g.D.Disk.may_leave g.D.Disk.moment g.D.Disk.left_since g.D.Disk.failures r.policy r.program r.engine c.mark_view.new.engine r.opening.engine.value r.places r.entries.list c.make_room.new.entries.list v c.self.view_is c.in_ok-make_room.ensures.same (undone g c))
+returns-in_err-entry-clause-journal g c = on_err c.from_residual-in_err-entry.result _ (left g c).undone
 
 -- a view
 gave_mark : (g : _) (c : goal.After-push-2 g) → let r = c.self.inside in Gave g.D.Disk.seen g.D.Disk.may_leave g.D.Disk.moment g.D.Disk.left_since g.D.Disk.failures (mark_of c.args.view.now) c.args.self.now (view_of r.policy r.program c.mark_view.new.engine r.opening.engine.value r.places c.push-2.new.self.list)

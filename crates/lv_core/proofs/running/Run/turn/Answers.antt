@@ -1,17 +1,23 @@
-use Rattle.std.proofs.Common.{◌≡◌, ◌<◌, ℕ, List, length, ap, ◌∙◌, sym, subst, arith}
+use Rattle.std.proofs.Common.{◌≡◌, ◌<◌, ◌≤◌, ◌+◌, ℕ, List, length, Ok, ap, ◌∙◌, sym, subst, arith}
 use Rattle.std.specs.Prelude.{Result, slice_index}
 use Rattle.lv_schema.specs.declared.bound.Bound.{Bound}
+use Rattle.lv_schema.specs.declared.bound.Bound.TheVariants as bound
+use Rattle.lv_schema.specs.declared.query.Query.{Query as AQuery}
 use Rattle.lv_schema.specs.declared.fault.Fault.{Fault}
 use Rattle.lv_plain.specs.declared.event.Event.TheVariants.{Turn as turn_of}
+use Rattle.lv_bind.specs.Reads.{reads}
 use Rattle.lv_plain.specs.Machine.{steps_of}
-use Rattle.lv_store.specs.Answering.{IsCostBetween}
+use Rattle.lv_plain.specs.Turns.{bound_line}
+use Rattle.lv_store.specs.Answering.{IsCostBetween, ReadsNoTable, ReadsViews}
 use Rattle.lv_store.specs.Inputs.{AreCosts}
 use Rattle.lv_core.specs.Answering.{IsUndone}
-use Rattle.lv_core.specs.Run.{Gave, state_of, view_of}
+use Rattle.lv_engine.specs.Kept.{Stands}
+use Rattle.lv_core.specs.Run.{Gave, next_bound, next_steps, state_of, view_of}
 use Rattle.lv_core.proofs.Happened.{on_err, roomy}
 use Rattle.lv_core.proofs.Held.{combine_held, limit_held, roomy_held, stands_held}
 use Rattle.lv_core.proofs.Turns.{bound_here, next_held, next_line_is, place_held, small_held, turn_taken}
-use Rattle.lv_core.proofs.Undone.{roomy_undone, same_undone, undone_here}
+use Rattle.lv_core.proofs.Undone.{IsLeft, is_left}
+use Rattle.lv_core.proofs.running.Run.turn.Goals.{After-answer_line, After-place_of-place}
 use Rattle.lv_core.proofs.running.Run.turn.Goals as goal
 
 pub place_of-place-requires : goal.place_of-place-requires
@@ -33,45 +39,35 @@ undone g c =
     let v = c.args.self.now in
     c.in_err-answered.ensures.case (state_of v).world v.settings (combine_held g.D.Disk.seen g.D.Disk.may_leave g.D.Disk.moment g.D.Disk.left_since g.D.Disk.failures r.policy r.program r.engine r.opening.engine.value r.places r.entries.list r.entries.spare v c.self.invariant.roomy c.self.view_is) (limit_held g.D.Disk.seen g.D.Disk.may_leave g.D.Disk.moment g.D.Disk.left_since g.D.Disk.failures r.policy r.program r.engine r.opening.engine.value r.places r.entries.list r.entries.spare v c.self.invariant.roomy c.self.view_is) (stands_held g.D.Disk.seen g.D.Disk.may_leave g.D.Disk.moment g.D.Disk.left_since g.D.Disk.failures r.policy r.program r.engine r.opening.engine.value r.places r.entries.list r.entries.spare v c.self.invariant.roomy c.self.view_is)
 
-pub invariant_of-self-in_err-answered : goal.invariant_of-self-in_err-answered
-invariant_of-self-in_err-answered g c =
+-- what it leaves
+left : (g : _) (c : goal.After-from_residual-in_err-answered g) → let r = c.self.inside in IsLeft g.D.Disk.seen g.D.Disk.may_leave g.D.Disk.moment g.D.Disk.left_since g.D.Disk.failures c.args.self.now (view_of r.policy r.program c.answer_line.new.engine r.opening.engine.value r.places c.make_room.new.entries.list) c.make_room.new.entries.spare
+left g c =
     let r = c.self.inside in
-    let v = c.args.self.now in
-    record {
-      roomy = roomy_undone g.D.Disk.seen g.D.Disk.may_leave g.D.Disk.moment g.D.Disk.left_since g.D.Disk.failures r.policy r.program r.engine c.answer_line.new.engine r.opening.engine.value r.places r.entries.list c.make_room.new.entries.list v c.self.view_is c.in_ok-make_room.ensures.same (undone g c)
-          r.entries.spare c.make_room.new.entries.spare (roomy_held g.D.Disk.seen g.D.Disk.may_leave g.D.Disk.moment g.D.Disk.left_since g.D.Disk.failures r.policy r.program r.engine r.opening.engine.value r.places r.entries.list r.entries.spare v c.self.invariant.roomy c.self.view_is) c.in_ok-make_room.ensures.kept;
-      length_is = c.self.invariant.length_is;
-      faults_are = c.self.invariant.faults_are;
-    }
+    is_left g.D.Disk.seen g.D.Disk.may_leave g.D.Disk.moment g.D.Disk.left_since g.D.Disk.failures r.policy r.program r.engine c.answer_line.new.engine r.opening.engine.value r.places r.entries.list c.make_room.new.entries.list c.args.self.now c.self.view_is c.in_ok-make_room.ensures.same (undone g c) r.entries.spare c.make_room.new.entries.spare c.self.invariant.roomy c.in_ok-make_room.ensures.kept
+
+pub invariant_of-self-in_err-answered : goal.invariant_of-self-in_err-answered
+invariant_of-self-in_err-answered g c = record { roomy = (left g c).roomy; length_is = c.self.invariant.length_is; faults_are = c.self.invariant.faults_are }
 
 pub returns-in_err-answered-clause-kept : goal.returns-in_err-answered-clause-kept
-returns-in_err-answered-clause-kept g c =
-    let r = c.self.inside in
-    let v = c.args.self.now in
-    on_err c.from_residual-in_err-answered.result _
-    (same_undone g.D.Disk.seen g.D.Disk.may_leave g.D.Disk.moment g.D.Disk.left_since g.D.Disk.failures r.policy r.program r.engine c.answer_line.new.engine r.opening.engine.value r.places r.entries.list c.make_room.new.entries.list v c.self.view_is c.in_ok-make_room.ensures.same (undone g c))
+returns-in_err-answered-clause-kept g c = on_err c.from_residual-in_err-answered.result _ (left g c).same
 
 pub returns-in_err-answered-clause-journal : goal.returns-in_err-answered-clause-journal
-returns-in_err-answered-clause-journal g c =
-    let r = c.self.inside in
-    let v = c.args.self.now in
-    on_err c.from_residual-in_err-answered.result _
-    (undone_here g.D.Disk.seen g.D.Disk.may_leave g.D.Disk.moment g.D.Disk.left_since g.D.Disk.failures r.policy r.program r.engine c.answer_line.new.engine r.opening.engine.value r.places r.entries.list c.make_room.new.entries.list v c.self.view_is c.in_ok-make_room.ensures.same (undone g c))
+returns-in_err-answered-clause-journal g c = on_err c.from_residual-in_err-answered.result _ (left g c).undone
 
 -- the statement is answered
-pub overflow_add-place : goal.overflow_add-place
-overflow_add-place g c =
+at : (g : _) (c : After-place_of-place g) → c.place_of-place.result ≡ slice_index c.self.inside.places c.args.session
+at g c = c.place_of-place.ensures ∙ ap (λ (ps : List ℕ). slice_index ps c.args.session) c.as_slice.ensures
+
+small : (g : _) (c : After-place_of-place g) → c.place_of-place.result < 100000
+small g c =
     let r = c.self.inside in
-    let v = c.args.self.now in
-    let at : c.place_of-place.result ≡ slice_index c.self.inside.places c.args.session = c.place_of-place.ensures ∙ ap (λ (ps : List ℕ). slice_index ps c.args.session) c.as_slice.ensures in
-    omega (arith, at, small_held g.D.Disk.seen g.D.Disk.may_leave g.D.Disk.moment g.D.Disk.left_since g.D.Disk.failures r.policy r.program r.engine r.opening.engine.value r.places r.entries.list v c.self.invariant.roomy.run c.self.view_is c.args.session c.requires.may)
+    omega (arith, at g c, small_held g.D.Disk.seen g.D.Disk.may_leave g.D.Disk.moment g.D.Disk.left_since g.D.Disk.failures r.policy r.program r.engine r.opening.engine.value r.places r.entries.list c.args.self.now c.self.invariant.roomy.run c.self.view_is c.args.session c.requires.may)
+
+pub overflow_add-place : goal.overflow_add-place
+overflow_add-place g c = omega (arith, small g (goal.at.overflow_add-place g c).After-place_of-place)
 
 pub overflow_add-place-2 : goal.overflow_add-place-2
-overflow_add-place-2 g c =
-    let r = c.self.inside in
-    let v = c.args.self.now in
-    let at : c.place_of-place.result ≡ slice_index c.self.inside.places c.args.session = c.place_of-place.ensures ∙ ap (λ (ps : List ℕ). slice_index ps c.args.session) c.as_slice.ensures in
-    omega (arith, at, small_held g.D.Disk.seen g.D.Disk.may_leave g.D.Disk.moment g.D.Disk.left_since g.D.Disk.failures r.policy r.program r.engine r.opening.engine.value r.places r.entries.list v c.self.invariant.roomy.run c.self.view_is c.args.session c.requires.may)
+overflow_add-place-2 g c = omega (arith, small g (goal.at.overflow_add-place-2 g c).After-place_of-place)
 
 pub set-requires : goal.set-requires
 set-requires g c =
@@ -101,36 +97,36 @@ invariant_of-self-2 g c =
 pub returns-clause-done : goal.returns-clause-done
 returns-clause-done g c = gave_turn g c
 
-pub returns-in_err-answered-clause-fresh : goal.returns-in_err-answered-clause-fresh
-returns-in_err-answered-clause-fresh g c = λ query bound reading.
-    let r = c.self.inside in
-    let v = c.args.self.now in
-    let line = next_line_is r.program r.places c.as_slice.result.now c.args.session c.place_of-place.result c.line_left-line.result.now c.as_slice.ensures c.place_of-place.ensures c.line_left-line.ensures.line in
-    c.in_err-answered.ensures.fresh (state_of v).world query (stands_held g.D.Disk.seen g.D.Disk.may_leave g.D.Disk.moment g.D.Disk.left_since g.D.Disk.failures r.policy r.program r.engine r.opening.engine.value r.places r.entries.list r.entries.spare v c.self.invariant.roomy c.self.view_is) (bound_here g.D.Disk.seen g.D.Disk.may_leave g.D.Disk.moment g.D.Disk.left_since g.D.Disk.failures r.policy r.program r.engine r.opening.engine.value r.places r.entries.list v c.self.view_is c.args.session c.line_left-line.result.now line ∙ bound) reading
+-- what it reads, which want of memory does not change
+module _ (g : _) (c : After-answer_line g) (query : AQuery) (bound_is : next_bound c.args.self.now c.args.session ≡ Ok (bound.Query query)) where
+  here : bound_line reads c.args.session c.line_left-line.result.now (state_of c.args.self.now).world.visible ≡ next_bound c.args.self.now c.args.session
+  here =
+      let r = c.self.inside in
+      let line = next_line_is r.program r.places c.as_slice.result.now c.args.session c.place_of-place.result c.line_left-line.result.now c.as_slice.ensures c.place_of-place.ensures c.line_left-line.ensures.line in
+      bound_here g.D.Disk.seen g.D.Disk.may_leave g.D.Disk.moment g.D.Disk.left_since g.D.Disk.failures r.policy r.program r.engine r.opening.engine.value r.places r.entries.list c.args.self.now c.self.view_is c.args.session c.line_left-line.result.now line
 
-pub returns-clause-fresh : goal.returns-clause-fresh
-returns-clause-fresh g c = λ query bound reading.
-    let r = c.self.inside in
-    let v = c.args.self.now in
-    let line = next_line_is r.program r.places c.as_slice.result.now c.args.session c.place_of-place.result c.line_left-line.result.now c.as_slice.ensures c.place_of-place.ensures c.line_left-line.ensures.line in
-    c.in_ok-answered.ensures.fresh (state_of v).world query (stands_held g.D.Disk.seen g.D.Disk.may_leave g.D.Disk.moment g.D.Disk.left_since g.D.Disk.failures r.policy r.program r.engine r.opening.engine.value r.places r.entries.list r.entries.spare v c.self.invariant.roomy c.self.view_is) (bound_here g.D.Disk.seen g.D.Disk.may_leave g.D.Disk.moment g.D.Disk.left_since g.D.Disk.failures r.policy r.program r.engine r.opening.engine.value r.places r.entries.list v c.self.view_is c.args.session c.line_left-line.result.now line ∙ bound) reading
+  stands : Stands (state_of c.args.self.now).world c.self.inside.engine
+  stands = let r = c.self.inside in stands_held g.D.Disk.seen g.D.Disk.may_leave g.D.Disk.moment g.D.Disk.left_since g.D.Disk.failures r.policy r.program r.engine r.opening.engine.value r.places r.entries.list r.entries.spare c.args.self.now c.self.invariant.roomy c.self.view_is
+
+  fresh : ReadsNoTable c.args.session query (state_of c.args.self.now).world → c.answer_line.new.steps ≡ c.args.steps.now
+  fresh reading = c.answer_line.ensures.fresh (state_of c.args.self.now).world query stands (here ∙ bound_is) reading
+
+  most : ReadsViews c.args.session query (state_of c.args.self.now).world → (n : ℕ) → AreCosts (IsCostBetween (state_of c.args.self.now).world.visible) (next_steps c.args.self.now c.args.session) n → c.answer_line.new.steps ≤ c.args.steps.now + n
+  most reading n costs =
+      let r = c.self.inside in
+      let v = c.args.self.now in
+      let w = (state_of v).world in
+      c.answer_line.ensures.most w v.settings query (combine_held g.D.Disk.seen g.D.Disk.may_leave g.D.Disk.moment g.D.Disk.left_since g.D.Disk.failures r.policy r.program r.engine r.opening.engine.value r.places r.entries.list r.entries.spare v c.self.invariant.roomy c.self.view_is) stands (here ∙ bound_is) reading n
+      (subst (λ (b : Result Bound Fault). AreCosts (IsCostBetween w.visible) (steps_of v.settings c.args.session b w) n) (sym here) costs)
+
+pub returns-in_err-answered-clause-fresh : goal.returns-in_err-answered-clause-fresh
+returns-in_err-answered-clause-fresh g c = fresh g (goal.at.returns-in_err-answered-clause-fresh g c).After-answer_line
 
 pub returns-in_err-answered-clause-most : goal.returns-in_err-answered-clause-most
-returns-in_err-answered-clause-most g c = λ query bound reading n costs.
-    let r = c.self.inside in
-    let v = c.args.self.now in
-    let w = (state_of v).world in
-    let line = next_line_is r.program r.places c.as_slice.result.now c.args.session c.place_of-place.result c.line_left-line.result.now c.as_slice.ensures c.place_of-place.ensures c.line_left-line.ensures.line in
-    let here = bound_here g.D.Disk.seen g.D.Disk.may_leave g.D.Disk.moment g.D.Disk.left_since g.D.Disk.failures r.policy r.program r.engine r.opening.engine.value r.places r.entries.list v c.self.view_is c.args.session c.line_left-line.result.now line in
-    c.in_err-answered.ensures.most w v.settings query (combine_held g.D.Disk.seen g.D.Disk.may_leave g.D.Disk.moment g.D.Disk.left_since g.D.Disk.failures r.policy r.program r.engine r.opening.engine.value r.places r.entries.list r.entries.spare v c.self.invariant.roomy c.self.view_is) (stands_held g.D.Disk.seen g.D.Disk.may_leave g.D.Disk.moment g.D.Disk.left_since g.D.Disk.failures r.policy r.program r.engine r.opening.engine.value r.places r.entries.list r.entries.spare v c.self.invariant.roomy c.self.view_is) (here ∙ bound) reading n
-    (subst (λ (b : Result Bound Fault). AreCosts (IsCostBetween w.visible) (steps_of v.settings c.args.session b w) n) (sym here) costs)
+returns-in_err-answered-clause-most g c = most g (goal.at.returns-in_err-answered-clause-most g c).After-answer_line
+
+pub returns-clause-fresh : goal.returns-clause-fresh
+returns-clause-fresh g c = fresh g (goal.at.returns-clause-fresh g c).After-answer_line
 
 pub returns-clause-most : goal.returns-clause-most
-returns-clause-most g c = λ query bound reading n costs.
-    let r = c.self.inside in
-    let v = c.args.self.now in
-    let w = (state_of v).world in
-    let line = next_line_is r.program r.places c.as_slice.result.now c.args.session c.place_of-place.result c.line_left-line.result.now c.as_slice.ensures c.place_of-place.ensures c.line_left-line.ensures.line in
-    let here = bound_here g.D.Disk.seen g.D.Disk.may_leave g.D.Disk.moment g.D.Disk.left_since g.D.Disk.failures r.policy r.program r.engine r.opening.engine.value r.places r.entries.list v c.self.view_is c.args.session c.line_left-line.result.now line in
-    c.in_ok-answered.ensures.most w v.settings query (combine_held g.D.Disk.seen g.D.Disk.may_leave g.D.Disk.moment g.D.Disk.left_since g.D.Disk.failures r.policy r.program r.engine r.opening.engine.value r.places r.entries.list r.entries.spare v c.self.invariant.roomy c.self.view_is) (stands_held g.D.Disk.seen g.D.Disk.may_leave g.D.Disk.moment g.D.Disk.left_since g.D.Disk.failures r.policy r.program r.engine r.opening.engine.value r.places r.entries.list r.entries.spare v c.self.invariant.roomy c.self.view_is) (here ∙ bound) reading n
-    (subst (λ (b : Result Bound Fault). AreCosts (IsCostBetween w.visible) (steps_of v.settings c.args.session b w) n) (sym here) costs)
+returns-clause-most g c = most g (goal.at.returns-clause-most g c).After-answer_line
