@@ -76,6 +76,14 @@ placed_there R o x (y ∷ ys) zero h = ap (λ b. cond b (y ∷ placed R x ys) (x
 placed_there R o x (y ∷ ys) (suc i) h =
     ap (λ b. cond b (y ∷ placed R x ys) (x ∷ y ∷ ys)) (ap is_gt (o.antisymm x y) ∙ turned (R y x) ∙ h.0) ∙ ap (λ l. y ∷ l) (placed_there R o x ys i h.1)
 
+pub filter_placed_out : {X : Type 0} (R : X → X → Ordering) (p : X → Bool) (x : X) → p x ≡ false → (ys : List X) → filter p (placed R x ys) ≡ filter p ys
+filter_placed_out R p x e [] = λ i. cond (e i) (x ∷ []) []
+filter_placed_out {X} R p x e (y ∷ ys) = by (is_gt (R x y)) (filter_placed_out R p x e ys)
+  where
+    by : (t : Bool) → filter p (placed R x ys) ≡ filter p ys → filter p (cond t (y ∷ placed R x ys) (x ∷ y ∷ ys)) ≡ filter p (y ∷ ys)
+    by true ih = λ i. cond (p y) (y ∷ ih i) (ih i)
+    by false ih = λ i. cond (e i) (x ∷ filter p (y ∷ ys)) (filter p (y ∷ ys))
+
 pub all_placed : (P : GroupVersion → Type 0) (x : GroupVersion) (ys : List GroupVersion) → P x → AllByRecursion P ys → AllByRecursion P (placed version_cmp x ys)
 all_placed P x [] a b = (a, tt)
 all_placed P x (y ∷ ys) a b = by (is_gt (version_cmp x y)) (all_placed P x ys a b.1)
