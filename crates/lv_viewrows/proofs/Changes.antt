@@ -94,7 +94,7 @@ pub changed_each : (number : ℕ) (s : SignedRow) (vs : List GroupVersion) → A
 changed_each number s vs b =
     let group = joined (current s.row vs) s in
     let left = map (ended number s.row) vs in
-    put_by (AllByRecursion (IsBy number)) number group left (λ e. all_placed (IsBy number) (version_from number group) left (omega arith, tt) (ended_each number s.row vs b)) (ended_each number s.row vs b)
+    put_by (AllByRecursion (IsBy number)) number group left (λ e. all_placed version_cmp (IsBy number) (version_from number group) left (omega arith, tt) (ended_each number s.row vs b)) (ended_each number s.row vs b)
 
 -- a change of another row is met as before
 no_end : (u : Option ℕ) (b : Bool) (k : ℕ) → end_by u b k ≡ None → u ≡ None
@@ -114,7 +114,7 @@ changed_meets number s t vs apart m =
     let group = joined (current s.row vs) s in
     let left = map (ended number s.row) vs in
     let rest = all_map (ended number s.row) (Meets number t) vs (all_weaker (Meets number t) (λ v. Meets number t (ended number s.row v)) (ended_meets number s.row t) vs m) in
-    put_by (λ list. MeetAll number list t) number group left (λ e. all_placed (Meets number t) (version_from number group) left (other group (joined_row (current s.row vs) s) (row_cmp group.row t.row) refl) rest) rest
+    put_by (λ list. MeetAll number list t) number group left (λ e. all_placed version_cmp (Meets number t) (version_from number group) left (other group (joined_row (current s.row vs) s) (row_cmp group.row t.row) refl) rest) rest
   where
     other : (group : SignedRow) → group.row ≡ s.row → (o : Ordering) → row_cmp group.row t.row ≡ o → Meets number t (version_from number group)
     other group same Less e = subst (λ o. meets_by o number t (version_from number group)) (sym e) tt

@@ -193,7 +193,7 @@ all_changed P number (s ∷ list) vs up a f = by (joined (current s.row inner) s
         left = map (ended number s.row) (changed_all number list vs)
 
         at : (b : Bool) → has_tuples group ≡ b → AllByRecursion (λ (v : GroupVersion). P v.group) (cond b (placed version_cmp (version_from number group) (map (ended number s.row) (changed_all number list vs))) (map (ended number s.row) (changed_all number list vs)))
-        at true e = all_placed (λ (v : GroupVersion). P v.group) (version_from number group) (map (ended number s.row) (changed_all number list vs)) (subst P (sym is) (f.0 (ap has_tuples (sym is) ∙ e))) (ended_all P number s.row (changed_all number list vs) ih)
+        at true e = all_placed version_cmp (λ (v : GroupVersion). P v.group) (version_from number group) (map (ended number s.row) (changed_all number list vs)) (subst P (sym is) (f.0 (ap has_tuples (sym is) ∙ e))) (ended_all P number s.row (changed_all number list vs) ih)
         at false e = ended_all P number s.row (changed_all number list vs) ih
 
 -- ---- versions that are not there may be dropped
