@@ -22,7 +22,7 @@ use Rattle.lv_shelf.proofs.Shelved.{all_last}
 use Rattle.lv_viewrows.specs.declared.version.GroupVersion.{GroupVersion}
 use Rattle.lv_viewrows.specs.Kept.{groups_at, is_there, version_from}
 use Rattle.lv_viewrows.specs.Standing.{EndsAtMost, EndsBy, IsBy, MeetAll, Meets, Precedes, changed, changed_all, current, ended, is_current, joined, meets_by, precedes_by, put, version_cmp}
-use Rattle.lv_viewrows.proofs.Ending.{came_before}
+use Rattle.lv_viewrows.proofs.Ending.{came_before, group_of}
 use Rattle.lv_viewrows.proofs.Order.{IsNewTo, all_placed, filter_placed_out, new_by, placed_order}
 
 -- ---- order
@@ -159,9 +159,6 @@ ended_before number n row (v ∷ vs) lt = by (is_there n v) refl (ended_before n
     by : (t : Bool) → is_there n v ≡ t → groups_at n (map (ended number row) vs) ≡ groups_at n vs → groups_at n (map (ended number row) (v ∷ vs)) ≡ groups_at n (v ∷ vs)
     by true e ih = rw (same, e) (ap (λ l. v.group ∷ l) ih)
     by false e ih = rw (same, e) ih
-
-abbrev group_of : GroupVersion → SignedRow
-group_of v = v.group
 
 placed_before : (number n : ℕ) (group : SignedRow) (vs : List GroupVersion) → n < number → groups_at n (placed version_cmp (version_from number group) vs) ≡ groups_at n vs
 placed_before number n group vs lt =
