@@ -18,11 +18,12 @@ use Rattle.lv_schema.proofs.Apart.{all_both, all_map, all_weaker, apart_map, apa
 use Rattle.lv_schema.proofs.NetsLead.{same_row}
 use Rattle.lv_group.specs.Gathered.{has_tuples}
 use Rattle.lv_shelf.specs.Cuts.{Apart}
+use Rattle.lv_shelf.proofs.Shelved.{all_last}
 use Rattle.lv_viewrows.specs.declared.version.GroupVersion.{GroupVersion}
 use Rattle.lv_viewrows.specs.Kept.{groups_at, is_there, version_from}
 use Rattle.lv_viewrows.specs.Standing.{EndsAtMost, EndsBy, IsBy, MeetAll, Meets, Precedes, changed, changed_all, current, ended, is_current, joined, meets_by, precedes_by, put, version_cmp}
-use Rattle.lv_viewrows.proofs.Ending.{came_before}
-use Rattle.lv_viewrows.proofs.Order.{IsNewTo, all_placed, new_by, placed_order}
+use Rattle.lv_viewrows.proofs.Ending.{came_before, group_of}
+use Rattle.lv_viewrows.proofs.Order.{IsNewTo, all_placed, filter_placed_out, new_by, placed_order}
 
 -- ---- order
 ends_by : (u : Option ℕ) (b : Bool) (k n : ℕ) → EndsBy n u → EndsBy n (end_by u b k)
@@ -93,7 +94,7 @@ pub changed_each : (number : ℕ) (s : SignedRow) (vs : List GroupVersion) → A
 changed_each number s vs b =
     let group = joined (current s.row vs) s in
     let left = map (ended number s.row) vs in
-    put_by (AllByRecursion (IsBy number)) number group left (λ e. all_placed (IsBy number) (version_from number group) left (omega arith, tt) (ended_each number s.row vs b)) (ended_each number s.row vs b)
+    put_by (AllByRecursion (IsBy number)) number group left (λ e. all_placed version_cmp (IsBy number) (version_from number group) left (omega arith, tt) (ended_each number s.row vs b)) (ended_each number s.row vs b)
 
 -- a change of another row is met as before
 no_end : (u : Option ℕ) (b : Bool) (k : ℕ) → end_by u b k ≡ None → u ≡ None
@@ -113,7 +114,7 @@ changed_meets number s t vs apart m =
     let group = joined (current s.row vs) s in
     let left = map (ended number s.row) vs in
     let rest = all_map (ended number s.row) (Meets number t) vs (all_weaker (Meets number t) (λ v. Meets number t (ended number s.row v)) (ended_meets number s.row t) vs m) in
-    put_by (λ list. MeetAll number list t) number group left (λ e. all_placed (Meets number t) (version_from number group) left (other group (joined_row (current s.row vs) s) (row_cmp group.row t.row) refl) rest) rest
+    put_by (λ list. MeetAll number list t) number group left (λ e. all_placed version_cmp (Meets number t) (version_from number group) left (other group (joined_row (current s.row vs) s) (row_cmp group.row t.row) refl) rest) rest
   where
     other : (group : SignedRow) → group.row ≡ s.row → (o : Ordering) → row_cmp group.row t.row ≡ o → Meets number t (version_from number group)
     other group same Less e = subst (λ o. meets_by o number t (version_from number group)) (sym e) tt
@@ -127,13 +128,6 @@ changed_last number (t ∷ list) s vs = ap (changed number t) (changed_last numb
 
 abbrev pub RowsAscend : List SignedRow → Type 0
 RowsAscend list = Ascends (λ (a b : SignedRow). row_cmp a.row b.row) list
-
-all_last : {X : Type 0} (P : X → Type 0) (xs : List X) (x : X) → AllByRecursion P (xs ++ x ∷ []) → AllByRecursion P xs × P x
-all_last P [] x a = (tt, a.0)
-all_last P (y ∷ xs) x a = let more = all_last P xs x a.1 in ((a.0, more.0), more.1)
-
-pub last_met : (P : SignedRow → Type 0) (list : List SignedRow) (s : SignedRow) → AllByRecursion P (list ++ s ∷ []) → AllByRecursion P list × P s
-last_met P list s a = all_last P list s a
 
 pub ascend_last : (list : List SignedRow) (s : SignedRow) → RowsAscend (list ++ s ∷ []) → RowsAscend list × AllByRecursion (λ t. row_cmp t.row s.row ≡ Less) list
 ascend_last [] s a = (tt, tt)
@@ -167,23 +161,9 @@ ended_before number n row (v ∷ vs) lt = by (is_there n v) refl (ended_before n
     by false e ih = rw (same, e) ih
 
 placed_before : (number n : ℕ) (group : SignedRow) (vs : List GroupVersion) → n < number → groups_at n (placed version_cmp (version_from number group) vs) ≡ groups_at n vs
-placed_before number n group [] lt =
-    let e : is_there n (version_from number group) ≡ false = let f : nat_le number n ≡ false = grind (arith, nat_tests) in ap (λ b. b && true) f in
-    rw e refl
-placed_before number n group (w ∷ vs) lt = by (is_gt (version_cmp (version_from number group) w)) (placed_before number n group vs lt)
-  where
-    e : is_there n (version_from number group) ≡ false
-    e = let f : nat_le number n ≡ false = grind (arith, nat_tests) in ap (λ b. b && true) f
-
-    shown : (s : Bool) → groups_at n (placed version_cmp (version_from number group) vs) ≡ groups_at n vs
-        → map (λ (v : GroupVersion). v.group) (cond s (w ∷ filter (is_there n) (placed version_cmp (version_from number group) vs)) (filter (is_there n) (placed version_cmp (version_from number group) vs)))
-        ≡ map (λ (v : GroupVersion). v.group) (cond s (w ∷ filter (is_there n) vs) (filter (is_there n) vs))
-    shown true ih = ap (λ l. w.group ∷ l) ih
-    shown false ih = ih
-
-    by : (t : Bool) → groups_at n (placed version_cmp (version_from number group) vs) ≡ groups_at n vs → groups_at n (cond t (w ∷ placed version_cmp (version_from number group) vs) (version_from number group ∷ w ∷ vs)) ≡ groups_at n (w ∷ vs)
-    by true ih = shown (is_there n w) ih
-    by false ih = rw e refl
+placed_before number n group vs lt =
+    let later : nat_le number n ≡ false = grind (arith, nat_tests) in
+    ap (map group_of) (filter_placed_out version_cmp (is_there n) (version_from number group) (ap (λ b. b && true) later) vs)
 
 pub all_before : (number n : ℕ) (list : List SignedRow) (vs : List GroupVersion) → n < number → groups_at n (changed_all number list vs) ≡ groups_at n vs
 all_before number n [] vs lt = refl
@@ -196,9 +176,6 @@ all_before number n (s ∷ list) vs lt =
 -- ---- the current groups of a row
 abbrev pub kept : SignedRow → List SignedRow
 kept group = cond (has_tuples group) (group ∷ []) []
-
-abbrev group_of : GroupVersion → SignedRow
-group_of v = v.group
 
 flip : (q row x : List Value) → row_eq q row ≡ false → row_eq row x ≡ true → row_eq q x ≡ false
 flip q row x other same = ap (row_eq q) (sym (same_row row x same)) ∙ other
@@ -242,17 +219,7 @@ ended_current number q row vs = ap (map group_of) (ended_now number q row vs) �
 
 -- a group that is put is current for its row, and for no other
 placed_other : (number : ℕ) (q : List Value) (group : SignedRow) (vs : List GroupVersion) → row_eq q group.row ≡ false → current q (placed version_cmp (version_from number group) vs) ≡ current q vs
-placed_other number q group [] h = λ i. map group_of (cond (h i) (version_from number group ∷ []) [])
-placed_other number q group (w ∷ vs) h = by (is_gt (version_cmp (version_from number group) w)) (placed_other number q group vs h)
-  where
-    shown : (s : Bool) → current q (placed version_cmp (version_from number group) vs) ≡ current q vs
-        → map group_of (cond s (w ∷ filter (is_current q) (placed version_cmp (version_from number group) vs)) (filter (is_current q) (placed version_cmp (version_from number group) vs))) ≡ map group_of (cond s (w ∷ filter (is_current q) vs) (filter (is_current q) vs))
-    shown true ih = ap (λ l. w.group ∷ l) ih
-    shown false ih = ih
-
-    by : (t : Bool) → current q (placed version_cmp (version_from number group) vs) ≡ current q vs → current q (cond t (w ∷ placed version_cmp (version_from number group) vs) (version_from number group ∷ w ∷ vs)) ≡ current q (w ∷ vs)
-    by true ih = shown (is_current q w) ih
-    by false ih = λ i. map group_of (cond (h i) (version_from number group ∷ filter (is_current q) (w ∷ vs)) (filter (is_current q) (w ∷ vs)))
+placed_other number q group vs h = ap (map group_of) (filter_placed_out version_cmp (is_current q) (version_from number group) h vs)
 
 placed_own : (number : ℕ) (q : List Value) (group : SignedRow) (vs : List GroupVersion) → row_eq q group.row ≡ true → current q vs ≡ [] → current q (placed version_cmp (version_from number group) vs) ≡ group ∷ []
 placed_own number q group [] h none = λ i. map group_of (cond (h i) (version_from number group ∷ []) [])

@@ -23,6 +23,9 @@ pub both : (a b : Bool) → (a && b) ≡ true → (a ≡ true) × (b ≡ true)
 both true b h = (refl, h)
 both false b h = cc
 
+abbrev pub group_of : GroupVersion → SignedRow
+group_of v = v.group
+
 pub no_until : (u : Option ℕ) → is_none u ≡ true → u ≡ None
 no_until None h = refl
 no_until (Some k) h = cc
@@ -118,9 +121,6 @@ at_place number s (suc (suc i)) (v ∷ vs) d a m cut =
 
 -- what the search leaves: no version in front, one in front that is not current, and one that is
 module _ (number : ℕ) (s : SignedRow) (vs : List GroupVersion) (a : Apart Precedes vs) (m : MeetAll number vs s) (at : ℕ) (cut : IsCut (comes_before s.row number) at vs) where
-  abbrev group_of : GroupVersion → SignedRow
-  group_of v = v.group
-
   pub none_in_front : (d : GroupVersion) → at ≡ 0 → (current s.row vs ≡ []) × (map (ended number s.row) vs ≡ vs)
   none_in_front d e = let here = at_place number s zero vs d a m (subst (λ n. IsCut (comes_before s.row number) n vs) e cut) in (ap (map group_of) here.0, here.1)
 

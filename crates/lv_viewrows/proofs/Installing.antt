@@ -26,12 +26,9 @@ use Rattle.lv_viewrows.specs.Changed.{groups_with}
 use Rattle.lv_viewrows.specs.Kept.{groups_at, is_there, one_row, version_from}
 use Rattle.lv_viewrows.specs.Standing.{AreVersions, EndsAtMost, EndsBy, IsBy, IsCount, IsRow, MeetAll, Meets, Precedes, changed_all, current, ended, is_current, joined, meets_by, precedes_by, put, version_cmp}
 use Rattle.lv_viewrows.proofs.Changes.{RowsAscend, all_current, none_above, settled}
-use Rattle.lv_viewrows.proofs.Ending.{both, no_until}
+use Rattle.lv_viewrows.proofs.Ending.{both, group_of, no_until}
 use Rattle.lv_viewrows.proofs.Entries.{AtMostOne, at_most_one, groups_with_is}
 use Rattle.lv_viewrows.proofs.Order.{all_placed, groups_ascend}
-
-abbrev group_of : GroupVersion → SignedRow
-group_of v = v.group
 
 -- from the last commit on the groups that are there are the current ones
 pub entries_current : (q : List Value) (m n : ℕ) (vs : List GroupVersion) → m ≤ n → AllByRecursion (IsBy m) vs → entries_of q (groups_at n vs) ≡ current q vs
@@ -193,7 +190,7 @@ all_changed P number (s ∷ list) vs up a f = by (joined (current s.row inner) s
         left = map (ended number s.row) (changed_all number list vs)
 
         at : (b : Bool) → has_tuples group ≡ b → AllByRecursion (λ (v : GroupVersion). P v.group) (cond b (placed version_cmp (version_from number group) (map (ended number s.row) (changed_all number list vs))) (map (ended number s.row) (changed_all number list vs)))
-        at true e = all_placed (λ (v : GroupVersion). P v.group) (version_from number group) (map (ended number s.row) (changed_all number list vs)) (subst P (sym is) (f.0 (ap has_tuples (sym is) ∙ e))) (ended_all P number s.row (changed_all number list vs) ih)
+        at true e = all_placed version_cmp (λ (v : GroupVersion). P v.group) (version_from number group) (map (ended number s.row) (changed_all number list vs)) (subst P (sym is) (f.0 (ap has_tuples (sym is) ∙ e))) (ended_all P number s.row (changed_all number list vs) ih)
         at false e = ended_all P number s.row (changed_all number list vs) ih
 
 -- ---- versions that are not there may be dropped

@@ -12,8 +12,8 @@ use Rattle.lv_group.specs.Gathered.{has_tuples, rows_of}
 use Rattle.lv_shelf.specs.Cuts.{Apart}
 use Rattle.lv_viewrows.specs.declared.version.GroupVersion.{GroupVersion}
 use Rattle.lv_viewrows.specs.Changed.{CanInstall, groups_with}
-use Rattle.lv_viewrows.specs.Kept.{ViewKept, groups_at, rows_listed}
-use Rattle.lv_viewrows.specs.Standing.{AreVersions, IsBy, MeetAll, Precedes, changed_all, current, joined}
+use Rattle.lv_viewrows.specs.Kept.{ViewKept, groups_at, rows_listed, shown}
+use Rattle.lv_viewrows.specs.Standing.{AreVersions, IsBy, IsRow, MeetAll, Precedes, changed_all, current, joined}
 use Rattle.lv_viewrows.proofs.Installing.{Fits, all_changed, all_met, entries_now, groups_after, groups_fit, now_ascend, now_rows}
 use Rattle.lv_viewrows.proofs.RowsOfJoins.{IsOneRow, row_of, rows_changed_are, rows_fit, rows_made}
 
@@ -27,7 +27,11 @@ join_listed view groups e = ap (λ b. if b then rows_of (record { by = view.grou
 pub group_listed : (view : ViewDef) (groups : List SignedRow) → view.grouped ≡ true → rows_listed view groups ≡ rows_of (record { by = view.groups; items = view.items; groups = groups; spare = 0 })
 group_listed view groups e = ap (λ b. if b then rows_of (record { by = view.groups; items = view.items; groups = groups; spare = 0 }) else map row_of groups) e
 
-module _ (k : ViewKept) (held : AreVersions k.def k.at k.versions) (hi : ℕ) (list : List SignedRow) (can : CanInstall k hi list) where
+-- a view k that an answer sees as kept, which can take the changes
+module _ {k kept : ViewKept} (is : k ≡ kept) (held : AreVersions k.def k.at k.versions) (hi : ℕ) (list : List SignedRow) (asked : CanInstall kept hi list) where
+  can : CanInstall k hi list
+  can = subst (λ w. CanInstall w hi list) (sym is) asked
+
   abbrev now : List SignedRow
   now = groups_at k.at k.versions
 
@@ -56,20 +60,27 @@ module _ (k : ViewKept) (held : AreVersions k.def k.at k.versions) (hi : ℕ) (l
       (λ s f. subst (λ gs. has_tuples (joined gs s) ≡ true → IsOneRow (joined gs s)) (entries_now k.def k.at k.versions held s.row) f) list
       (rows_made now list (now_ascend k.def k.at k.versions held) can.netted.ascend (now_rows k.def k.at k.versions held e) (apply e) (plain e))
 
-  pub kept_after : Apart Precedes after → AllByRecursion (IsBy hi) after → AreVersions k.def hi after
-  kept_after order each = record {
-    order = order;
-    each = each;
-    counts = all_changed (λ s. has_tuples s ≡ true) hi list k.versions can.netted.ascend held.counts (all_true (λ s. has_tuples (joined (current s.row k.versions) s) ≡ true → has_tuples (joined (current s.row k.versions) s) ≡ true) (λ s e. e) list);
-    rows = λ e. all_changed IsOneRow hi list k.versions can.netted.ascend (held.rows e) (made e);
-  }
+  module _ (vs : List GroupVersion) (changed : vs ≡ after) (order : Apart Precedes vs) (each : AllByRecursion (IsBy hi) vs) where
+    pub kept_after : AreVersions k.def hi vs
+    kept_after = record {
+      order = order;
+      each = each;
+      counts = subst (AllByRecursion (λ v. has_tuples v.group ≡ true)) (sym changed) (all_changed (λ s. has_tuples s ≡ true) hi list k.versions can.netted.ascend held.counts (all_true (λ s. has_tuples (joined (current s.row k.versions) s) ≡ true → has_tuples (joined (current s.row k.versions) s) ≡ true) (λ s e. e) list));
+      rows = λ e. subst (AllByRecursion IsRow) (sym changed) (all_changed IsOneRow hi list k.versions can.netted.ascend (held.rows e) (made e));
+    }
 
-  pub now_after : Apart Precedes after → AllByRecursion (IsBy hi) after → (n : ℕ) → hi ≤ n → groups_at n after ≡ groups_with list now
-  now_after order each n le = groups_after k.def k.at k.versions held hi list can.netted.ascend order each n le
+    groups_now : (n : ℕ) → hi ≤ n → groups_at n vs ≡ groups_with list now
+    groups_now n le =
+        ap (groups_at n) changed ∙ groups_after k.def k.at k.versions held hi list can.netted.ascend (subst (Apart Precedes) changed order) (subst (AllByRecursion (IsBy hi)) changed each) n le
 
-  pub shown_after : Apart Precedes after → AllByRecursion (IsBy hi) after → k.def.grouped ≡ false → (n : ℕ) → hi ≤ n → rows_listed k.def (groups_at n after) ≡ with_changes list (rows_listed k.def now)
-  shown_after order each e n le =
-      ap (rows_listed k.def) (now_after order each n le)
-      ∙ join_listed k.def (groups_with list now) e
-      ∙ rows_changed_are now list (now_ascend k.def k.at k.versions held) can.netted.ascend (now_rows k.def k.at k.versions held e) (apply e) (plain e)
-      ∙ ap (with_changes list) (sym (join_listed k.def now e))
+    pub now_after : (n : ℕ) → hi ≤ n → groups_at n vs ≡ groups_with list (groups_at kept.at kept.versions)
+    now_after n le = groups_now n le ∙ ap (λ (w : ViewKept). groups_with list (groups_at w.at w.versions)) is
+
+    pub shown_after : kept.def.grouped ≡ false → (n : ℕ) → hi ≤ n → rows_listed k.def (groups_at n vs) ≡ with_changes list (shown kept.at kept)
+    shown_after join n le =
+        let e = ap (λ (w : ViewKept). w.def.grouped) is ∙ join in
+        ap (rows_listed k.def) (groups_now n le)
+        ∙ join_listed k.def (groups_with list now) e
+        ∙ rows_changed_are now list (now_ascend k.def k.at k.versions held) can.netted.ascend (now_rows k.def k.at k.versions held e) (apply e) (plain e)
+        ∙ ap (with_changes list) (sym (join_listed k.def now e))
+        ∙ ap (λ (w : ViewKept). with_changes list (shown w.at w)) is

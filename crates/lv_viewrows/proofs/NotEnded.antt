@@ -201,14 +201,3 @@ module _ {X : Type 0} (q : X → Bool) where
       by : (b : Bool) → map f (filter q xs) ≡ filter q (set xs at (f x)) → map f (cond b (z ∷ filter q xs) (filter q xs)) ≡ cond b (z ∷ filter q (set xs at (f x))) (filter q (set xs at (f x)))
       by true ih = ap₂ (λ y l. y ∷ l) only.0 ih
       by false ih = ih
-
-  -- two tests one after the other
-  pub filter_twice : (p : X → Bool) (xs : List X) → filter p (filter q xs) ≡ filter q (filter p xs)
-  filter_twice p [] = refl
-  filter_twice p (x ∷ xs) = by (p x) refl (q x) refl (filter_twice p xs)
-    where
-      by : (a : Bool) → p x ≡ a → (b : Bool) → q x ≡ b → filter p (filter q xs) ≡ filter q (filter p xs) → filter p (cond b (x ∷ filter q xs) (filter q xs)) ≡ filter q (cond a (x ∷ filter p xs) (filter p xs))
-      by true d true e ih = (λ i. cond (d i) (x ∷ filter p (filter q xs)) (filter p (filter q xs))) ∙ ap (λ l. x ∷ l) ih ∙ (λ i. cond (sym e i) (x ∷ filter q (filter p xs)) (filter q (filter p xs)))
-      by true d false e ih = ih ∙ (λ i. cond (sym e i) (x ∷ filter q (filter p xs)) (filter q (filter p xs)))
-      by false d true e ih = (λ i. cond (d i) (x ∷ filter p (filter q xs)) (filter p (filter q xs))) ∙ ih
-      by false d false e ih = ih

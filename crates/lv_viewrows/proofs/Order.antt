@@ -76,11 +76,19 @@ placed_there R o x (y ∷ ys) zero h = ap (λ b. cond b (y ∷ placed R x ys) (x
 placed_there R o x (y ∷ ys) (suc i) h =
     ap (λ b. cond b (y ∷ placed R x ys) (x ∷ y ∷ ys)) (ap is_gt (o.antisymm x y) ∙ turned (R y x) ∙ h.0) ∙ ap (λ l. y ∷ l) (placed_there R o x ys i h.1)
 
-pub all_placed : (P : GroupVersion → Type 0) (x : GroupVersion) (ys : List GroupVersion) → P x → AllByRecursion P ys → AllByRecursion P (placed version_cmp x ys)
-all_placed P x [] a b = (a, tt)
-all_placed P x (y ∷ ys) a b = by (is_gt (version_cmp x y)) (all_placed P x ys a b.1)
+pub filter_placed_out : {X : Type 0} (R : X → X → Ordering) (p : X → Bool) (x : X) → p x ≡ false → (ys : List X) → filter p (placed R x ys) ≡ filter p ys
+filter_placed_out R p x e [] = λ i. cond (e i) (x ∷ []) []
+filter_placed_out {X} R p x e (y ∷ ys) = by (is_gt (R x y)) (filter_placed_out R p x e ys)
   where
-    by : (t : Bool) → AllByRecursion P (placed version_cmp x ys) → AllByRecursion P (cond t (y ∷ placed version_cmp x ys) (x ∷ y ∷ ys))
+    by : (t : Bool) → filter p (placed R x ys) ≡ filter p ys → filter p (cond t (y ∷ placed R x ys) (x ∷ y ∷ ys)) ≡ filter p (y ∷ ys)
+    by true ih = λ i. cond (p y) (y ∷ ih i) (ih i)
+    by false ih = λ i. cond (e i) (x ∷ filter p (y ∷ ys)) (filter p (y ∷ ys))
+
+pub all_placed : {X : Type 0} (R : X → X → Ordering) (P : X → Type 0) (x : X) (ys : List X) → P x → AllByRecursion P ys → AllByRecursion P (placed R x ys)
+all_placed R P x [] a b = (a, tt)
+all_placed R P x (y ∷ ys) a b = by (is_gt (R x y)) (all_placed R P x ys a b.1)
+  where
+    by : (t : Bool) → AllByRecursion P (placed R x ys) → AllByRecursion P (cond t (y ∷ placed R x ys) (x ∷ y ∷ ys))
     by true r = (b.0, r)
     by false r = (a, b)
 
@@ -132,7 +140,7 @@ placed_order number group (w ∷ vs) a h = by (is_gt (version_cmp (version_from 
 
     by : (t : Bool) → is_gt (version_cmp (version_from number group) w) ≡ t → Apart Precedes (placed version_cmp (version_from number group) vs)
         → Apart Precedes (cond t (w ∷ placed version_cmp (version_from number group) vs) (version_from number group ∷ w ∷ vs))
-    by true e ih = (all_placed (Precedes w) (version_from number group) vs ((sides number group w h.0).0 e) a.0, ih)
+    by true e ih = (all_placed version_cmp (Precedes w) (version_from number group) vs ((sides number group w h.0).0 e) a.0, ih)
     by false e ih = (((sides number group w h.0).1 e, behind e vs a.0 h.1), a)
 
 -- ---- the groups that are there at a commit ascend by their rows

@@ -20,6 +20,7 @@ use Rattle.lv_group.specs.Gathered.{listed_values}
 use Rattle.lv_viewrows.specs.Kept.{row_listed, rows_listed}
 use Rattle.lv_viewrows.specs.Merged.{passing}
 use Rattle.lv_viewrows.proofs.Keeping.{group_listed, join_listed}
+use Rattle.lv_viewrows.proofs.Order.{all_placed, filter_placed_out}
 
 pub all_pass : {X : Type 0} (xs : List X) → filter (λ _. true) xs ≡ xs
 all_pass [] = refl
@@ -46,20 +47,12 @@ module _ {A : Type 0} (R : A → A → Ordering) (o : IsTotalOrder R) where
   over_none : (x y : A) (ys : List A) → is_gt (R x y) ≡ false → OverNone y ys → OverNone x ys
   over_none x y ys h a = all_weaker (λ z. is_gt (R y z) ≡ false) (λ z. is_gt (R x z) ≡ false) (λ z g. upto o x y z h g) ys a
 
-  over_placed : (w x : A) (ys : List A) → is_gt (R w x) ≡ false → OverNone w ys → OverNone w (placed R x ys)
-  over_placed w x [] h a = (h, tt)
-  over_placed w x (y ∷ ys) h a = by (is_gt (R x y)) (over_placed w x ys h a.1)
-    where
-      by : (t : Bool) → OverNone w (placed R x ys) → OverNone w (cond t (y ∷ placed R x ys) (x ∷ y ∷ ys))
-      by true r = (a.0, r)
-      by false r = (h, a)
-
   rises_placed : (x : A) (ys : List A) → Rises ys → Rises (placed R x ys)
   rises_placed x [] u = (tt, tt)
   rises_placed x (y ∷ ys) u = by (is_gt (R x y)) refl (rises_placed x ys u.1)
     where
       by : (t : Bool) → is_gt (R x y) ≡ t → Rises (placed R x ys) → Rises (cond t (y ∷ placed R x ys) (x ∷ y ∷ ys))
-      by true e r = (over_placed y x ys (not_over x y e) u.0, r)
+      by true e r = (all_placed R (λ z. is_gt (R y z) ≡ false) x ys (not_over x y e) u.0, r)
       by false e r = ((e, over_none x y ys e u.0), u)
 
   rises_ascending : (xs : List A) → Rises (ascending R xs)
@@ -70,28 +63,22 @@ module _ {A : Type 0} (R : A → A → Ordering) (o : IsTotalOrder R) where
   placed_first x [] a = refl
   placed_first x (y ∷ ys) a = λ i. cond (a.0 i) (y ∷ placed R x ys) (x ∷ y ∷ ys)
 
-  filter_placed : (p : A → Bool) (x : A) (ys : List A) → Rises ys → filter p (placed R x ys) ≡ cond (p x) (placed R x (filter p ys)) (filter p ys)
-  filter_placed p x [] u = refl
-  filter_placed p x (y ∷ ys) u = by (is_gt (R x y)) refl (p y) refl (p x) refl (filter_placed p x ys u.1)
+  filter_placed : (p : A → Bool) (x : A) → p x ≡ true → (ys : List A) → Rises ys → filter p (placed R x ys) ≡ placed R x (filter p ys)
+  filter_placed p x e [] u = λ i. cond (e i) (x ∷ []) []
+  filter_placed p x e (y ∷ ys) u = by (is_gt (R x y)) refl (p y) refl (filter_placed p x e ys u.1)
     where
-      by : (t : Bool) → is_gt (R x y) ≡ t → (a : Bool) → p y ≡ a → (b : Bool) → p x ≡ b → filter p (placed R x ys) ≡ cond (p x) (placed R x (filter p ys)) (filter p ys)
-          → filter p (cond t (y ∷ placed R x ys) (x ∷ y ∷ ys)) ≡ cond (p x) (placed R x (filter p (y ∷ ys))) (filter p (y ∷ ys))
-      by true e true f b g ih = rw f (ap (λ l. y ∷ l) (ih ∙ ap (λ c. cond c (placed R x (filter p ys)) (filter p ys)) g) ∙ first b ∙ ap (λ c. cond c (placed R x (y ∷ filter p ys)) (y ∷ filter p ys)) (sym g))
-        where
-          first : (b : Bool) → y ∷ cond b (placed R x (filter p ys)) (filter p ys) ≡ cond b (placed R x (y ∷ filter p ys)) (y ∷ filter p ys)
-          first true = λ i. cond (sym e i) (y ∷ placed R x (filter p ys)) (x ∷ y ∷ filter p ys)
-          first false = refl
-      by true e false f b g ih = rw f ih
-      by false e a f true g ih = rw g (sym (placed_first x (filter p (y ∷ ys)) (all_filter (λ z. is_gt (R x z) ≡ false) p (y ∷ ys) (e, over_none x y ys e u.0))))
-      by false e a f false g ih = rw g refl
+      by : (t : Bool) → is_gt (R x y) ≡ t → (a : Bool) → p y ≡ a → filter p (placed R x ys) ≡ placed R x (filter p ys) → filter p (cond t (y ∷ placed R x ys) (x ∷ y ∷ ys)) ≡ placed R x (filter p (y ∷ ys))
+      by true f true g ih = rw g (ap (λ l. y ∷ l) ih ∙ (λ i. cond (sym f i) (y ∷ placed R x (filter p ys)) (x ∷ y ∷ filter p ys)))
+      by true f false g ih = rw g ih
+      by false f a g ih = rw e (sym (placed_first x (filter p (y ∷ ys)) (all_filter (λ z. is_gt (R x z) ≡ false) p (y ∷ ys) (f, over_none x y ys f u.0))))
 
   pub filter_ascending : (p : A → Bool) (xs : List A) → filter p (ascending R xs) ≡ ascending R (filter p xs)
   filter_ascending p [] = refl
-  filter_ascending p (x ∷ xs) = filter_placed p x (ascending R xs) (rises_ascending xs) ∙ by (p x) (filter_ascending p xs)
+  filter_ascending p (x ∷ xs) = by (p x) refl (filter_ascending p xs)
     where
-      by : (b : Bool) → filter p (ascending R xs) ≡ ascending R (filter p xs) → cond b (placed R x (filter p (ascending R xs))) (filter p (ascending R xs)) ≡ ascending R (cond b (x ∷ filter p xs) (filter p xs))
-      by true ih = ap (placed R x) ih
-      by false ih = ih
+      by : (b : Bool) → p x ≡ b → filter p (ascending R xs) ≡ ascending R (filter p xs) → filter p (placed R x (ascending R xs)) ≡ ascending R (cond b (x ∷ filter p xs) (filter p xs))
+      by true e ih = filter_placed p x e (ascending R xs) (rises_ascending xs) ∙ ap (placed R x) ih
+      by false e ih = filter_placed_out R p x e (ascending R xs) ∙ ih
 
 -- ---- the rows that a view lists
 pub passing_append : (view : ViewDef) (p : List Value → Bool) (xs ys : List SignedRow) → passing view p (xs ++ ys) ≡ passing view p xs ++ passing view p ys

@@ -6,6 +6,7 @@ use Rattle.std.specs.Ordering.{is_eq, ordering_reverse}
 use Rattle.std.proofs.lemmas.Cmp.{tied_itself}
 use Rattle.lv_values.specs.declared.value.Value.{Value}
 use Rattle.lv_values.specs.Ascending.{placed}
+use Rattle.lv_values.specs.Order.{row_eq}
 use Rattle.lv_schema.specs.declared.signed.SignedRow.{SignedRow}
 use Rattle.lv_schema.proofs.Apart.{all_weaker}
 use Rattle.lv_group.specs.Gathered.{has_tuples}
@@ -16,9 +17,9 @@ use Rattle.lv_viewrows.specs.declared.version.GroupVersion.{GroupVersion}
 use Rattle.lv_viewrows.specs.Changed.{group_with}
 use Rattle.lv_viewrows.specs.Kept.{version_from}
 use Rattle.lv_viewrows.specs.Standing.{MeetAll, Precedes, changed, comes_before, current, ended, ended_at, has_no_end, is_current, joined, not_ended_before, put, version_cmp}
-use Rattle.lv_viewrows.proofs.Ending.{current_in_front, none_in_front, other_in_front}
+use Rattle.lv_viewrows.proofs.Ending.{both, current_in_front, none_in_front, other_in_front}
 use Rattle.lv_viewrows.proofs.Galloping.{cut_ended, cut_put}
-use Rattle.lv_viewrows.proofs.NotEnded.{before_after, before_inserted, with_item}
+use Rattle.lv_viewrows.proofs.NotEnded.{before_after, before_inserted, before_next, with_item}
 use Rattle.lv_viewrows.proofs.Order.{placed_there, precedes_less, version_total}
 
 -- ---- a version in the place of the one that stands where it does, and each other one as it is
@@ -60,44 +61,64 @@ no_current number s vs a m (suc i) cut h =
     let long = cut_long (comes_before s.row number) (suc i) vs cut in
     with_item vs i (omega (arith, long)) (λ item get. other_in_front number s vs a m (suc i) cut i item refl get (h item (omega arith) (ap (slice_get vs) before ∙ get)))
 
--- ---- a change of a row that has one
-module _ (number : ℕ) (s : SignedRow) (vs : List GroupVersion) (a : Apart Precedes vs) (m : MeetAll number vs s) (n : ℕ) (cut : IsCut (comes_before s.row number) n vs) (i : ℕ) (item : GroupVersion) (is : suc i ≡ n) (get : slice_get vs i ≡ Some item) (here : is_current s.row item ≡ true) (group : SignedRow) (joins : group ≡ group_with item.group s) where
-  -- the versions once that of the group ended, and the one that follows it
-  abbrev pub left : List GroupVersion
-  left = set vs i (ended_at number item)
+-- ---- a change of a row that has one: the last of the first n versions, of which few have not ended
+pub record HasCurrent (number : ℕ) (s : SignedRow) (vs : List GroupVersion) (n few : ℕ) (item : GroupVersion) : Type 0 where
+  pub order : Apart Precedes vs
+  pub meets : MeetAll number vs s
+  pub some : 0 < n
+  pub cut : IsCut (comes_before s.row number) n vs
+  pub place : few ≡ not_ended_before n vs
+  pub get : slice_get vs (n - 1) ≡ Some item
+  pub here : is_current s.row item ≡ true
 
-  abbrev pub added : GroupVersion
-  added = version_from number group
+-- what the change leaves, where one more has ended
+pub record IsChanged (number : ℕ) (s : SignedRow) (vs : List GroupVersion) (n few : ℕ) (now : List GroupVersion) : Type 0 where
+  pub is : now ≡ changed number s vs
+  pub cut : IsCut (comes_before s.row number) n now
+  pub place : few ≡ suc (not_ended_before n now)
+
+module _ {number : ℕ} {s : SignedRow} {vs : List GroupVersion} {n few : ℕ} {item : GroupVersion} (was : HasCurrent number s vs n few item) where
+  suc_before : suc (n - 1) ≡ n
+  suc_before = omega (arith, was.some)
+
+  pub fewer : few ≡ suc (not_ended_before (n - 1) vs)
+  fewer = was.place ∙ ap (λ k. not_ended_before k vs) (sym suc_before) ∙ before_next has_no_end (n - 1) vs item was.get (both (has_no_end item) (row_eq s.row item.group.row) was.here).0
+
+  -- the versions once that of the group ended
+  abbrev left : List GroupVersion
+  left = set vs (n - 1) (ended_at number item)
 
   found : (current s.row vs ≡ item.group ∷ []) × (map (ended number s.row) vs ≡ left)
-  found = current_in_front number s vs a m n cut i item is get here
+  found = current_in_front number s vs was.order was.meets n was.cut (n - 1) item suc_before was.get was.here
 
-  pub cut_left : IsCut (comes_before s.row number) n left
-  cut_left = subst (IsCut (comes_before s.row number) n) found.1 (cut_ended number s.row n vs cut)
+  cut_left : IsCut (comes_before s.row number) n left
+  cut_left = subst (IsCut (comes_before s.row number) n) found.1 (cut_ended number s.row n vs was.cut)
 
-  row : s.row ≡ group.row
-  row = sym (ap (λ (g : SignedRow). g.row) joins)
+  place_left : few ≡ suc (not_ended_before n left)
+  place_left = fewer ∙ ap suc (sym (ap (λ k. not_ended_before k left) (sym suc_before) ∙ before_after has_no_end (n - 1) vs item (ended_at number item) was.get refl))
 
-  own_cut : IsCut (comes_before group.row number) n left
-  own_cut = subst (λ (r : List Value). IsCut (comes_before r number) n left) row cut_left
+  module _ (group : SignedRow) (joins : group ≡ group_with item.group s) where
+    -- the one that follows it
+    abbrev added : GroupVersion
+    added = version_from number group
 
-  is_put : put number group left ≡ changed number s vs
-  is_put = ap (λ g. put number g left) (joins ∙ ap (λ groups. joined groups s) (sym found.0)) ∙ ap (put number (joined (current s.row vs) s)) (sym found.1)
+    is_put : put number group left ≡ changed number s vs
+    is_put = ap (λ g. put number g left) (joins ∙ ap (λ groups. joined groups s) (sym found.0)) ∙ ap (put number (joined (current s.row vs) s)) (sym found.1)
 
-  next : n ≡ i + 1
-  next = omega (arith, is)
+    pub is_left : has_tuples group ≡ false → (now : List GroupVersion) → now ≡ left → IsChanged number s vs n few now
+    is_left e now ends = subst (IsChanged number s vs n few) (sym ends) (record {
+      is = sym (ap (λ b. cond b (placed version_cmp added left) left) e) ∙ is_put;
+      cut = cut_left;
+      place = place_left;
+    })
 
-  pub goes : has_tuples group ≡ false → left ≡ changed number s vs
-  goes e = sym (ap (λ b. cond b (placed version_cmp added left) left) e) ∙ is_put
-
-  pub follows : has_tuples group ≡ true → insert left (i + 1) added ≡ changed number s vs
-  follows e = ap (λ k. insert left k added) (sym next) ∙ sym (placed_there version_cmp version_total added left n own_cut) ∙ sym (ap (λ b. cond b (placed version_cmp added left) left) e) ∙ is_put
-
-  pub cut_followed : IsCut (comes_before s.row number) n (insert left (i + 1) added)
-  cut_followed = subst (λ k. IsCut (comes_before s.row number) n (insert left k added)) next (subst (λ (r : List Value). IsCut (comes_before r number) n (insert left n added)) (sym row) (cut_put number group n left own_cut))
-
-  pub place_left : not_ended_before n left ≡ not_ended_before i vs
-  place_left = ap (λ k. not_ended_before k left) (sym is) ∙ before_after has_no_end i vs item (ended_at number item) get refl
-
-  pub place_followed : not_ended_before n (insert left (i + 1) added) ≡ not_ended_before i vs
-  place_followed = ap (λ k. not_ended_before n (insert left k added)) (sym next) ∙ before_inserted has_no_end n left added (cut_long (comes_before s.row number) n left cut_left) ∙ place_left
+    pub is_followed : has_tuples group ≡ true → (now : List GroupVersion) → now ≡ insert left (n - 1 + 1) added → IsChanged number s vs n few now
+    is_followed e now follows =
+        let row : s.row ≡ group.row = sym (ap (λ (g : SignedRow). g.row) joins) in
+        let own_cut = subst (λ (r : List Value). IsCut (comes_before r number) n left) row cut_left in
+        let there = follows ∙ ap (λ k. insert left k added) (omega (arith, was.some)) in
+        subst (IsChanged number s vs n few) (sym there) (record {
+          is = sym (placed_there version_cmp version_total added left n own_cut) ∙ sym (ap (λ b. cond b (placed version_cmp added left) left) e) ∙ is_put;
+          cut = subst (λ (r : List Value). IsCut (comes_before r number) n (insert left n added)) (sym row) (cut_put number group n left own_cut);
+          place = place_left ∙ ap suc (sym (before_inserted has_no_end n left added (cut_long (comes_before s.row number) n left cut_left)));
+        })

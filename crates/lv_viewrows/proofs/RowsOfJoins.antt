@@ -5,6 +5,7 @@ use Rattle.std.specs.List.{AllByRecursion}
 use Rattle.std.specs.Ordering.{int_eq, is_eq}
 use Rattle.std.specs.declared.cmp.Ordering.TheVariants.{Less}
 use Rattle.std.proofs.lemmas.List.Folds.{list_any-append}
+use Rattle.std.proofs.lemmas.Simd.{map-map}
 use Rattle.lv_values.specs.declared.value.Value.{Value}
 use Rattle.lv_values.specs.Order.{row_cmp, row_eq}
 use Rattle.lv_values.specs.OrderLaws.{row_exact, row_total}
@@ -226,5 +227,4 @@ rows_of_ones [] = refl
 rows_of_ones (row ∷ rows) = ap (λ l. row ∷ l) (rows_of_ones rows)
 
 pub versions_of_ones : (rows : List (List Value)) → map (version_from 0) (map one_row rows) ≡ map (λ row. version_from 0 (one_row row)) rows
-versions_of_ones [] = refl
-versions_of_ones (row ∷ rows) = ap (λ l. version_from 0 (one_row row) ∷ l) (versions_of_ones rows)
+versions_of_ones rows = map-map (version_from 0) one_row rows

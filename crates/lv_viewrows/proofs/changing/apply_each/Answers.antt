@@ -5,9 +5,10 @@ use Rattle.lv_schema.specs.declared.signed.SignedRow.{SignedRow}
 use Rattle.lv_schema.proofs.Apart.{all_true, all_weaker}
 use Rattle.lv_shelf.specs.Cuts.{Apart, IsCut}
 use Rattle.lv_shelf.proofs.Cutting.{cut_long}
+use Rattle.lv_shelf.proofs.Shelved.{all_last}
 use Rattle.lv_values.specs.Order.{row_cmp}
 use Rattle.lv_viewrows.specs.Standing.{IsBy, MeetAll, NoneBefore, Precedes, changed_all, comes_before, has_no_end, not_ended}
-use Rattle.lv_viewrows.proofs.Changes.{RowsAscend, ascend_last, changed_each, changed_last, changed_order, last_met, rest_met}
+use Rattle.lv_viewrows.proofs.Changes.{RowsAscend, ascend_last, changed_each, changed_last, changed_order, rest_met}
 use Rattle.lv_viewrows.proofs.Galloping.{none_at_end, none_lower, none_passes}
 use Rattle.lv_viewrows.proofs.NotEnded.{cut_filtered}
 use Rattle.lv_viewrows.proofs.changing.apply_each.Goals as goal
@@ -35,12 +36,12 @@ loop-change-init c =
 pub apply-high-requires-clause-above : goal.apply-high-requires-clause-above
 apply-high-requires-clause-above c =
     let above = λ (s : SignedRow). NoneBefore s.row c.args.number c.loop-change.high.all c.loop-change.versions.list in
-    (last_met above c.pop.new.self c.in-Some.change (subst (AllByRecursion above) c.in-Some.ensures c.loop-change.invariant.above)).1
+    (all_last above c.pop.new.self c.in-Some.change (subst (AllByRecursion above) c.in-Some.ensures c.loop-change.invariant.above)).1
 
 pub apply-high-requires-clause-above_not_ended : goal.apply-high-requires-clause-above_not_ended
 apply-high-requires-clause-above_not_ended c =
     let above = λ (s : SignedRow). NoneBefore s.row c.args.number c.loop-change.high.not_ended (not_ended c.loop-change.versions.list) in
-    (last_met above c.pop.new.self c.in-Some.change (subst (AllByRecursion above) c.in-Some.ensures c.loop-change.invariant.above_not_ended)).1
+    (all_last above c.pop.new.self c.in-Some.change (subst (AllByRecursion above) c.in-Some.ensures c.loop-change.invariant.above_not_ended)).1
 
 pub loop-change-preserved : goal.loop-change-preserved
 loop-change-preserved c =
@@ -50,7 +51,7 @@ loop-change-preserved c =
     let vs = c.loop-change.versions.list in
     let was = c.loop-change.invariant in
     let popped : c.loop-change.changes ≡ rest ++ s ∷ [] = c.in-Some.ensures in
-    let met = last_met (MeetAll number vs) rest s (subst (AllByRecursion (MeetAll number vs)) popped was.meet) in
+    let met = all_last (MeetAll number vs) rest s (subst (AllByRecursion (MeetAll number vs)) popped was.meet) in
     let up = ascend_last rest s (subst RowsAscend popped was.ascend) in
     let after = c.apply-high.ensures.changed in
     let at = c.apply-high.result.all in

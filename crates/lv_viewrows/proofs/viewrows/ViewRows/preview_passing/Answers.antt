@@ -1,14 +1,10 @@
-use Rattle.std.proofs.Common.{◌≡◌, List, filter, sym, ap, ◌∙◌, subst}
-use Rattle.std.specs.List.{AllByRecursion}
+use Rattle.std.proofs.Common.{◌≡◌, List, filter, ap, ◌∙◌}
 use Rattle.std.proofs.lemmas.Result.{IfOk-weaker}
 use Rattle.lv_values.specs.declared.value.Value.{Value}
 use Rattle.lv_schema.specs.declared.signed.SignedRow.{SignedRow}
-use Rattle.lv_shelf.specs.Cuts.{Apart}
-use Rattle.lv_viewrows.specs.declared.version.GroupVersion.{GroupVersion}
-use Rattle.lv_viewrows.specs.Changed.{CanInstall, groups_with}
+use Rattle.lv_viewrows.specs.Changed.{groups_with}
 use Rattle.lv_viewrows.specs.Kept.{ViewKept, groups_at, rows_listed}
 use Rattle.lv_viewrows.specs.Merged.{AllFitAt, merged}
-use Rattle.lv_viewrows.specs.Standing.{Precedes, read_at}
 use Rattle.lv_viewrows.proofs.Installing.{now_ascend, now_change}
 use Rattle.lv_viewrows.proofs.Keeping.{meet}
 use Rattle.lv_viewrows.proofs.Merging.{all_fit, merged_is}
@@ -16,38 +12,26 @@ use Rattle.lv_viewrows.proofs.ReadAt.{all_read, groups_read, order_read}
 use Rattle.lv_viewrows.proofs.viewrows.ViewRows.preview_passing.Goals as goal
 
 pub rows_passing-requires-clause-order : goal.rows_passing-requires-clause-order
-rows_passing-requires-clause-order g c =
-    let s = c.self.inside in
-    let read = c.versions_at.ensures ∙ ap (λ (k : ViewKept). read_at k.at s.at k.versions) (sym c.self.view_is) in
-    subst (Apart Precedes) (sym read) (order_read s.at s.at s.versions.list c.self.invariant.order)
+rows_passing-requires-clause-order g c = order_read c.self.view_is c.self.invariant c.self.inside.at _ c.versions_at.ensures
 
 pub rows_passing-requires-clause-fit : goal.rows_passing-requires-clause-fit
 rows_passing-requires-clause-fit g c =
     let s = c.self.inside in
     let hi = c.args.hi in
     let list = c.args.changes.now in
-    let k : ViewKept = record { def = s.def; at = s.at; versions = s.versions.list; spare = s.versions.spare } in
-    let can : CanInstall k hi list = subst (λ (k : ViewKept). CanInstall k c.args.hi c.args.changes.now) (sym c.self.view_is) c.requires.change in
-    let read = c.versions_at.ensures ∙ ap (λ (k : ViewKept). read_at k.at s.at k.versions) (sym c.self.view_is) in
-    subst (AllByRecursion (AllFitAt s.at list)) (sym read)
-    (all_read s.at s.at s.versions.list (AllFitAt s.at list) (all_fit s.at hi list s.versions.list c.self.invariant.each (meet k c.self.invariant hi list can)))
+    all_read c.self.view_is c.self.invariant s.at _ c.versions_at.ensures (AllFitAt s.at list) (all_fit s.at hi list s.versions.list c.self.invariant.each (meet c.self.view_is c.self.invariant hi list c.requires.change))
 
 pub returns : goal.returns
 returns g c =
     let s = c.self.inside in
-    let hi = c.args.hi in
     let list = c.args.changes.now in
     let p = g.T.Test.passed c.args.test.now in
-    let k : ViewKept = record { def = s.def; at = s.at; versions = s.versions.list; spare = s.versions.spare } in
-    let can : CanInstall k hi list = subst (λ (k : ViewKept). CanInstall k c.args.hi c.args.changes.now) (sym c.self.view_is) c.requires.change in
     let now = groups_at s.at s.versions.list in
-    let read = c.versions_at.ensures ∙ ap (λ (k : ViewKept). read_at k.at s.at k.versions) (sym c.self.view_is) in
     let found_now = groups_at s.at c.versions_at.result in
     let shows =
-    ap (λ (l : List GroupVersion). filter p (rows_listed s.def (merged list (groups_at s.at l)))) read
-    ∙ ap (λ (groups : List SignedRow). filter p (rows_listed s.def (merged list groups))) (groups_read s.at s.at s.versions.list c.self.invariant.each)
+    ap (λ (groups : List SignedRow). filter p (rows_listed s.def (merged list groups))) (groups_read c.self.view_is c.self.invariant s.at _ c.versions_at.ensures)
     ∙ ap (λ (groups : List SignedRow). filter p (rows_listed s.def groups))
-    (merged_is list now (now_ascend s.def s.at s.versions.list c.self.invariant) (now_change s.def s.at s.versions.list c.self.invariant) can.netted.ascend)
+    (merged_is list now (now_ascend s.def s.at s.versions.list c.self.invariant) (now_change s.def s.at s.versions.list c.self.invariant) c.requires.change.netted.ascend)
     ∙ ap (λ (k : ViewKept). filter p (rows_listed k.def (groups_with list (groups_at k.at k.versions)))) c.self.view_is in
     IfOk-weaker c.rows_passing.result (λ (found : List (List Value)). found ≡ filter p (rows_listed s.def (merged list found_now)))
     (λ (found : List (List Value)). found ≡ filter p (rows_listed c.args.self.now.def (groups_with list (groups_at c.args.self.now.at c.args.self.now.versions)))) (λ (found : List (List Value)) e. e ∙ shows) c.rows_passing.ensures
