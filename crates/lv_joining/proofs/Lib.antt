@@ -6,5 +6,4 @@ pub mod Databases
 pub mod OneTable
 pub mod Joined
 pub mod Meeting
-pub mod Reaches
 pub mod KeptSteps

@@ -1,6 +1,6 @@
 -- Numbers in blocks: where a place lies, and what a change of a block does to the numbers.
 use mathlib.Core.Logic.{⊎_elim}
-use Rattle.std.proofs.Common.{◌≡◌, ℕ, zero, suc, ◌+◌, ◌-◌, ◌*◌, ◌/◌, ◌<◌, ◌≤◌, List, [], ◌∷◌, ◌++◌, length, length-append, take, drop, get_or, set, refl, sym, ap, ap₂, ◌∙◌, subst, arith}
+use Rattle.std.proofs.Common.{◌≡◌, ℕ, zero, suc, ◌+◌, ◌-◌, ◌*◌, ◌/◌, ◌%◌, ◌<◌, ◌≤◌, List, [], ◌∷◌, ◌++◌, length, length-append, take, drop, get_or, set, refl, sym, ap, ap₂, ◌∙◌, subst, arith}
 use Rattle.std.specs.List.{concat, insert, remove}
 use Rattle.std.proofs.lemmas.Bool.{cases_eq, cases_lt}
 use Rattle.std.proofs.lemmas.List.{append_assoc, get_or_push, get_or-append_right, get_or-set_other, get_or-set_same, get_or_append_left, drop-append-le, length-set, length-take, take-append-le, set-append_left, set-append_right, set-get_or}
@@ -33,66 +33,95 @@ before s k j lt = let le : suc k ≤ j = omega arith in omega (arith, mul-le-mul
 full : (s n : ℕ) (bs : List (List ℕ)) (j : ℕ) → ArePacked s n bs → j ≤ length bs → j * s ≤ n → length (concat (take j bs)) ≡ j * s
 full s n bs j p le more = front_long s bs j le (λ k lt. omega (arith, p.shares k (omega arith), before s k j lt, more))
 
--- ---- a read and a change of a block
-pub got_in : (s n : ℕ) (bs : List (List ℕ)) (j o : ℕ) (d : ℕ) → ArePacked s n bs → j < length bs → o < length (block_at bs j) → get_or (concat bs) (j * s + o) d ≡ get_or (block_at bs j) o d
-got_in s n bs j o d p lt in_block =
-    let long = full s n bs j p (omega arith) (omega (arith, p.shares j lt, in_block)) in
-    let at : j * s + o - j * s ≡ o = omega arith in
-    ap (λ l. get_or l (j * s + o) d) (concat_at bs j lt)
-    ∙ get_or-append_right (concat (take j bs)) (block_at bs j ++ concat (drop (suc j) bs)) (j * s) (j * s + o) d long (omega arith)
-    ∙ ap (λ i. get_or (block_at bs j ++ concat (drop (suc j) bs)) i d) at
-    ∙ get_or_append_left (block_at bs j) (concat (drop (suc j) bs)) d o in_block
-
--- from a place on: what its block has from there on, and the blocks behind
-pub rest_in : (s n : ℕ) (bs : List (List ℕ)) (j o : ℕ) → ArePacked s n bs → j < length bs → o < length (block_at bs j) → drop (j * s + o) (concat bs) ≡ drop o (block_at bs j) ++ concat (drop (suc j) bs)
-rest_in s n bs j o p lt in_block =
-    let long = full s n bs j p (omega arith) (omega (arith, p.shares j lt, in_block)) in
-    let front = concat (take j bs) in
-    let behind = concat (drop (suc j) bs) in
-    ap (λ l. drop (j * s + o) l) (concat_at bs j lt)
-    ∙ ap (λ i. drop (i + o) (front ++ (block_at bs j ++ behind))) (sym long)
-    ∙ drop-append-add front (block_at bs j ++ behind) o
-    ∙ drop-append-le o (block_at bs j) behind (omega (arith, in_block))
+-- a place below the end of all blocks lies in one of them
+pub below_end : (s at m : ℕ) → 0 < s → at < s * m → at / s < m
+below_end s at m some lt = ⊎_elim
+    (λ (less : at / s < m). less)
+    (λ (past : m ≤ at / s). absurd (omega (arith, some, lt, mul-le-mul_left s past)))
+    (cases_lt (at / s) m)
 
 -- a run in a part is one in the whole
-pub run_longer : (r xs ys : List ℕ) → r ≡ take (length r) xs → r ≡ take (length r) (xs ++ ys)
+run_longer : (r xs ys : List ℕ) → r ≡ take (length r) xs → r ≡ take (length r) (xs ++ ys)
 run_longer r xs ys e = e ∙ sym (take-append-le (length r) xs ys (omega (arith, ap length e, length-take (length r) xs)))
 
-pub put_in : (s n : ℕ) (bs : List (List ℕ)) (j o x : ℕ) → ArePacked s n bs → j < length bs → j * s ≤ n → o ≤ length (block_at bs j) → concat (set bs j (insert (block_at bs j) o x)) ≡ insert (concat bs) (j * s + o) x
-put_in s n bs j o x p lt more in_block =
-    let long = full s n bs j p (omega arith) more in
-    let at : j * s + o - j * s ≡ o = omega arith in
-    let front = concat (take j bs) in
-    let behind = concat (drop (suc j) bs) in
-    concat_set bs j (insert (block_at bs j) o x) lt
-    ∙ ap (λ l. front ++ l) (sym (insert-append_left (block_at bs j) behind o x in_block))
-    ∙ ap (λ i. front ++ insert (block_at bs j ++ behind) i x) (sym at)
-    ∙ sym (insert-append_right front (block_at bs j ++ behind) (j * s) (j * s + o) x long (omega arith))
-    ∙ ap (λ l. insert l (j * s + o) x) (sym (concat_at bs j lt))
+-- ---- a read and a change at a place of the numbers: of one block
+module _ (s n : ℕ) (bs : List (List ℕ)) (at : ℕ) where
+  abbrev here : List ℕ
+  here = block_at bs (at / s)
 
-pub taken_in : (s n : ℕ) (bs : List (List ℕ)) (j o : ℕ) → ArePacked s n bs → j < length bs → o < length (block_at bs j) → concat (set bs j (remove (block_at bs j) o)) ≡ remove (concat bs) (j * s + o)
-taken_in s n bs j o p lt in_block =
-    let long = full s n bs j p (omega arith) (omega (arith, p.shares j lt, in_block)) in
-    let at : j * s + o - j * s ≡ o = omega arith in
-    let front = concat (take j bs) in
-    let behind = concat (drop (suc j) bs) in
-    concat_set bs j (remove (block_at bs j) o) lt
-    ∙ ap (λ l. front ++ l) (sym (remove-append_left (block_at bs j) behind o in_block))
-    ∙ ap (λ i. front ++ remove (block_at bs j ++ behind) i) (sym at)
-    ∙ sym (remove-append_right front (block_at bs j ++ behind) (j * s) (j * s + o) long (omega arith))
-    ∙ ap (λ l. remove l (j * s + o)) (sym (concat_at bs j lt))
+  abbrev front : List ℕ
+  front = concat (take (at / s) bs)
 
-pub set_in : (s n : ℕ) (bs : List (List ℕ)) (j o x : ℕ) → ArePacked s n bs → j < length bs → o < length (block_at bs j) → concat (set bs j (set (block_at bs j) o x)) ≡ set (concat bs) (j * s + o) x
-set_in s n bs j o x p lt in_block =
-    let long = full s n bs j p (omega arith) (omega (arith, p.shares j lt, in_block)) in
-    let at : j * s + o - j * s ≡ o = omega arith in
-    let front = concat (take j bs) in
-    let behind = concat (drop (suc j) bs) in
-    concat_set bs j (set (block_at bs j) o x) lt
-    ∙ ap (λ l. front ++ l) (sym (set-append_left (block_at bs j) behind o x in_block))
-    ∙ ap (λ i. front ++ set (block_at bs j ++ behind) i x) (sym at)
-    ∙ sym (set-append_right front (block_at bs j ++ behind) (j * s) (j * s + o) x long (omega arith))
-    ∙ ap (λ l. set l (j * s + o) x) (sym (concat_at bs j lt))
+  abbrev behind : List ℕ
+  behind = concat (drop (suc (at / s)) bs)
+
+  -- the block of a place, and where in it the place lies
+  record IsPlace : Type 0 where
+    pub lt : at / s < length bs
+    pub long : length front ≡ at / s * s
+    pub from : at / s * s ≤ at
+    pub is : at - at / s * s ≡ at % s
+    pub upto : at % s ≤ length here
+    pub within : at < n → at % s < length here
+
+  place : 0 < s → ArePacked s n bs → at ≤ n → at < s * length bs → IsPlace
+  place some p le fits =
+      let lt = below_end s at (length bs) some fits in
+      record {
+        lt = lt;
+        long = full s n bs (at / s) p (omega (arith, lt)) (omega (arith, le));
+        from = omega arith;
+        is = omega arith;
+        upto = omega (arith, p.shares (at / s) lt, le);
+        within = λ less. omega (arith, p.shares (at / s) lt, less);
+      }
+
+  place_below : 0 < s → ArePacked s n bs → at < n → IsPlace
+  place_below some p less = place some p (omega (arith, less)) (omega (arith, p.fits, less))
+
+  pub got_in : (d : ℕ) → 0 < s → ArePacked s n bs → at < n → get_or here (at % s) d ≡ get_or (concat bs) at d
+  got_in d some p less =
+      let i = place_below some p less in
+      sym (get_or_append_left here behind d (at % s) (i.within less))
+      ∙ ap (λ o. get_or (here ++ behind) o d) (sym i.is)
+      ∙ sym (get_or-append_right front (here ++ behind) (at / s * s) at d i.long i.from)
+      ∙ ap (λ l. get_or l at d) (sym (concat_at bs (at / s) i.lt))
+
+  -- a run from a place on in its block is one in the whole
+  pub run_in : (r : List ℕ) → 0 < s → ArePacked s n bs → at < n → r ≡ take (length r) (drop (at % s) here) → r ≡ take (length r) (drop at (concat bs))
+  run_in r some p less run =
+      let i = place_below some p less in
+      run_longer r (drop (at % s) here) behind run
+      ∙ ap (λ l. take (length r) l) (sym (drop-append-le (at % s) here behind i.upto) ∙ sym (drop-append-add front (here ++ behind) (at % s)))
+      ∙ ap (λ k. take (length r) (drop k (front ++ (here ++ behind)))) (omega (arith, i.long, i.is, i.from))
+      ∙ ap (λ l. take (length r) (drop at l)) (sym (concat_at bs (at / s) i.lt))
+
+  pub put_in : (x : ℕ) → 0 < s → ArePacked s n bs → at ≤ n → n < s * length bs → concat (set bs (at / s) (insert here (at % s) x)) ≡ insert (concat bs) at x
+  put_in x some p le room =
+      let i = place some p le (omega (arith, le, room)) in
+      concat_set bs (at / s) (insert here (at % s) x) i.lt
+      ∙ ap (λ l. front ++ l) (sym (insert-append_left here behind (at % s) x i.upto))
+      ∙ ap (λ o. front ++ insert (here ++ behind) o x) (sym i.is)
+      ∙ sym (insert-append_right front (here ++ behind) (at / s * s) at x i.long i.from)
+      ∙ ap (λ l. insert l at x) (sym (concat_at bs (at / s) i.lt))
+
+  pub taken_in : 0 < s → ArePacked s n bs → at < n → concat (set bs (at / s) (remove here (at % s))) ≡ remove (concat bs) at
+  taken_in some p less =
+      let i = place_below some p less in
+      concat_set bs (at / s) (remove here (at % s)) i.lt
+      ∙ ap (λ l. front ++ l) (sym (remove-append_left here behind (at % s) (i.within less)))
+      ∙ ap (λ o. front ++ remove (here ++ behind) o) (sym i.is)
+      ∙ sym (remove-append_right front (here ++ behind) (at / s * s) at i.long i.from)
+      ∙ ap (λ l. remove l at) (sym (concat_at bs (at / s) i.lt))
+
+  pub set_in : (x : ℕ) → 0 < s → ArePacked s n bs → at < n → concat (set bs (at / s) (set here (at % s) x)) ≡ set (concat bs) at x
+  set_in x some p less =
+      let i = place_below some p less in
+      concat_set bs (at / s) (set here (at % s) x) i.lt
+      ∙ ap (λ l. front ++ l) (sym (set-append_left here behind (at % s) x (i.within less)))
+      ∙ ap (λ o. front ++ set (here ++ behind) o x) (sym i.is)
+      ∙ sym (set-append_right front (here ++ behind) (at / s * s) at x i.long i.from)
+      ∙ ap (λ l. set l at x) (sym (concat_at bs (at / s) i.lt))
 
 -- ---- a number that goes on to the next block, or back
 pub passed : (bs : List (List ℕ)) (j x : ℕ) (b : List ℕ) → suc j < length bs → block_at bs j ≡ b ++ x ∷ [] → concat (set (set bs j b) (suc j) (x ∷ block_at bs (suc j))) ≡ concat bs
@@ -239,13 +268,6 @@ packed_back s n m j bs one le less fit p = record {
   where
     here : (k : ℕ) → k ≡ j → length (block_at bs k) + 1 ≡ share s n j → length (block_at bs k) ≡ share s m k
     here k e h = omega (arith, one, le, less, ap (λ i. i * s) e, h)
-
--- a place below the end of all blocks lies in one of them
-pub below_end : (s at m : ℕ) → 0 < s → at < s * m → at / s < m
-below_end s at m some lt = ⊎_elim
-    (λ (less : at / s < m). less)
-    (λ (past : m ≤ at / s). absurd (omega (arith, some, lt, mul-le-mul_left s past)))
-    (cases_lt (at / s) m)
 
 -- blocks with room for a number have a size
 pub some_size : (s n m : ℕ) → n < s * m → 0 < s

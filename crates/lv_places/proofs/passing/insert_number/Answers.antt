@@ -1,23 +1,11 @@
-use Rattle.std.proofs.Common.{◌≡◌, ◌+◌, ◌*◌, ◌/◌, ◌%◌, ◌<◌, ◌≤◌, ◌∙◌, ap, refl, length, arith}
+use Rattle.std.proofs.Common.{◌≡◌, ◌/◌, ◌∙◌, ap, refl, length, arith}
 use Rattle.std.proofs.lemmas.List.{length-set}
-use Rattle.std.specs.List.{concat, insert}
-use Rattle.lv_places.specs.Blocks.{block_at}
+use Rattle.std.specs.List.{concat}
 use Rattle.lv_places.proofs.Packed.{below_end, in_block, packed_on, put_in}
 use Rattle.lv_places.proofs.passing.insert_number.Goals as goal
 
 pub returns-clause-added : goal.returns-clause-added
-returns-clause-added g c =
-    let n = c.args.len in
-    let bs = c.args.blocks.now.items in
-    let at = c.args.at in
-    let x = c.args.number in
-    let p = c.requires.packed in
-    let j = at / g.row.SIZE in
-    let o = at % g.row.SIZE in
-    let is : j * g.row.SIZE + o ≡ at = omega arith in
-    let lt : j < length bs = below_end g.row.SIZE at (length bs) c.requires.size (omega (arith, c.requires.room, c.requires.place)) in
-    let within : o ≤ length (block_at bs j) = omega (arith, p.shares j lt, c.requires.place) in
-    c.pass_all.ensures.same ∙ ap concat c.insert_in.ensures ∙ put_in g.row.SIZE n bs j o x p lt (omega (arith, c.requires.place)) within ∙ ap (λ i. insert (concat bs) i x) is
+returns-clause-added g c = c.pass_all.ensures.same ∙ ap concat c.insert_in.ensures ∙ put_in g.row.SIZE c.args.len c.args.blocks.now.items c.args.at c.args.number c.requires.size c.requires.packed c.requires.place c.requires.room
 
 pub returns-clause-packed : goal.returns-clause-packed
 returns-clause-packed g c =
