@@ -26,7 +26,7 @@ pub(crate) type Pending = Items<Items<Difference>>;
 pub(crate) fn none_pending(alloc: Global, views: usize) -> Result<Pending, NoMemory>
     ensures { IfOk result (λ pending. pending ≡ replicate views []) }
 {
-    let mut pending = Pending::new(alloc);
+    let mut pending = Pending::from_vec(Vec::with_capacity(alloc, views)?);
     for _ in 0..views {
         pending.push(Items::new(alloc))?;
     }
@@ -121,7 +121,9 @@ fn reserve_each(pending: &[Items<Difference>], views: &mut [ViewRows]) -> Result
 {
     for view in 0..views.len() {
         let rows = changed_rows(pending[view].as_slice())?;
-        views[view].reserve(rows)?;
+        if rows > 0 {
+            views[view].reserve(rows)?;
+        }
     }
     Ok(())
 }
