@@ -19,7 +19,7 @@ use Rattle.lv_txn.specs.Kept.{live_kept}
 use Rattle.lv_store.specs.declared.store.Store.{Store}
 use Rattle.lv_joining.specs.Kept.{KeepsLinksBetween}
 use Rattle.lv_joining.proofs.Joined.{joined_cost, keeps_itself, keeps_on}
-use Rattle.lv_joining.proofs.Reaches.{bound_stands}
+use Rattle.lv_reach.proofs.Reaches.{bound_stands}
 use Rattle.lv_reach.specs.Cost.{cost}
 use Rattle.lv_reach.specs.Links.{links_of}
 use Rattle.lv_reach.proofs.Costing.{one_cost}
