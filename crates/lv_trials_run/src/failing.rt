@@ -1,13 +1,11 @@
 //! One call of the outside fails, in scripts with transactions and marks.
 
-use crate::runs::{Given, Left, run_on, run_over};
+use crate::runs::{Given, Left, run_again, run_asking, run_on};
 use crate::worked::{JOURNAL, count_of};
-use lv_outside::{FreeGate, MemDisks};
 use lv_runner::Status;
-use lv_values::{Items, NoMemory};
+use lv_values::NoMemory;
 use std::alloc::Global;
 use std::sync::Wait;
-use std::test::Fail;
 use std::thread::Threads;
 
 /// A commit that meets a failing disk, and is tried again.
@@ -47,26 +45,8 @@ const AGAIN: &[u8] = b"@session a
 select id from item
 ";
 
-/// What a run without words over one disk left, where memory was found.
-fn left_by<R: Threads + Wait + Sync>(
-    rt: &R,
-    alloc: Global,
-    script: &[u8],
-    bytes: &[u8],
-    fails: &[(u8, u64)],
-    sink_fails: &[u64],
-) -> Option<Left> {
-    let given = Given {
-        words: &[],
-        script,
-        source_fails: &[],
-        sink_fails,
-    };
-    run_on(rt, alloc, &given, bytes, fails).ok()
-}
-
-#[test]
-fn a_commit_whose_gate_is_in_doubt_is_tried_again(rt: HostRuntime) -> Result<(), Fail> {
+/// Whether a commit whose gate is in doubt is tried again.
+fn is_tried_again<R: Threads + Wait + Sync>(rt: &R, alloc: Global) -> Result<bool, NoMemory> {
     let want: &[u8] = b"setup 1 ok
 a 1 begin 0
 a 2 ok 1
@@ -75,17 +55,17 @@ a 4 commit 1
 a 5 rows 1
 | 1 | 10
 ";
-    let Some(left) = left_by(&rt, rt.alloc(), TWICE, b"", &[(4, 5)], &[]) else {
-        return Err(Fail::from(NoMemory));
-    };
-    assert!(rt; left.status == Status::Done);
-    assert!(rt; left.text.as_slice() == want);
-    assert!(rt; left.disk.is_some_and(|bytes| bytes.as_slice() == JOURNAL));
-    Ok(())
+    let left = run_on(rt, alloc, TWICE, b"", &[(4, 5)], &[])?;
+    Ok(left.is(Status::Done, want) && left.holds(JOURNAL))
 }
 
 #[test]
-fn what_was_written_before_a_sink_failed_is_in_the_journal(rt: HostRuntime) -> Result<(), Fail> {
+fn a_commit_whose_gate_is_in_doubt_is_tried_again(rt: HostRuntime) {
+    assert!(rt; is_tried_again(&rt, rt.alloc()) == Ok(true));
+}
+
+/// Whether what was written before a sink failed is in the journal.
+fn is_in_the_journal<R: Threads + Wait + Sync>(rt: &R, alloc: Global) -> Result<bool, NoMemory> {
     let want: &[u8] = b"setup 1 ok
 setup 2 ok
 setup 3 ok
@@ -98,58 +78,69 @@ a 2 ok 1 commit 2
 a 2 rows 1
 | 100 | 1 | 5
 ";
-    let Some(Left { status, text, disk }) = left_by(&rt, rt.alloc(), SHOP, b"", &[], &[7]) else {
-        return Err(Fail::from(NoMemory));
-    };
-    assert!(rt; status == Status::SinkFault);
-    assert!(rt; text.as_slice() == want);
-    let Some(bytes) = disk else {
-        return Err(Fail::from(NoMemory));
-    };
-    let Some(again) = left_by(&rt, rt.alloc(), LOOK, bytes.as_slice(), &[], &[]) else {
-        return Err(Fail::from(NoMemory));
-    };
-    assert!(rt; again.status == Status::Done);
-    assert!(rt; again.text.as_slice() == rows);
-    Ok(())
-}
-
-/// Whether a run of which one call of the disk fails ends well, or as one whose journal could not be opened; and whether the disk
-/// then has the rows of all that was accepted, and at most one more.
-fn survives<R: Threads + Wait + Sync>(rt: &R, alloc: Global, kind: u8, number: u64) -> bool {
-    let Some(Left { status, text, disk }) = left_by(rt, alloc, SHOP, b"", &[(kind, number)], &[])
-    else {
-        return false;
-    };
-    if status == Status::OpenFault {
-        return text.as_slice().is_empty();
-    }
-    let accepted = count_of(text.as_slice(), b" ok 1 commit ");
-    let Some(bytes) = disk else {
-        return false;
-    };
-    let Some(again) = left_by(rt, alloc, LOOK, bytes.as_slice(), &[], &[]) else {
-        return false;
-    };
-    let rows = count_of(again.text.as_slice(), b"\n| ");
-    let failures = count_of(text.as_slice(), b" fault 17 store fault");
-    status == Status::Done
-        && again.status == Status::Done
-        && failures <= 1
-        && (rows == accepted || rows == accepted.saturating_add(failures))
+    let left = run_on(rt, alloc, SHOP, b"", &[], &[7])?;
+    let is_written = left.is(Status::SinkFault, want);
+    let shows = left.shows(rt, alloc, LOOK, rows);
+    drop(left);
+    Ok(is_written && shows?)
 }
 
 #[test]
-fn each_failing_call_of_the_disk_is_survived(rt: HostRuntime) -> Result<(), Fail> {
+fn what_was_written_before_a_sink_failed_is_in_the_journal(rt: HostRuntime) {
+    assert!(rt; is_in_the_journal(&rt, rt.alloc()) == Ok(true));
+}
+
+/// How many rows a journal has, if it opens.
+fn rows_of<R: Threads + Wait + Sync>(
+    rt: &R,
+    alloc: Global,
+    bytes: &[u8],
+) -> Result<Option<u64>, NoMemory> {
+    let again = run_again(rt, alloc, LOOK, bytes)?;
+    Ok((again.status == Status::Done).then_some(count_of(again.text.as_slice(), b"\n| ")))
+}
+
+/// Whether a run of which one call of the disk fails ended well, or as one whose journal could not be opened; and whether the disk
+/// then has the rows of all that was accepted, and at most one more.
+fn is_left<R: Threads + Wait + Sync>(rt: &R, alloc: Global, left: &Left) -> Result<bool, NoMemory> {
+    let text = left.text.as_slice();
+    if left.status == Status::OpenFault {
+        return Ok(text.is_empty());
+    }
+    let Some(disk) = &left.disk else {
+        return Ok(false);
+    };
+    let rows = rows_of(rt, alloc, disk.as_slice())?;
+    let accepted = count_of(text, b" ok 1 commit ");
+    let failures = count_of(text, b" fault 17 store fault");
+    Ok(
+        left.status == Status::Done
+            && failures <= 1
+            && (rows == Some(accepted) || rows == Some(accepted.saturating_add(failures))),
+    )
+}
+
+/// Whether a run of which this call of the disk fails leaves so.
+fn survives<R: Threads + Wait + Sync>(
+    rt: &R,
+    alloc: Global,
+    kind: u8,
+    number: u64,
+) -> Result<bool, NoMemory> {
+    let left = run_on(rt, alloc, SHOP, b"", &[(kind, number)], &[])?;
+    is_left(rt, alloc, &left)
+}
+
+#[test]
+fn each_failing_call_of_the_disk_is_survived(rt: HostRuntime) {
     for kind in 1..5u8 {
         for number in 1..24u64 {
             assert!(rt;
-                survives(&rt, rt.alloc(), kind, number),
+                survives(&rt, rt.alloc(), kind, number) == Ok(true),
                 "kind {kind} call {number}"
             );
         }
     }
-    Ok(())
 }
 
 /// A run over empty disks in memory, and how it is to end.
@@ -222,23 +213,22 @@ static CASES: [Case; 8] = [
 
 /// Whether a run ends so.
 fn ends_so<R: Threads + Wait + Sync>(rt: &R, alloc: Global, case: &Case) -> Result<bool, NoMemory> {
-    let mut fails = Items::new(alloc);
-    fails.push(case.disk_fails)?;
-    let mut disks = MemDisks::new(alloc, fails);
     let given = Given {
         words: case.words,
         script: case.script,
         source_fails: case.source_fails,
         sink_fails: &[],
     };
-    let left = run_over(rt, alloc, &given, &mut disks, &FreeGate)?;
-    Ok(left.status == case.status)
+    Ok(run_asking(rt, alloc, &given, case.disk_fails)?.status == case.status)
 }
 
 #[test]
-fn each_status_comes_before_the_next(rt: HostRuntime) -> Result<(), Fail> {
-    for at in 0..CASES.len() {
-        assert!(rt; ends_so(&rt, rt.alloc(), &CASES[at])?, "case {at}");
+fn each_status_comes_before_the_next(rt: HostRuntime) {
+    let cases = &CASES;
+    for at in 0..cases.len() {
+        assert!(rt;
+            ends_so(&rt, rt.alloc(), &cases[at]) == Ok(true),
+            "case {at}"
+        );
     }
-    Ok(())
 }

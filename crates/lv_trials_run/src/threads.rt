@@ -1,14 +1,13 @@
 //! Runs in threads: over one program, two threads that wait for each other.
 
-use crate::runs::{Given, Left, disk_of, run_on, run_over};
+use crate::runs::{Given, Left, disk_of, run_again, run_over};
 use crossbeam_utils::Backoff;
-use lv_outside::{Gate, OneDisk};
+use lv_outside::{FreeGate, Gate, OneDisk};
 use lv_runner::Status;
 use lv_values::NoMemory;
 use std::alloc::Global;
+use std::sync::Wait;
 use std::sync::atomic::{AtomicU64, Ordering};
-use std::sync::{Arc, Wait};
-use std::test::Fail;
 use std::thread::Threads;
 
 /// How often an awaited turn is looked for, at most.
@@ -50,9 +49,9 @@ select * from sale
 /// the session's second for the worker's first.
 #[derive(Drop)]
 struct InTurn {
-    session: Arc<AtomicU64>,
-    worker: Arc<AtomicU64>,
-    missed: Arc<AtomicU64>,
+    session: AtomicU64,
+    worker: AtomicU64,
+    missed: AtomicU64,
 }
 
 impl InTurn {
@@ -89,29 +88,31 @@ impl Gate for InTurn {
     }
 }
 
-/// A script with words, of which no call fails.
-fn given<'a>(words: &'a [&'a str], script: &'a [u8]) -> Given<'a> {
-    Given {
-        words,
-        script,
-        source_fails: &[],
-        sink_fails: &[],
-    }
-}
-
-/// What a run over a disk with these bytes left.
-fn left_by<R: Threads + Wait + Sync>(
+/// What a run with words over a disk with these bytes left, of which no call fails.
+fn run_in<R: Threads + Wait + Sync, G: Gate + Sync>(
     rt: &R,
     alloc: Global,
     words: &[&str],
     script: &[u8],
     bytes: &[u8],
+    gate: &G,
 ) -> Result<Left, NoMemory> {
-    run_on(rt, alloc, &given(words, script), bytes, &[])
+    let given = Given {
+        words,
+        script,
+        source_fails: &[],
+        sink_fails: &[],
+    };
+    let mut disks = OneDisk::new(alloc, disk_of(alloc, bytes, &[])?);
+    run_over(rt, alloc, &given, &mut disks, gate)
 }
 
-#[test]
-fn a_worker_installs_between_two_turns_of_a_session(rt: HostRuntime) -> Result<(), Fail> {
+/// Whether a worker installs between two turns of a session that wait for it, where this gate lets each go on.
+fn installs_between<R: Threads + Wait + Sync>(
+    rt: &R,
+    alloc: Global,
+    gate: &InTurn,
+) -> Result<bool, NoMemory> {
     let want: &[u8] = b"setup 1 ok
 setup 2 ok
 setup 3 ok
@@ -121,24 +122,24 @@ w1 install per_item 0 1
 clean 1 versions 1 deltas 0
 a 2 rows 0
 ";
-    let alloc = rt.alloc();
-    let missed = Arc::new(alloc, AtomicU64::new(0))?;
-    let gate = InTurn {
-        session: Arc::new(alloc, AtomicU64::new(0))?,
-        worker: Arc::new(alloc, AtomicU64::new(0))?,
-        missed: Arc::try_clone(&missed)?,
-    };
-    let mut disks = OneDisk::new(alloc, disk_of(alloc, b"", &[])?);
     let words = ["--threads", "--workers", "1"];
-    let left = run_over(&rt, alloc, &given(&words, BETWEEN), &mut disks, &gate)?;
-    assert!(rt; missed.load(Ordering::SeqCst) == 0);
-    assert!(rt; left.status == Status::Done);
-    assert!(rt; left.text.as_slice() == want);
-    Ok(())
+    Ok(run_in(rt, alloc, &words, BETWEEN, b"", gate)?.is(Status::Done, want))
 }
 
 #[test]
-fn threads_go_on_over_an_old_journal(rt: HostRuntime) -> Result<(), Fail> {
+fn a_worker_installs_between_two_turns_of_a_session(rt: HostRuntime) {
+    let gate = InTurn {
+        session: AtomicU64::new(0),
+        worker: AtomicU64::new(0),
+        missed: AtomicU64::new(0),
+    };
+    let installs = installs_between(&rt, rt.alloc(), &gate);
+    assert!(rt; gate.missed.load(Ordering::SeqCst) == 0);
+    assert!(rt; installs == Ok(true));
+}
+
+/// Whether threads go on over an old journal, and it then has the rows.
+fn go_on<R: Threads + Wait + Sync>(rt: &R, alloc: Global, bytes: &[u8]) -> Result<bool, NoMemory> {
     let want: &[u8] = b"force per_item 0 2
 a 1 rows 1
 | 1 | 5 | 1
@@ -150,23 +151,27 @@ a 2 ok 1 commit 3
 a 2 rows 1
 | 100 | 1 | 5
 ";
-    let Left { disk, .. } = left_by(&rt, rt.alloc(), &[], FIRST, b"")?;
-    let Some(first) = disk else {
-        return Err(Fail::from(NoMemory));
+    let words = ["--threads", "--workers=0"];
+    let left = run_in(rt, alloc, &words, SECOND, bytes, &FreeGate)?;
+    let is_left = left.is(Status::Done, want);
+    let shows = left.shows(rt, alloc, LOOK, rows);
+    drop(left);
+    Ok(is_left && shows?)
+}
+
+/// The same over the journal of a run.
+fn go_on_over<R: Threads + Wait + Sync>(
+    rt: &R,
+    alloc: Global,
+    script: &[u8],
+) -> Result<bool, NoMemory> {
+    let Some(disk) = run_again(rt, alloc, script, b"")?.disk else {
+        return Ok(false);
     };
-    let Left { status, text, disk } = left_by(
-        &rt,
-        rt.alloc(),
-        &["--threads", "--workers=0"],
-        SECOND,
-        first.as_slice(),
-    )?;
-    assert!(rt; status == Status::Done);
-    assert!(rt; text.as_slice() == want);
-    let Some(bytes) = disk else {
-        return Err(Fail::from(NoMemory));
-    };
-    let again = left_by(&rt, rt.alloc(), &[], LOOK, bytes.as_slice())?;
-    assert!(rt; again.text.as_slice() == rows);
-    Ok(())
+    go_on(rt, alloc, disk.as_slice())
+}
+
+#[test]
+fn threads_go_on_over_an_old_journal(rt: HostRuntime) {
+    assert!(rt; go_on_over(&rt, rt.alloc(), FIRST) == Ok(true));
 }
