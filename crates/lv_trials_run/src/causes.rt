@@ -114,16 +114,6 @@ fn use_of(call: Call) -> Use {
     Use::Record(number / 2)
 }
 
-/// What a run of the shop's script over an empty disk leaves, where these calls of the disk and of the sink fail.
-fn left_by<R: Threads + Wait + Sync>(
-    rt: &R,
-    alloc: Global,
-    fails: &[Call],
-    sink_fails: &[u64],
-) -> Result<Left, NoMemory> {
-    run_on(rt, alloc, SHOP, b"", fails, sink_fails)
-}
-
 /// Whether a disk came back whose journal opens again and has so many records.
 fn opens_with<R: Threads + Wait + Sync>(
     rt: &R,
@@ -138,7 +128,7 @@ fn opens_with<R: Threads + Wait + Sync>(
     Ok(is_done && records_of(alloc, disk.as_slice()) == Some(records))
 }
 
-/// Whether a run of which a call of the disk fails left this: it is refused with nothing written, where the call is one of the opening;
+/// Whether a run of the shop's script of which a call of the disk fails left this: it is refused with nothing written, where the call is one of the opening;
 /// and else is answered as one whose record was not kept. At the end the disk has the accepted records; where the last sync fails, it
 /// has also the record that was to be kept by it.
 fn is_left<R: Threads + Wait + Sync>(
@@ -166,8 +156,10 @@ fn is_answered<R: Threads + Wait + Sync>(
     alloc: Global,
     call: Call,
 ) -> Result<bool, NoMemory> {
-    let left = left_by(rt, alloc, &[call], &[])?;
-    is_left(rt, alloc, &left, call)
+    let left = run_on(rt, alloc, SHOP, b"", &[call], &[])?;
+    let is_so = is_left(rt, alloc, &left, call);
+    drop(left);
+    is_so
 }
 
 #[test]
@@ -196,7 +188,9 @@ fn is_opened<R: Threads + Wait + Sync>(
     } else {
         left.is(Status::Done, ONE_ROW)
     };
-    Ok(is_so && left.holds(JOURNAL))
+    let stays = left.holds(JOURNAL);
+    drop(left);
+    Ok(is_so && stays)
 }
 
 #[test]
@@ -226,7 +220,7 @@ fn first_lines(text: &[u8], count: u64) -> &[u8] {
     text
 }
 
-/// Whether a run of which a call of the sink fails has written the entries before it, and its disk has the records of these and of the
+/// Whether a run of the shop's script of which a call of the sink fails has written the entries before it, and its disk has the records of these and of the
 /// entry that was to be written. There are eight calls: seven entries, each one piece, and a flush.
 fn is_written_so_far<R: Threads + Wait + Sync>(
     rt: &R,
@@ -243,7 +237,7 @@ fn is_written_so_far<R: Threads + Wait + Sync>(
     } else {
         Status::Done
     };
-    let left = left_by(rt, alloc, &[], &[number])?;
+    let left = run_on(rt, alloc, SHOP, b"", &[], &[number])?;
     let opens = opens_with(rt, alloc, &left, number.min(6));
     let is_written = left.is(status, want);
     drop(left);
@@ -260,35 +254,29 @@ fn each_call_of_the_sink_is_answered_for(rt: HostRuntime) {
     }
 }
 
-/// What a run of the shop's script over an empty disk leaves, where a call of the source fails, and an opening.
-fn left_where<R: Threads + Wait + Sync>(
+/// Whether a run of the shop's script over empty disks ends so, where a call of the source fails, and an asking for a disk: with all
+/// written, or with nothing written and no disk.
+fn ends_so<R: Threads + Wait + Sync>(
     rt: &R,
     alloc: Global,
     source_fails: u64,
-    opening_fails: u64,
-) -> Result<Left, NoMemory> {
+    asking_fails: u64,
+    status: Status,
+) -> Result<bool, NoMemory> {
     let given = Given {
         words: &[],
         script: SHOP,
         source_fails: &[source_fails],
         sink_fails: &[],
     };
-    run_asking(rt, alloc, &given, opening_fails)
-}
-
-/// Whether such a run ends so: with all written, or with nothing written and no disk.
-fn ends_so<R: Threads + Wait + Sync>(
-    rt: &R,
-    alloc: Global,
-    source_fails: u64,
-    opening_fails: u64,
-    status: Status,
-) -> Result<bool, NoMemory> {
-    let left = left_where(rt, alloc, source_fails, opening_fails)?;
-    if status == Status::Done {
-        return Ok(left.is(status, SHOP_TEXT));
-    }
-    Ok(left.is(status, b"") && left.disk.is_none())
+    let left = run_asking(rt, alloc, &given, asking_fails)?;
+    let is_so = if status == Status::Done {
+        left.is(status, SHOP_TEXT)
+    } else {
+        left.is(status, b"") && left.disk.is_none()
+    };
+    drop(left);
+    Ok(is_so)
 }
 
 #[test]

@@ -90,23 +90,23 @@ static DAMAGES: [Damage; 16] = [
     (77, 56, 2, Opened::Bad(34)),
 ];
 
-/// How the journal opens with a damage.
-fn open_damaged<R: Threads + Wait + Sync>(
+/// Whether the journal opens so with a damage.
+fn opens_so<R: Threads + Wait + Sync>(
     rt: &R,
     alloc: Global,
     damage: &Damage,
-) -> Result<Opened, NoMemory> {
-    open(rt, alloc, damaged(alloc, damage.0, damage.1, damage.2)?)
+) -> Result<bool, NoMemory> {
+    let bytes = damaged(alloc, damage.0, damage.1, damage.2)?;
+    Ok(open(rt, alloc, bytes)? == damage.3)
 }
 
 #[test]
 fn a_damaged_journal_is_refused_with_its_place(rt: HostRuntime) {
-    assert_eq!(rt; JOURNAL.len(), 77);
+    assert!(rt; JOURNAL.len() == 77);
     let damages = &DAMAGES;
     for at in 0..damages.len() {
-        assert_eq!(rt;
-            open_damaged(&rt, rt.alloc(), &damages[at]),
-            Ok(damages[at].3),
+        assert!(rt;
+            opens_so(&rt, rt.alloc(), &damages[at]) == Ok(true),
             "case {at}"
         );
     }
@@ -121,7 +121,7 @@ fn open_followed<R: Threads + Wait + Sync>(rt: &R, alloc: Global) -> Result<Open
 
 #[test]
 fn bytes_behind_the_last_gate_mean_nothing(rt: HostRuntime) {
-    assert_eq!(rt; open_followed(&rt, rt.alloc()), Ok(Opened::WithRow));
+    assert!(rt; open_followed(&rt, rt.alloc()) == Ok(Opened::WithRow));
 }
 
 /// Whether a script runs, or is refused with nothing written.

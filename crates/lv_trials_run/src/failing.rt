@@ -1,23 +1,12 @@
 //! One call of the outside fails, in scripts with transactions and marks.
 
 use crate::runs::{Given, Left, run_again, run_asking, run_on};
-use crate::worked::{JOURNAL, count_of};
+use crate::worked::{JOURNAL, LOOK, TWICE, count_of};
 use lv_runner::Status;
 use lv_values::NoMemory;
 use std::alloc::Global;
 use std::sync::Wait;
 use std::thread::Threads;
-
-/// A commit that meets a failing disk, and is tried again.
-const TWICE: &[u8] = b"@setup
-create table item (id int, price int, primary key (id))
-@session a
-begin
-insert into item values (1, 10)
-commit
-commit
-select * from item
-";
 
 /// Commits, a forced step and a mark.
 const SHOP: &[u8] = b"@setup
@@ -32,12 +21,6 @@ select * from per_item
 insert into item values (2, 20)
 insert into item values (3, 30)
 @order a a a mark per_item
-";
-
-/// All rows of the two tables.
-const LOOK: &[u8] = b"@session a
-select * from item
-select * from sale
 ";
 
 /// A table that is there already, and what is in it.
@@ -56,7 +39,9 @@ a 5 rows 1
 | 1 | 10
 ";
     let left = run_on(rt, alloc, TWICE, b"", &[(4, 5)], &[])?;
-    Ok(left.is(Status::Done, want) && left.holds(JOURNAL))
+    let is_so = left.is(Status::Done, want) && left.holds(JOURNAL);
+    drop(left);
+    Ok(is_so)
 }
 
 #[test]
@@ -128,7 +113,9 @@ fn survives<R: Threads + Wait + Sync>(
     number: u64,
 ) -> Result<bool, NoMemory> {
     let left = run_on(rt, alloc, SHOP, b"", &[(kind, number)], &[])?;
-    is_left(rt, alloc, &left)
+    let is_so = is_left(rt, alloc, &left);
+    drop(left);
+    is_so
 }
 
 #[test]
@@ -143,83 +130,36 @@ fn each_failing_call_of_the_disk_is_survived(rt: HostRuntime) {
     }
 }
 
-/// A run over empty disks in memory, and how it is to end.
-struct Case {
-    words: &'static [&'static str],
-    script: &'static [u8],
-    source_fails: &'static [u64],
-    disk_fails: u64,
-    status: Status,
-}
+/// A run over empty disks in memory: its words, its script, the calls of the source and the asking for a disk that fail, and how it is
+/// to end.
+type Case = (
+    &'static [&'static str],
+    &'static [u8],
+    &'static [u64],
+    u64,
+    Status,
+);
 
 static CASES: [Case; 8] = [
-    Case {
-        words: &["--combine", "0"],
-        script: b"\xff",
-        source_fails: &[1],
-        disk_fails: 1,
-        status: Status::Words,
-    },
-    Case {
-        words: &["--log", ""],
-        script: b"",
-        source_fails: &[],
-        disk_fails: 9,
-        status: Status::Words,
-    },
-    Case {
-        words: &["--make", "9", "--threads"],
-        script: b"",
-        source_fails: &[],
-        disk_fails: 9,
-        status: Status::Words,
-    },
-    Case {
-        words: &[],
-        script: AGAIN,
-        source_fails: &[2],
-        disk_fails: 1,
-        status: Status::SourceFault,
-    },
-    Case {
-        words: &[],
-        script: b"\xff",
-        source_fails: &[],
-        disk_fails: 1,
-        status: Status::Script { line: 1, kind: 1 },
-    },
-    Case {
-        words: &[],
-        script: AGAIN,
-        source_fails: &[],
-        disk_fails: 1,
-        status: Status::OpenFault,
-    },
-    Case {
-        words: &["--log", "x"],
-        script: AGAIN,
-        source_fails: &[],
-        disk_fails: 9,
-        status: Status::Done,
-    },
-    Case {
-        words: &["--make", "9"],
-        script: b"\xff",
-        source_fails: &[1],
-        disk_fails: 9,
-        status: Status::Done,
-    },
+    (&["--combine", "0"], b"\xff", &[1], 1, Status::Words),
+    (&["--log", ""], b"", &[], 9, Status::Words),
+    (&["--make", "9", "--threads"], b"", &[], 9, Status::Words),
+    (&[], AGAIN, &[2], 1, Status::SourceFault),
+    (&[], b"\xff", &[], 1, Status::Script { line: 1, kind: 1 }),
+    (&[], AGAIN, &[], 1, Status::OpenFault),
+    (&["--log", "x"], AGAIN, &[], 9, Status::Done),
+    (&["--make", "9"], b"\xff", &[1], 9, Status::Done),
 ];
 
 /// Whether a run ends so.
 fn ends_so<R: Threads + Wait + Sync>(rt: &R, alloc: Global, case: &Case) -> Result<bool, NoMemory> {
     let given = Given {
-        words: case.words,
-        script: case.script,
-        source_fails: case.source_fails,
+        words: case.0,
+        script: case.1,
+        source_fails: case.2,
         sink_fails: &[],
     };
-    Ok(run_asking(rt, alloc, &given, case.disk_fails)?.status == case.status)
+    Ok(run_asking(rt, alloc, &given, case.3)?.status == case.4)
 }
 
 #[test]

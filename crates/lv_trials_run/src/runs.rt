@@ -146,7 +146,10 @@ fn run_into<R: Threads + Wait + Sync, D: Disk + Send + Drop, O: Disks<Disk = D>,
 {
     let words = words_of(alloc, given.words)?;
     let mut source = source_of(alloc, given)?;
-    run_picked(rt, alloc, words.as_slice(), &mut source, sink, disks, gate)
+    let ran = run_picked(rt, alloc, words.as_slice(), &mut source, sink, disks, gate);
+    drop(source);
+    drop(words);
+    ran
 }
 
 /// Runs a script over disks.
@@ -200,7 +203,9 @@ pub(crate) fn run_asking<R: Threads + Wait + Sync>(
     asking_fails: u64,
 ) -> Result<Left, NoMemory> {
     let mut disks = MemDisks::new(alloc, Items::from_slice(alloc, &[asking_fails])?);
-    run_over(rt, alloc, given, &mut disks, &FreeGate)
+    let left = run_over(rt, alloc, given, &mut disks, &FreeGate);
+    drop(disks);
+    left
 }
 
 /// The same over one disk in memory that holds these bytes, without words, where these calls of the disk and of the sink fail.
@@ -219,7 +224,9 @@ pub(crate) fn run_on<R: Threads + Wait + Sync>(
         sink_fails,
     };
     let mut disks = OneDisk::new(alloc, disk_of(alloc, bytes, disk_fails)?);
-    run_over(rt, alloc, &given, &mut disks, &FreeGate)
+    let left = run_over(rt, alloc, &given, &mut disks, &FreeGate);
+    drop(disks);
+    left
 }
 
 /// The same where no call fails.

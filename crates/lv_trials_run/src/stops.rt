@@ -2,7 +2,7 @@
 ghost use Rattle.std.specs.Prelude.{◌<◌};
 
 use crate::runs::{Ended, Given, run_again, run_with};
-use crate::worked::{ITEMS, NO_ROW, NO_TABLE, ONE_ROW, accepted, records_of};
+use crate::worked::{ITEMS, NO_ROW, NO_TABLE, ONE_ROW, TWICE, accepted, records_of};
 use lv_outside::{CrashDisk, Disk, FreeGate, OneDisk};
 use lv_runner::Status;
 use lv_values::NoMemory;
@@ -10,18 +10,7 @@ use std::alloc::Global;
 use std::sync::Wait;
 use std::thread::Threads;
 
-/// A table, and a transaction that is committed twice.
-const TWICE: &[u8] = b"@setup
-create table item (id int, price int, primary key (id))
-@session a
-begin
-insert into item values (1, 10)
-commit
-commit
-select * from item
-";
-
-/// What is answered to it where no call fails.
+/// What is answered to `TWICE` where no call fails.
 const WHOLE: &[u8] = b"setup 1 ok
 a 1 begin 0
 a 2 ok 1
@@ -50,7 +39,9 @@ fn stopped_after<R: Threads + Wait + Sync>(
         sink_fails: &[],
     };
     let mut disks = OneDisk::new(alloc, CrashDisk::new(alloc, good)?);
-    run_with(rt, alloc, &given, &mut disks, &FreeGate)
+    let ended = run_with(rt, alloc, &given, &mut disks, &FreeGate);
+    drop(disks);
+    ended
 }
 
 /// What the table has where so many records are kept.
@@ -130,7 +121,9 @@ fn is_left<R: Threads + Wait + Sync>(
 /// Whether each run ends so.
 fn outlives<R: Threads + Wait + Sync>(rt: &R, alloc: Global, good: u64) -> Result<bool, NoMemory> {
     let ended = stopped_after(rt, alloc, good)?;
-    is_left(rt, alloc, &ended, good)
+    let is_so = is_left(rt, alloc, &ended, good);
+    drop(ended);
+    is_so
 }
 
 #[test]

@@ -1,6 +1,7 @@
 //! Runs in threads: over one program, two threads that wait for each other.
 
 use crate::runs::{Given, Left, disk_of, run_again, run_over};
+use crate::worked::LOOK;
 use crossbeam_utils::Backoff;
 use lv_outside::{FreeGate, Gate, OneDisk};
 use lv_runner::Status;
@@ -37,12 +38,6 @@ insert into sale values (100, 1, 5)
 const SECOND: &[u8] = b"@session a
 select * from per_item
 insert into item values (2, 20)
-";
-
-/// All rows.
-const LOOK: &[u8] = b"@session a
-select * from item
-select * from sale
 ";
 
 /// The last turns of session 1 and of worker 1 that are answered. The worker's first turn waits for the session's first one, and
@@ -104,7 +99,9 @@ fn run_in<R: Threads + Wait + Sync, G: Gate + Sync>(
         sink_fails: &[],
     };
     let mut disks = OneDisk::new(alloc, disk_of(alloc, bytes, &[])?);
-    run_over(rt, alloc, &given, &mut disks, gate)
+    let left = run_over(rt, alloc, &given, &mut disks, gate);
+    drop(disks);
+    left
 }
 
 /// Whether a worker installs between two turns of a session that wait for it, where this gate lets each go on.

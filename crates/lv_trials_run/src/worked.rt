@@ -25,6 +25,23 @@ pub(crate) const ONE_ROW: &[u8] = b"a 1 rows 1
 | 1 | 10
 ";
 
+/// A table, and a transaction that is committed twice.
+pub(crate) const TWICE: &[u8] = b"@setup
+create table item (id int, price int, primary key (id))
+@session a
+begin
+insert into item values (1, 10)
+commit
+commit
+select * from item
+";
+
+/// All rows of two tables.
+pub(crate) const LOOK: &[u8] = b"@session a
+select * from item
+select * from sale
+";
+
 /// Two tables, two views, two commits, and a query that forces a step.
 pub(crate) const SHOP: &[u8] = b"@setup
 create table item (id int, price int, primary key (id))
