@@ -71,24 +71,23 @@ fn is_fetched_again<D: Disk, L: Ledger>(
     Ok(!was_there && takes_slot(core) && are_as_told(core.entries()))
 }
 
+/// Whether worker 1 fetched the step of the view.
+fn is_fetch(entry: &Entry) -> bool {
+    match entry {
+        Entry::Fetched {
+            worker: 1,
+            view: 0,
+            lo: 0,
+            hi: 1,
+        } => true,
+        _ => false,
+    }
+}
+
 /// Whether a step of the view is fetched, given up, and fetched again.
 fn are_as_told(entries: &[Entry]) -> bool {
     match entries {
-        [
-            Entry::Fetched {
-                worker: 1,
-                view: 0,
-                lo: 0,
-                hi: 1,
-            },
-            Entry::Released { worker: 1 },
-            Entry::Fetched {
-                worker: 1,
-                view: 0,
-                lo: 0,
-                hi: 1,
-            },
-        ] => true,
+        [first, Entry::Released { worker: 1 }, second] => is_fetch(first) && is_fetch(second),
         _ => false,
     }
 }

@@ -68,11 +68,7 @@ impl Left {
 
 /// A disk in memory with these bytes, of which these calls fail: each a kind (1 length, 2 read, 3 write, 4 sync) and its number among
 /// the calls of that kind.
-pub(crate) fn disk_of(
-    alloc: Global,
-    bytes: &[u8],
-    fails: &[(u8, u64)],
-) -> Result<MemDisk, NoMemory> {
+fn disk_of(alloc: Global, bytes: &[u8], fails: &[(u8, u64)]) -> Result<MemDisk, NoMemory> {
     let fails = Items::from_slice(alloc, fails)?;
     Ok(MemDisk::new(Bytes::from_slice(alloc, bytes)?, fails))
 }
@@ -208,7 +204,22 @@ pub(crate) fn run_asking<R: Threads + Wait + Sync>(
     left
 }
 
-/// The same over one disk in memory that holds these bytes, without words, where these calls of the disk and of the sink fail.
+/// The same over one disk in memory that holds these bytes, of which these calls fail.
+pub(crate) fn run_over_one<R: Threads + Wait + Sync, G: Gate + Sync>(
+    rt: &R,
+    alloc: Global,
+    given: &Given<'_>,
+    bytes: &[u8],
+    fails: &[(u8, u64)],
+    gate: &G,
+) -> Result<Left, NoMemory> {
+    let mut disks = OneDisk::new(alloc, disk_of(alloc, bytes, fails)?);
+    let left = run_over(rt, alloc, given, &mut disks, gate);
+    drop(disks);
+    left
+}
+
+/// The same without words, where these calls of the disk and of the sink fail, with a gate that holds nothing back.
 pub(crate) fn run_on<R: Threads + Wait + Sync>(
     rt: &R,
     alloc: Global,
@@ -223,10 +234,7 @@ pub(crate) fn run_on<R: Threads + Wait + Sync>(
         source_fails: &[],
         sink_fails,
     };
-    let mut disks = OneDisk::new(alloc, disk_of(alloc, bytes, disk_fails)?);
-    let left = run_over(rt, alloc, &given, &mut disks, &FreeGate);
-    drop(disks);
-    left
+    run_over_one(rt, alloc, &given, bytes, disk_fails, &FreeGate)
 }
 
 /// The same where no call fails.

@@ -1,9 +1,9 @@
 //! Runs in threads: over one program, two threads that wait for each other.
 
-use crate::runs::{Given, Left, disk_of, run_again, run_over};
+use crate::runs::{Given, run_again, run_over_one};
 use crate::worked::LOOK;
 use crossbeam_utils::Backoff;
-use lv_outside::{FreeGate, Gate, OneDisk};
+use lv_outside::{FreeGate, Gate};
 use lv_runner::Status;
 use lv_values::NoMemory;
 use std::alloc::Global;
@@ -83,25 +83,14 @@ impl Gate for InTurn {
     }
 }
 
-/// What a run with words over a disk with these bytes left, of which no call fails.
-fn run_in<R: Threads + Wait + Sync, G: Gate + Sync>(
-    rt: &R,
-    alloc: Global,
-    words: &[&str],
-    script: &[u8],
-    bytes: &[u8],
-    gate: &G,
-) -> Result<Left, NoMemory> {
-    let given = Given {
+/// A script with words, of which no call fails.
+fn given<'a>(words: &'a [&'a str], script: &'a [u8]) -> Given<'a> {
+    Given {
         words,
         script,
         source_fails: &[],
         sink_fails: &[],
-    };
-    let mut disks = OneDisk::new(alloc, disk_of(alloc, bytes, &[])?);
-    let left = run_over(rt, alloc, &given, &mut disks, gate);
-    drop(disks);
-    left
+    }
 }
 
 /// Whether a worker installs between two turns of a session that wait for it, where this gate lets each go on.
@@ -120,7 +109,8 @@ clean 1 versions 1 deltas 0
 a 2 rows 0
 ";
     let words = ["--threads", "--workers", "1"];
-    Ok(run_in(rt, alloc, &words, BETWEEN, b"", gate)?.is(Status::Done, want))
+    let given = given(&words, BETWEEN);
+    Ok(run_over_one(rt, alloc, &given, b"", &[], gate)?.is(Status::Done, want))
 }
 
 #[test]
@@ -149,7 +139,7 @@ a 2 rows 1
 | 100 | 1 | 5
 ";
     let words = ["--threads", "--workers=0"];
-    let left = run_in(rt, alloc, &words, SECOND, bytes, &FreeGate)?;
+    let left = run_over_one(rt, alloc, &given(&words, SECOND), bytes, &[], &FreeGate)?;
     let is_left = left.is(Status::Done, want);
     let shows = left.shows(rt, alloc, LOOK, rows);
     drop(left);

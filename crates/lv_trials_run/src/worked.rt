@@ -98,5 +98,7 @@ fn count_records(reader: &mut JournalReader<MemDisk>) -> Option<u64> {
 pub(crate) fn records_of(alloc: Global, bytes: &[u8]) -> Option<u64> {
     let bytes = Bytes::from_slice(alloc, bytes).ok()?;
     let mut reader = JournalReader::attach(alloc, MemDisk::new(bytes, Items::new(alloc))).ok()?;
-    count_records(&mut reader)
+    let count = count_records(&mut reader);
+    drop(reader);
+    count
 }
