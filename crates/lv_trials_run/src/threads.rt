@@ -152,10 +152,13 @@ fn go_on_over<R: Threads + Wait + Sync>(
     alloc: Global,
     script: &[u8],
 ) -> Result<bool, NoMemory> {
-    let Some(disk) = run_again(rt, alloc, script, b"")?.disk else {
-        return Ok(false);
+    let left = run_again(rt, alloc, script, b"")?;
+    let is_so = match &left.disk {
+        Some(disk) => go_on(rt, alloc, disk.as_slice()),
+        None => Ok(false),
     };
-    go_on(rt, alloc, disk.as_slice())
+    drop(left);
+    is_so
 }
 
 #[test]
