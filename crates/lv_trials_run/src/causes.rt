@@ -1,15 +1,13 @@
 //! Each single call of the outside fails in turn: how the run ends, what it writes, and what the disk then has.
 
-use crate::runs::{Given, Left, run_again, run_on, run_over};
+use crate::runs::{Given, Left, run_again, run_asking, run_on};
 use crate::worked::{
     ITEMS, JOURNAL, NO_ROW, NO_TABLE, ONE_ROW, SHOP, SHOP_TEXT, accepted, records_of,
 };
-use lv_outside::{FreeGate, MemDisks};
 use lv_runner::Status;
-use lv_values::{Items, NoMemory};
+use lv_values::NoMemory;
 use std::alloc::Global;
 use std::sync::Wait;
-use std::test::Fail;
 use std::thread::Threads;
 
 /// A table and a commit.
@@ -116,48 +114,32 @@ fn use_of(call: Call) -> Use {
     Use::Record(number / 2)
 }
 
-/// What a run of the shop's script over an empty disk leaves, where these calls of the disk and of the sink fail.
-fn left_by<R: Threads + Wait + Sync>(
-    rt: &R,
-    alloc: Global,
-    fails: &[Call],
-    sink_fails: &[u64],
-) -> Result<Left, NoMemory> {
-    let given = Given {
-        words: &[],
-        script: SHOP,
-        source_fails: &[],
-        sink_fails,
-    };
-    run_on(rt, alloc, &given, b"", fails)
-}
-
-/// Whether a journal opens again and has so many records.
+/// Whether a disk came back whose journal opens again and has so many records.
 fn opens_with<R: Threads + Wait + Sync>(
     rt: &R,
     alloc: Global,
-    bytes: &[u8],
+    left: &Left,
     records: u64,
 ) -> Result<bool, NoMemory> {
-    let Left { status, .. } = run_again(rt, alloc, ITEMS, bytes)?;
-    Ok(status == Status::Done && records_of(alloc, bytes) == Some(records))
-}
-
-/// Whether a run of which a call of the disk fails is refused with nothing written, where the call is one of the opening; and else
-/// is answered as one whose record was not kept. At the end the disk has the accepted records; where the last sync fails, it has also
-/// the record that was to be kept by it.
-fn is_answered<R: Threads + Wait + Sync>(
-    rt: &R,
-    alloc: Global,
-    call: Call,
-) -> Result<bool, NoMemory> {
-    let Left { status, text, disk } = left_by(rt, alloc, &[call], &[])?;
-    let Some(disk) = disk else {
+    let Some(disk) = &left.disk else {
         return Ok(false);
     };
+    let is_done = run_again(rt, alloc, ITEMS, disk.as_slice())?.status == Status::Done;
+    Ok(is_done && records_of(alloc, disk.as_slice()) == Some(records))
+}
+
+/// Whether a run of the shop's script of which a call of the disk fails left this: it is refused with nothing written, where the call is one of the opening;
+/// and else is answered as one whose record was not kept. At the end the disk has the accepted records; where the last sync fails, it
+/// has also the record that was to be kept by it.
+fn is_left<R: Threads + Wait + Sync>(
+    rt: &R,
+    alloc: Global,
+    left: &Left,
+    call: Call,
+) -> Result<bool, NoMemory> {
     let used = use_of(call);
     if used == Use::Opening {
-        return Ok(status == Status::OpenFault && text.as_slice().is_empty());
+        return Ok(left.is(Status::OpenFault, b"") && left.disk.is_some());
     }
     let want = match used {
         Use::Record(record) => text_without(record),
@@ -165,24 +147,31 @@ fn is_answered<R: Threads + Wait + Sync>(
     };
     let doubt = if call == (4, 13) { 1 } else { 0 };
     let records = accepted(want).saturating_add(doubt);
-    Ok(
-        status == Status::Done
-            && text.as_slice() == want
-            && opens_with(rt, alloc, disk.as_slice(), records)?,
-    )
+    Ok(left.is(Status::Done, want) && opens_with(rt, alloc, left, records)?)
+}
+
+/// Whether a run of which this call of the disk fails leaves so.
+fn is_answered<R: Threads + Wait + Sync>(
+    rt: &R,
+    alloc: Global,
+    call: Call,
+) -> Result<bool, NoMemory> {
+    let left = run_on(rt, alloc, SHOP, b"", &[call], &[])?;
+    let is_so = is_left(rt, alloc, &left, call);
+    drop(left);
+    is_so
 }
 
 #[test]
-fn each_call_of_the_disk_is_answered_for(rt: HostRuntime) -> Result<(), Fail> {
+fn each_call_of_the_disk_is_answered_for(rt: HostRuntime) {
     for kind in 1..5u8 {
         for number in 1..15u64 {
             assert!(rt;
-                is_answered(&rt, rt.alloc(), (kind, number))?,
+                is_answered(&rt, rt.alloc(), (kind, number)) == Ok(true),
                 "kind {kind} call {number}"
             );
         }
     }
-    Ok(())
 }
 
 /// Whether the opening of a journal of which a call fails is refused with nothing written, the bytes as they were; and a call that is none
@@ -193,32 +182,28 @@ fn is_opened<R: Threads + Wait + Sync>(
     call: Call,
     is_needed: bool,
 ) -> Result<bool, NoMemory> {
-    let given = Given {
-        words: &[],
-        script: ITEMS,
-        source_fails: &[],
-        sink_fails: &[],
+    let left = run_on(rt, alloc, ITEMS, JOURNAL, &[call], &[])?;
+    let is_so = if is_needed {
+        left.is(Status::OpenFault, b"")
+    } else {
+        left.is(Status::Done, ONE_ROW)
     };
-    let Left { status, text, disk } = run_on(rt, alloc, &given, JOURNAL, &[call])?;
-    let stays = disk.is_some_and(|left| left.as_slice() == JOURNAL);
-    if is_needed {
-        return Ok(stays && status == Status::OpenFault && text.as_slice().is_empty());
-    }
-    Ok(stays && status == Status::Done && text.as_slice() == ONE_ROW)
+    let stays = left.holds(JOURNAL);
+    drop(left);
+    Ok(is_so && stays)
 }
 
 #[test]
-fn each_call_of_an_opening_is_answered_for(rt: HostRuntime) -> Result<(), Fail> {
+fn each_call_of_an_opening_is_answered_for(rt: HostRuntime) {
     // Its length, a sync, and reads: of the first bytes, of each of two frames in two parts, and of the last gate.
     for (kind, needed) in [(1u8, 1), (2, 6), (3, 0), (4, 1)] {
         for number in 1..9u64 {
             assert!(rt;
-                is_opened(&rt, rt.alloc(), (kind, number), number <= needed)?,
+                is_opened(&rt, rt.alloc(), (kind, number), number <= needed) == Ok(true),
                 "kind {kind} call {number}"
             );
         }
     }
-    Ok(())
 }
 
 /// The first lines of a text.
@@ -235,101 +220,93 @@ fn first_lines(text: &[u8], count: u64) -> &[u8] {
     text
 }
 
-/// Whether a run of which a call of the sink fails has written the entries before it, and its disk has the records of these and of the
-/// entry that was to be written.
+/// Whether a run of the shop's script of which a call of the sink fails has written the entries before it, and its disk has the records of these and of the
+/// entry that was to be written. There are eight calls: seven entries, each one piece, and a flush.
 fn is_written_so_far<R: Threads + Wait + Sync>(
     rt: &R,
     alloc: Global,
     number: u64,
 ) -> Result<bool, NoMemory> {
-    let Left { status, text, disk } = left_by(rt, alloc, &[], &[number])?;
-    let Some(disk) = disk else {
-        return Ok(false);
-    };
     let want = if number < 8 {
         first_lines(SHOP_TEXT, number.saturating_sub(1))
     } else {
         SHOP_TEXT
     };
-    Ok(
-        status == Status::SinkFault
-            && text.as_slice() == want
-            && opens_with(rt, alloc, disk.as_slice(), number.min(6))?,
-    )
+    let status = if number < 9 {
+        Status::SinkFault
+    } else {
+        Status::Done
+    };
+    let left = run_on(rt, alloc, SHOP, b"", &[], &[number])?;
+    let opens = opens_with(rt, alloc, &left, number.min(6));
+    let is_written = left.is(status, want);
+    drop(left);
+    Ok(is_written && opens?)
 }
 
 #[test]
-fn each_call_of_the_sink_is_answered_for(rt: HostRuntime) -> Result<(), Fail> {
-    // Seven entries, each one piece, and a flush.
-    for number in 1..9u64 {
+fn each_call_of_the_sink_is_answered_for(rt: HostRuntime) {
+    for number in 1..10u64 {
         assert!(rt;
-            is_written_so_far(&rt, rt.alloc(), number)?,
+            is_written_so_far(&rt, rt.alloc(), number) == Ok(true),
             "call {number}"
         );
     }
-    let Left { status, text, .. } = left_by(&rt, rt.alloc(), &[], &[9])?;
-    assert!(rt; status == Status::Done);
-    assert!(rt; text.as_slice() == SHOP_TEXT);
-    Ok(())
 }
 
-/// What a run of the shop's script over an empty disk leaves, where a call of the source fails, and an opening.
-fn left_where<R: Threads + Wait + Sync>(
+/// Whether a run of the shop's script over empty disks ends so, where a call of the source fails, and an asking for a disk: with all
+/// written, or with nothing written and no disk.
+fn ends_so<R: Threads + Wait + Sync>(
     rt: &R,
     alloc: Global,
     source_fails: u64,
-    opening_fails: u64,
-) -> Result<Left, NoMemory> {
-    let mut fails = Items::new(alloc);
-    fails.push(opening_fails)?;
-    let mut disks = MemDisks::new(alloc, fails);
+    asking_fails: u64,
+    status: Status,
+) -> Result<bool, NoMemory> {
     let given = Given {
         words: &[],
         script: SHOP,
         source_fails: &[source_fails],
         sink_fails: &[],
     };
-    run_over(rt, alloc, &given, &mut disks, &FreeGate)
+    let left = run_asking(rt, alloc, &given, asking_fails)?;
+    let is_so = if status == Status::Done {
+        left.is(status, SHOP_TEXT)
+    } else {
+        left.is(status, b"") && left.disk.is_none()
+    };
+    drop(left);
+    Ok(is_so)
 }
 
 #[test]
-fn each_call_of_the_source_and_the_disks_is_answered_for(rt: HostRuntime) -> Result<(), Fail> {
+fn each_call_of_the_source_and_the_disks_is_answered_for(rt: HostRuntime) {
     // The source is read twice: its bytes, and its end. One disk is asked for.
-    for (source, opening, want) in [
-        (1, 0, Status::SourceFault),
-        (2, 0, Status::SourceFault),
-        (0, 1, Status::OpenFault),
-    ] {
-        let Left { status, text, disk } = left_where(&rt, rt.alloc(), source, opening)?;
-        assert!(rt; status == want, "read {source} opening {opening}");
-        assert!(rt; text.as_slice().is_empty() && disk.is_none());
-    }
-    let Left { status, text, .. } = left_where(&rt, rt.alloc(), 3, 2)?;
-    assert!(rt; status == Status::Done);
-    assert!(rt; text.as_slice() == SHOP_TEXT);
-    Ok(())
+    assert!(rt; ends_so(&rt, rt.alloc(), 1, 0, Status::SourceFault) == Ok(true));
+    assert!(rt; ends_so(&rt, rt.alloc(), 2, 0, Status::SourceFault) == Ok(true));
+    assert!(rt; ends_so(&rt, rt.alloc(), 0, 1, Status::OpenFault) == Ok(true));
+    assert!(rt; ends_so(&rt, rt.alloc(), 3, 2, Status::Done) == Ok(true));
 }
 
-#[test]
-fn a_table_of_which_a_sync_fails_is_in_doubt(rt: HostRuntime) -> Result<(), Fail> {
+/// Whether a table of which this sync fails is refused, and a second run then answers so.
+fn is_in_doubt<R: Threads + Wait + Sync>(
+    rt: &R,
+    alloc: Global,
+    sync: u64,
+    rows: &[u8],
+) -> Result<bool, NoMemory> {
     let want: &[u8] = b"setup 1 fault 17 store fault
 a 1 fault 2 unknown name item
 ";
-    let given = Given {
-        words: &[],
-        script: TWO,
-        source_fails: &[],
-        sink_fails: &[],
-    };
-    for (sync, rows) in [(2, NO_TABLE), (3, NO_ROW)] {
-        let Left { status, text, disk } = run_on(&rt, rt.alloc(), &given, b"", &[(4, sync)])?;
-        assert!(rt; status == Status::Done);
-        assert!(rt; text.as_slice() == want, "sync {sync}");
-        let Some(bytes) = disk else {
-            return Err(Fail::from(NoMemory));
-        };
-        let again = run_again(&rt, rt.alloc(), ITEMS, bytes.as_slice())?;
-        assert!(rt; again.text.as_slice() == rows, "sync {sync}");
-    }
-    Ok(())
+    let left = run_on(rt, alloc, TWO, b"", &[(4, sync)], &[])?;
+    let is_refused = left.is(Status::Done, want);
+    let shows = left.shows(rt, alloc, ITEMS, rows);
+    drop(left);
+    Ok(is_refused && shows?)
+}
+
+#[test]
+fn a_table_of_which_a_sync_fails_is_in_doubt(rt: HostRuntime) {
+    assert!(rt; is_in_doubt(&rt, rt.alloc(), 2, NO_TABLE) == Ok(true));
+    assert!(rt; is_in_doubt(&rt, rt.alloc(), 3, NO_ROW) == Ok(true));
 }

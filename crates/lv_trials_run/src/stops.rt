@@ -1,28 +1,16 @@
 //! A disk that stops after some calls, and what a crash then may leave of it.
 ghost use Rattle.std.specs.Prelude.{◌<◌};
 
-use crate::runs::{Ended, Given, Left, run_again, run_with};
-use crate::worked::{ITEMS, NO_ROW, NO_TABLE, ONE_ROW, accepted, records_of};
+use crate::runs::{Ended, Given, run_again, run_with};
+use crate::worked::{ITEMS, NO_ROW, NO_TABLE, ONE_ROW, TWICE, accepted, records_of};
 use lv_outside::{CrashDisk, Disk, FreeGate, OneDisk};
 use lv_runner::Status;
 use lv_values::NoMemory;
 use std::alloc::Global;
 use std::sync::Wait;
-use std::test::Fail;
 use std::thread::Threads;
 
-/// A table, and a transaction that is committed twice.
-const TWICE: &[u8] = b"@setup
-create table item (id int, price int, primary key (id))
-@session a
-begin
-insert into item values (1, 10)
-commit
-commit
-select * from item
-";
-
-/// What is answered to it where no call fails.
+/// What is answered to `TWICE` where no call fails.
 const WHOLE: &[u8] = b"setup 1 ok
 a 1 begin 0
 a 2 ok 1
@@ -51,7 +39,9 @@ fn stopped_after<R: Threads + Wait + Sync>(
         sink_fails: &[],
     };
     let mut disks = OneDisk::new(alloc, CrashDisk::new(alloc, good)?);
-    run_with(rt, alloc, &given, &mut disks, &FreeGate)
+    let ended = run_with(rt, alloc, &given, &mut disks, &FreeGate);
+    drop(disks);
+    ended
 }
 
 /// What the table has where so many records are kept.
@@ -63,7 +53,21 @@ fn rows_with(records: u64) -> &'static [u8] {
     }
 }
 
-/// Whether an image of the disk opens, with so many records or one more.
+/// Whether a journal opens, with so many records or one more.
+fn keeps<R: Threads + Wait + Sync>(
+    rt: &R,
+    alloc: Global,
+    bytes: &[u8],
+    written: u64,
+) -> Result<bool, NoMemory> {
+    let Some(records) = records_of(alloc, bytes) else {
+        return Ok(false);
+    };
+    let shows = run_again(rt, alloc, ITEMS, bytes)?.is(Status::Done, rows_with(records));
+    Ok(shows && (records == written || records == written.saturating_add(1)))
+}
+
+/// Whether an image of the disk opens so.
 fn is_kept<R: Threads + Wait + Sync>(
     rt: &R,
     alloc: Global,
@@ -74,15 +78,7 @@ fn is_kept<R: Threads + Wait + Sync>(
     requires { pick < 4 }
 {
     let image = disk.image(pick)?;
-    let Some(records) = records_of(alloc, image.as_slice()) else {
-        return Ok(false);
-    };
-    let Left { status, text, .. } = run_again(rt, alloc, ITEMS, image.as_slice())?;
-    Ok(
-        status == Status::Done
-            && text.as_slice() == rows_with(records)
-            && (records == written || records == written.saturating_add(1)),
-    )
+    keeps(rt, alloc, image.as_slice(), written)
 }
 
 /// Whether each image of the disk opens so.
@@ -100,26 +96,42 @@ fn are_kept<R: Threads + Wait + Sync>(
     Ok(true)
 }
 
-#[test]
-fn what_is_written_as_accepted_outlives_each_stop(rt: HostRuntime) -> Result<(), Fail> {
-    for good in 0..ALL + 1 {
-        let Ended { status, text, disk } = stopped_after(&rt, rt.alloc(), good)?;
-        let Some(disk) = disk else {
-            return Err(Fail::from(NoMemory));
-        };
-        let written = accepted(text.as_slice());
-        if good < OPENING {
-            assert!(rt; status == Status::OpenFault, "stopped after {good} calls");
-            assert!(rt; text.as_slice().is_empty());
-        } else {
-            assert!(rt; status == Status::Done, "stopped after {good} calls");
-            assert!(rt;
-                are_kept(&rt, rt.alloc(), &disk, written)?,
-                "stopped after {good} calls"
-            );
-        }
-        assert_eq!(rt; disk.faults() == 0, good == ALL);
-        assert_eq!(rt; text.as_slice() == WHOLE, good == ALL);
+/// Whether a run over a disk of which so many calls pass ended so: as one whose journal could not be opened, or well; and what it wrote
+/// as accepted is kept.
+fn is_left<R: Threads + Wait + Sync>(
+    rt: &R,
+    alloc: Global,
+    ended: &Ended<CrashDisk>,
+    good: u64,
+) -> Result<bool, NoMemory> {
+    let Some(disk) = &ended.disk else {
+        return Ok(false);
+    };
+    let text = ended.text.as_slice();
+    let is_whole = disk.faults() == 0;
+    if is_whole != (good == ALL) || (text == WHOLE) != is_whole {
+        return Ok(false);
     }
-    Ok(())
+    if good < OPENING {
+        return Ok(ended.status == Status::OpenFault && text.is_empty());
+    }
+    Ok(ended.status == Status::Done && are_kept(rt, alloc, disk, accepted(text))?)
+}
+
+/// Whether each run ends so.
+fn outlives<R: Threads + Wait + Sync>(rt: &R, alloc: Global, good: u64) -> Result<bool, NoMemory> {
+    let ended = stopped_after(rt, alloc, good)?;
+    let is_so = is_left(rt, alloc, &ended, good);
+    drop(ended);
+    is_so
+}
+
+#[test]
+fn what_is_written_as_accepted_outlives_each_stop(rt: HostRuntime) {
+    for good in 0..ALL + 1 {
+        assert!(rt;
+            outlives(&rt, rt.alloc(), good) == Ok(true),
+            "stopped after {good} calls"
+        );
+    }
 }

@@ -1,14 +1,14 @@
 //! Runs in threads: over one program, two threads that wait for each other.
 
-use crate::runs::{Given, Left, disk_of, run_on, run_over};
+use crate::runs::{Given, run_again, run_over_one};
+use crate::worked::LOOK;
 use crossbeam_utils::Backoff;
-use lv_outside::{Gate, OneDisk};
+use lv_outside::{FreeGate, Gate};
 use lv_runner::Status;
 use lv_values::NoMemory;
 use std::alloc::Global;
+use std::sync::Wait;
 use std::sync::atomic::{AtomicU64, Ordering};
-use std::sync::{Arc, Wait};
-use std::test::Fail;
 use std::thread::Threads;
 
 /// How often an awaited turn is looked for, at most.
@@ -40,19 +40,13 @@ select * from per_item
 insert into item values (2, 20)
 ";
 
-/// All rows.
-const LOOK: &[u8] = b"@session a
-select * from item
-select * from sale
-";
-
 /// The last turns of session 1 and of worker 1 that are answered. The worker's first turn waits for the session's first one, and
 /// the session's second for the worker's first.
 #[derive(Drop)]
 struct InTurn {
-    session: Arc<AtomicU64>,
-    worker: Arc<AtomicU64>,
-    missed: Arc<AtomicU64>,
+    session: AtomicU64,
+    worker: AtomicU64,
+    missed: AtomicU64,
 }
 
 impl InTurn {
@@ -99,19 +93,12 @@ fn given<'a>(words: &'a [&'a str], script: &'a [u8]) -> Given<'a> {
     }
 }
 
-/// What a run over a disk with these bytes left.
-fn left_by<R: Threads + Wait + Sync>(
+/// Whether a worker installs between two turns of a session that wait for it, where this gate lets each go on.
+fn installs_between<R: Threads + Wait + Sync>(
     rt: &R,
     alloc: Global,
-    words: &[&str],
-    script: &[u8],
-    bytes: &[u8],
-) -> Result<Left, NoMemory> {
-    run_on(rt, alloc, &given(words, script), bytes, &[])
-}
-
-#[test]
-fn a_worker_installs_between_two_turns_of_a_session(rt: HostRuntime) -> Result<(), Fail> {
+    gate: &InTurn,
+) -> Result<bool, NoMemory> {
     let want: &[u8] = b"setup 1 ok
 setup 2 ok
 setup 3 ok
@@ -121,24 +108,25 @@ w1 install per_item 0 1
 clean 1 versions 1 deltas 0
 a 2 rows 0
 ";
-    let alloc = rt.alloc();
-    let missed = Arc::new(alloc, AtomicU64::new(0))?;
-    let gate = InTurn {
-        session: Arc::new(alloc, AtomicU64::new(0))?,
-        worker: Arc::new(alloc, AtomicU64::new(0))?,
-        missed: Arc::try_clone(&missed)?,
-    };
-    let mut disks = OneDisk::new(alloc, disk_of(alloc, b"", &[])?);
     let words = ["--threads", "--workers", "1"];
-    let left = run_over(&rt, alloc, &given(&words, BETWEEN), &mut disks, &gate)?;
-    assert!(rt; missed.load(Ordering::SeqCst) == 0);
-    assert!(rt; left.status == Status::Done);
-    assert!(rt; left.text.as_slice() == want);
-    Ok(())
+    let given = given(&words, BETWEEN);
+    Ok(run_over_one(rt, alloc, &given, b"", &[], gate)?.is(Status::Done, want))
 }
 
 #[test]
-fn threads_go_on_over_an_old_journal(rt: HostRuntime) -> Result<(), Fail> {
+fn a_worker_installs_between_two_turns_of_a_session(rt: HostRuntime) {
+    let gate = InTurn {
+        session: AtomicU64::new(0),
+        worker: AtomicU64::new(0),
+        missed: AtomicU64::new(0),
+    };
+    let installs = installs_between(&rt, rt.alloc(), &gate);
+    assert!(rt; gate.missed.load(Ordering::SeqCst) == 0);
+    assert!(rt; installs == Ok(true));
+}
+
+/// Whether threads go on over an old journal, and it then has the rows.
+fn go_on<R: Threads + Wait + Sync>(rt: &R, alloc: Global, bytes: &[u8]) -> Result<bool, NoMemory> {
     let want: &[u8] = b"force per_item 0 2
 a 1 rows 1
 | 1 | 5 | 1
@@ -150,23 +138,30 @@ a 2 ok 1 commit 3
 a 2 rows 1
 | 100 | 1 | 5
 ";
-    let Left { disk, .. } = left_by(&rt, rt.alloc(), &[], FIRST, b"")?;
-    let Some(first) = disk else {
-        return Err(Fail::from(NoMemory));
+    let words = ["--threads", "--workers=0"];
+    let left = run_over_one(rt, alloc, &given(&words, SECOND), bytes, &[], &FreeGate)?;
+    let is_left = left.is(Status::Done, want);
+    let shows = left.shows(rt, alloc, LOOK, rows);
+    drop(left);
+    Ok(is_left && shows?)
+}
+
+/// The same over the journal of a run.
+fn go_on_over<R: Threads + Wait + Sync>(
+    rt: &R,
+    alloc: Global,
+    script: &[u8],
+) -> Result<bool, NoMemory> {
+    let left = run_again(rt, alloc, script, b"")?;
+    let is_so = match &left.disk {
+        Some(disk) => go_on(rt, alloc, disk.as_slice()),
+        None => Ok(false),
     };
-    let Left { status, text, disk } = left_by(
-        &rt,
-        rt.alloc(),
-        &["--threads", "--workers=0"],
-        SECOND,
-        first.as_slice(),
-    )?;
-    assert!(rt; status == Status::Done);
-    assert!(rt; text.as_slice() == want);
-    let Some(bytes) = disk else {
-        return Err(Fail::from(NoMemory));
-    };
-    let again = left_by(&rt, rt.alloc(), &[], LOOK, bytes.as_slice())?;
-    assert!(rt; again.text.as_slice() == rows);
-    Ok(())
+    drop(left);
+    is_so
+}
+
+#[test]
+fn threads_go_on_over_an_old_journal(rt: HostRuntime) {
+    assert!(rt; go_on_over(&rt, rt.alloc(), FIRST) == Ok(true));
 }

@@ -25,6 +25,23 @@ pub(crate) const ONE_ROW: &[u8] = b"a 1 rows 1
 | 1 | 10
 ";
 
+/// A table, and a transaction that is committed twice.
+pub(crate) const TWICE: &[u8] = b"@setup
+create table item (id int, price int, primary key (id))
+@session a
+begin
+insert into item values (1, 10)
+commit
+commit
+select * from item
+";
+
+/// All rows of two tables.
+pub(crate) const LOOK: &[u8] = b"@session a
+select * from item
+select * from sale
+";
+
 /// Two tables, two views, two commits, and a query that forces a step.
 pub(crate) const SHOP: &[u8] = b"@setup
 create table item (id int, price int, primary key (id))
@@ -81,5 +98,7 @@ fn count_records(reader: &mut JournalReader<MemDisk>) -> Option<u64> {
 pub(crate) fn records_of(alloc: Global, bytes: &[u8]) -> Option<u64> {
     let bytes = Bytes::from_slice(alloc, bytes).ok()?;
     let mut reader = JournalReader::attach(alloc, MemDisk::new(bytes, Items::new(alloc))).ok()?;
-    count_records(&mut reader)
+    let count = count_records(&mut reader);
+    drop(reader);
+    count
 }
