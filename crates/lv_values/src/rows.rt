@@ -36,10 +36,12 @@ impl Items<Value> {
 fn compare_at(at: u8, a: &[Value], b: &[Value]) -> Ordering
     ensures { result ≡ value_cmp (value_in a.now at) (value_in b.now at) }
 {
-    let zero = Value::Num(0);
-    let left = a.get(at as usize).unwrap_or(&zero);
-    let right = b.get(at as usize).unwrap_or(&zero);
-    left.cmp(right)
+    match (a.get(at as usize), b.get(at as usize)) {
+        (Some(left), Some(right)) => left.cmp(right),
+        (Some(left), None) => left.cmp(&Value::Num(0)),
+        (None, Some(right)) => Value::Num(0).cmp(right),
+        (None, None) => Ordering::Equal,
+    }
 }
 
 /// Compares two rows by their values at these positions, in place. Cost: at most the key's values.
@@ -59,8 +61,10 @@ pub fn compare_keys(positions: &[u8], a: &Row, b: &Row) -> Ordering
 fn compare_value(at: u8, row: &[Value], wanted: &Value) -> Ordering
     ensures { result ≡ value_cmp (value_in row.now at) wanted.now }
 {
-    let zero = Value::Num(0);
-    row.get(at as usize).unwrap_or(&zero).cmp(wanted)
+    match row.get(at as usize) {
+        Some(value) => value.cmp(wanted),
+        None => Value::Num(0).cmp(wanted),
+    }
 }
 
 /// Compares a row's values at these positions with a key, in place. Cost: at most the key's values.
