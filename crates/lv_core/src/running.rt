@@ -78,6 +78,16 @@ fn no_places(alloc: Global, program: &Program) -> Result<Items<u32>, NoMemory>
     Ok(places)
 }
 
+/// No entries, with room for one of each statement of a program: a list that grew would be copied again and again.
+fn room_for_all(alloc: Global, program: &Program) -> Result<Room<Entry>, NoMemory>
+    requires { IsWithinLimits program.now }
+    ensures { IfOk result (λ entries. entries.list ≡ []) }
+{
+    let mut entries = Room::new(alloc);
+    entries.reserve(program.statements() as u64)?;
+    Ok(entries)
+}
+
 /// How many statements of a session are answered.
 fn place_of(places: &[u32], session: usize) -> u32
     requires { session < length places.now }
@@ -119,6 +129,9 @@ impl<D: Disk> Run<D> {
         let Ok(places) = no_places(alloc, &program) else {
             return Err(engine);
         };
+        let Ok(entries) = room_for_all(alloc, &program) else {
+            return Err(engine);
+        };
         let opening = Opening::of(&engine);
         Ok(Run {
             engine,
@@ -126,7 +139,7 @@ impl<D: Disk> Run<D> {
             program,
             policy,
             places,
-            entries: Room::new(alloc),
+            entries,
         })
     }
 

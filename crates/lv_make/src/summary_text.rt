@@ -4,12 +4,11 @@ ghost use Rattle.std.specs.Int.{int_wrap, w128};
 ghost use Rattle.std.specs.List.{flat_map, count_by};
 ghost use Rattle.lv_values.specs.Order.{number_of};
 ghost use Rattle.lv_plain.specs.declared.entry.Reply.TheVariants as reply;
-ghost use Rattle.lv_plain.specs.Limits.{statement_count};
 ghost use Rattle.lv_make.specs.Summary as spec;
 
 use crate::faults::fault_number;
 use itoa::Buffer;
-use lv_plain::{Entry, Program, Reply, Script};
+use lv_plain::{Entry, Program, Reply};
 use lv_values::{Bytes, NoMemory, Row, Value, print_natural, print_number};
 use std::alloc::Global;
 
@@ -67,17 +66,6 @@ fn commits_in(entries: &[Entry]) -> u64
     entries.iter().filter(|entry| shows_commit(entry)).count() as u64
 }
 
-/// How many statements the program has. It fits, whatever the lists' lengths.
-fn statements_in(program: &Program) -> u128
-    ensures { result ≡ statement_count program.now }
-{
-    let mut count = program.setup.len() as u128;
-    for session in program.sessions.as_slice() {
-        count += session.lines.len() as u128;
-    }
-    count
-}
-
 /// Appends a count in decimal.
 fn add_count(count: u128, out: &mut Bytes) -> Result<(), NoMemory>
     ensures { OnOk result (out.new ≡ out.old ++ decimal count) }
@@ -93,7 +81,7 @@ fn add_made(n: u32, program: &Program, out: &mut Bytes) -> Result<(), NoMemory>
     out.extend_from_slice(b"made ")?;
     print_natural(u64::from(n), out)?;
     out.extend_from_slice(b" statements ")?;
-    add_count(statements_in(program), out)?;
+    add_count(program.statements(), out)?;
     out.extend_from_slice(b"\n")
 }
 

@@ -148,13 +148,15 @@ fn push_rounds(events: &mut Events, left: &[usize]) -> Result<(), NoMemory>
 /// items stand for, of which `work` is a fetch and an install; and what the order leaves, in rounds over the sessions
 /// as they are declared, in each one turn for each session that has a statement left.
 ///
-/// Cost: one step for each event and, in each round, for each session; a mark's name is copied.
+/// Cost: one step for each event and, in each round, for each session; a mark's name is copied. Their list takes its room
+/// once.
 pub fn events_in_order(alloc: Global, program: &Program) -> Result<Events, NoMemory>
     requires within { IsWithinLimits program.now }
     ensures { IfOk result (λ events. events ≡ schedule program.now) }
 {
     let left = left_of_each(alloc, program)?;
-    let mut events = Events::new(alloc);
+    let room = program.statements() as usize + 2 * program.order.len();
+    let mut events = Events::from_vec(Vec::with_capacity(alloc, room)?);
     push_setup(&mut events, program.setup.len())?;
     push_order(alloc, &mut events, program.order.as_slice())?;
     push_rounds(&mut events, left.as_slice())?;

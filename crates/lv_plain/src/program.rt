@@ -1,5 +1,8 @@
 //! A program: the statements of the setup and of each session, and the order in which they run.
 
+ghost use Rattle.std.specs.Prelude.{◌≡◌};
+ghost use Rattle.lv_plain.specs.Limits.{statement_count};
+
 use lv_values::{Copying, Items, NoMemory, Text};
 use std::alloc::Global;
 
@@ -42,6 +45,20 @@ pub struct Program {
     pub setup: Texts,
     pub sessions: Scripts,
     pub order: Order,
+}
+
+impl Program {
+    /// How many statements there are, in the setup and in the sessions. It fits, whatever the lists' lengths. Cost: one
+    /// step for each session.
+    pub fn statements(&self) -> u128
+        ensures { result ≡ statement_count self.now }
+    {
+        let mut count = self.setup.len() as u128;
+        for session in self.sessions.as_slice() {
+            count += session.lines.len() as u128;
+        }
+        count
+    }
 }
 
 impl Copying for Script {

@@ -100,7 +100,11 @@ fn run_alone<K: Sink, D: Disk, L: Ledger>(
     places_after_events();
     all_is_answered();
     what_a_crash_leaves_applies();
-    let Plan { program, events } = plan;
+    let Plan {
+        program,
+        events,
+        ..
+    } = plan;
     match Core::new(alloc, engine, program, picker) {
         Ok(core) => run_ordered(alloc, core, words, events.as_slice(), sink, steps),
         Err(engine) => unbegun(engine),

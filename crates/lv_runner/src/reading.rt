@@ -40,11 +40,14 @@ impl From<NoMemory> for Unread {
     }
 }
 
-/// A program, and the events of its schedule in their order.
+/// A program, the events of its schedule in their order, and the bytes of its script, where it was read. These stay until
+/// the run ends: once so large a piece is given back, an allocator may copy lists up to its size as they grow, which it
+/// moved before (glibc's does; with the script of 10,000 updates that is a twentieth of their time).
 #[derive(Drop)]
 pub(crate) struct Plan {
     pub(crate) program: Program,
     pub(crate) events: Events,
+    script: Bytes,
 }
 
 /// Reads the bytes of a script.
@@ -76,13 +79,17 @@ fn refused(fault: ScriptFault) -> Unread
 }
 
 /// The program that the bytes say, and the events of its schedule.
-fn plan_of(alloc: Global, bytes: &[u8]) -> Result<Plan, Unread>
-    ensures { MatchResult result (IsPlanOf bytes.now) (IsCause bytes.now) }
+fn plan_of(alloc: Global, script: Bytes) -> Result<Plan, Unread>
+    ensures { MatchResult result (IsPlanOf script) (IsCause script) }
 {
-    match read_script(alloc, bytes) {
+    match read_script(alloc, script.as_slice()) {
         Ok(program) => {
             let events = events_in_order(alloc, &program)?;
-            Ok(Plan { program, events })
+            Ok(Plan {
+                program,
+                events,
+                script,
+            })
         }
         Err(fault) => Err(refused(fault)),
     }
@@ -95,8 +102,8 @@ fn read_plan<S: Source>(alloc: Global, source: &mut S) -> Result<Plan, Unread>
         (WhyUnread (S.left source.old) (S.left source.new) (S.faults source.old) (S.faults source.new)) }
     ensures count { S.faults source.old ≤ S.faults source.new }
 {
-    let bytes = read_bytes(alloc, source)?;
-    plan_of(alloc, bytes.as_slice())
+    let script = read_bytes(alloc, source)?;
+    plan_of(alloc, script)
 }
 
 /// The program of a script that is made for so many sales, and the events of its schedule. Cost: linear in the script.
@@ -107,7 +114,11 @@ fn made_plan(alloc: Global, number: u32) -> Result<Plan, NoMemory>
 {
     let program = make_program(alloc, number)?;
     let events = events_in_order(alloc, &program)?;
-    Ok(Plan { program, events })
+    Ok(Plan {
+        program,
+        events,
+        script: Bytes::new(alloc),
+    })
 }
 
 /// Reads a script, or makes it where so many sales are asked for; then the source is left alone.
