@@ -53,7 +53,7 @@ pub came_before : (number : ℕ) (s : SignedRow) (v : GroupVersion) → Meets nu
 came_before number s v m e = (subst (λ o. meets_by o number s v) e m).0
 
 -- behind the place of the row no version is its current one
-later_other : (number : ℕ) (s : SignedRow) (v : GroupVersion) → Meets number s v → comes_before s.row number v ≡ false → is_current s.row v ≡ false
+pub later_other : (number : ℕ) (s : SignedRow) (v : GroupVersion) → Meets number s v → comes_before s.row number v ≡ false → is_current s.row v ≡ false
 later_other number s v m h = by (is_current s.row v) refl
   where
     by : (b : Bool) → is_current s.row v ≡ b → b ≡ false

@@ -77,7 +77,7 @@ pub none_at_end : (row : List Value) (number i : ℕ) (vs : List GroupVersion) �
 none_at_end row number i vs le = subst (AllByRecursion (λ v. comes_before row number v ≡ false)) (sym (drop_all i vs le)) tt
 
 -- what does not come before a row comes before no lower one
-lower : (row low : List Value) (number : ℕ) (v : GroupVersion) → row_cmp low row ≡ Less → comes_before row number v ≡ false → comes_before low number v ≡ false
+pub lower : (row low : List Value) (number : ℕ) (v : GroupVersion) → row_cmp low row ≡ Less → comes_before row number v ≡ false → comes_before low number v ≡ false
 lower row low number v less h = by (comes_before low number v) refl
   where
     first : GroupVersion

@@ -4,6 +4,7 @@ pub mod Ending
 pub mod Entries
 pub mod Filling
 pub mod FirstValue
+pub mod Following
 pub mod Galloping
 pub mod Installing
 pub mod Keeping

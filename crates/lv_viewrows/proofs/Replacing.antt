@@ -61,6 +61,9 @@ no_current number s vs a m (suc i) cut h =
     let long = cut_long (comes_before s.row number) (suc i) vs cut in
     with_item vs i (omega (arith, long)) (λ item get. other_in_front number s vs a m (suc i) cut i item refl get (h item (omega arith) (ap (slice_get vs) before ∙ get)))
 
+pub put_alone : (number : ℕ) (s : SignedRow) (vs : List GroupVersion) → (current s.row vs ≡ []) × (map (ended number s.row) vs ≡ vs) → put number s vs ≡ changed number s vs
+put_alone number s vs none = ap (put number s) (sym none.1) ∙ ap (λ groups. put number (joined groups s) (map (ended number s.row) vs)) (sym none.0)
+
 -- ---- a change of a row that has one: the last of the first n versions, of which few have not ended
 pub record HasCurrent (number : ℕ) (s : SignedRow) (vs : List GroupVersion) (n few : ℕ) (item : GroupVersion) : Type 0 where
   pub order : Apart Precedes vs

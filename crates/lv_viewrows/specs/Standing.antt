@@ -1,5 +1,5 @@
 -- What holds of the versions of a view's rows, and what a change does to them.
-use Rattle.std.specs.Prelude.{◌≡◌, ℕ, ℤ, pos, ◌<◌, ◌≤◌, ◌^◌, ◌+ℤ◌, Bool, true, false, not, ◌&&◌, if◌then◌else◌, List, [], ◌∷◌, drop, take, length, nat_le, map, filter, Option, Some, None, is_none}
+use Rattle.std.specs.Prelude.{◌≡◌, ℕ, ℤ, pos, ◌-◌, ◌<◌, ◌≤◌, ◌^◌, ◌+ℤ◌, Bool, true, false, not, ◌&&◌, if◌then◌else◌, List, [], ◌∷◌, ◌++◌, drop, take, length, nat_le, map, filter, slice_get, Option, Some, None, is_none}
 use Rattle.std.specs.List.{AllByRecursion}
 use Rattle.std.specs.Ordering.{nat_cmp, on, then_cmp, is_lt}
 use Rattle.std.specs.declared.cmp.Ordering.{Ordering}
@@ -9,6 +9,7 @@ use Rattle.lv_values.specs.Ascending.{placed}
 use Rattle.lv_values.specs.Order.{row_cmp, row_eq}
 use Rattle.lv_schema.specs.declared.signed.SignedRow.{SignedRow}
 use Rattle.lv_schema.specs.declared.view.ViewDef.{ViewDef}
+use Rattle.lv_schema.specs.Once.{Ascends}
 use Rattle.lv_schema.specs.Versions.{end_by}
 use Rattle.lv_group.specs.Gathered.{has_tuples}
 use Rattle.lv_shelf.specs.Cuts.{Apart}
@@ -107,6 +108,18 @@ abbrev pub changed_all : ℕ → List SignedRow → List GroupVersion → List G
 changed_all number [] versions = versions
 changed_all number (s ∷ list) versions = changed number s (changed_all number list versions)
 
+-- a change ends the version before a place, and leaves no group of its row
+pub record EndsBefore (s : SignedRow) (at : ℕ) (versions : List GroupVersion) : Type 0 where
+  pub some : 0 < at
+  pub current : (v : GroupVersion) → slice_get versions (at - 1) ≡ Some v → is_current s.row v ≡ true
+  pub gone : (v : GroupVersion) → slice_get versions (at - 1) ≡ Some v → has_tuples (group_with v.group s) ≡ false
+
+-- the last change, t, ends the version before a place and leaves no group of its row, and s, which follows it, brings one
+pub record AreBoth (t s : SignedRow) (at : ℕ) (changes left : List SignedRow) (versions : List GroupVersion) : Type 0 where
+  pub last : changes ≡ left ++ t ∷ []
+  pub ends : EndsBefore t at versions
+  pub brings : has_tuples s ≡ true
+
 -- a number of tuples that a count can hold
 pub record IsCount (n : ℤ) : Type 0 where
   pub count : ℕ
@@ -124,3 +137,15 @@ Meets number s v = meets_by (row_cmp v.group.row s.row) number s v
 
 abbrev pub MeetAll : ℕ → List GroupVersion → SignedRow → Type 0
 MeetAll number versions s = AllByRecursion (Meets number s) versions
+
+-- changes that are left to be applied, from the last one on, in the order of their rows: no version from a place on comes
+-- before a row of theirs, and none of those that have not ended from a place among these on
+pub record AreLeft (number : ℕ) (changes : List SignedRow) (versions : List GroupVersion) (all few : ℕ) : Type 0 where
+  pub order : Apart Precedes versions
+  pub each : AllByRecursion (IsBy number) versions
+  pub ascend : Ascends (λ (a b : SignedRow). row_cmp a.row b.row) changes
+  pub meet : AllByRecursion (MeetAll number versions) changes
+  pub within : all ≤ length versions
+  pub above : AllByRecursion (λ s. NoneBefore s.row number all versions) changes
+  pub within_few : few ≤ length (not_ended versions)
+  pub above_few : AllByRecursion (λ s. NoneBefore s.row number few (not_ended versions)) changes

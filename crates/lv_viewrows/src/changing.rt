@@ -1,5 +1,5 @@
 //! What changes do to the versions of a view's groups, in place.
-ghost use Rattle.std.specs.Prelude.{◌≡◌, ◌+◌, ◌-◌, ◌≤◌, ◌<◌, [], Some, true, filter, length, map, slice_get};
+ghost use Rattle.std.specs.Prelude.{◌≡◌, ◌+◌, ◌-◌, ◌≤◌, ◌<◌, ◌++◌, ◌∷◌, [], MatchOption, Some, true, filter, length, map, slice_get};
 ghost use Rattle.std.specs.List.{AllByRecursion};
 ghost use Rattle.lv_values.specs.Ascending.{placed};
 ghost use Rattle.lv_values.specs.Order.{row_cmp};
@@ -9,9 +9,9 @@ ghost use Rattle.lv_shelf.specs.Cuts.{Apart, IsCut};
 ghost use Rattle.lv_shelf.specs.Shelves.{LacksItem};
 ghost use Rattle.lv_group.specs.Gathered.{has_tuples};
 ghost use Rattle.lv_viewrows.specs.Kept.{version_from};
-ghost use Rattle.lv_viewrows.specs.Standing.{IsBy, MeetAll, NoneBefore, Precedes, changed, changed_all, comes_before, is_current, not_ended, not_ended_before, put, version_cmp};
+ghost use Rattle.lv_viewrows.specs.Standing.{AreBoth, AreLeft, EndsBefore, IsBy, MeetAll, NoneBefore, Precedes, changed, changed_all, comes_before, is_current, not_ended, not_ended_before, put, version_cmp};
 
-use crate::numbers::{has_tuples, with_group};
+use crate::numbers::{has_tuples, takes_all, with_group};
 use crate::searching::place_of;
 use crate::version::GroupVersion;
 use crate::versions::Versions;
@@ -150,23 +150,19 @@ fn put_change(group: SignedRow, number: u64, at: usize, not_ended: usize, versio
     }
 }
 
-/// Applies one change, as that of a commit, and answers how many versions come before its row; those from `high` on do
-/// not. Cost: a search from `high` in each order, `left` changes with this one being sought below it, and a move of small
-/// numbers.
-fn apply(change: SignedRow, number: u64, high: Front, left: usize, versions: &mut Versions) -> Front
+/// Applies one change, as that of a commit, before whose row the versions of `front` come, and answers how many come then.
+/// Cost: a move of small numbers, or one in each order for a group that comes.
+fn apply(change: SignedRow, number: u64, front: Front, versions: &mut Versions) -> Front
     requires order { Apart Precedes versions.old.list }
     requires meets { MeetAll number versions.old.list change }
-    requires within { high.all ≤ length versions.old.list }
-    requires above { NoneBefore change.row number high.all versions.old.list }
-    requires within_not_ended { high.not_ended ≤ length (not_ended versions.old.list) }
-    requires above_not_ended { NoneBefore change.row number high.not_ended (not_ended versions.old.list) }
+    requires cut { IsCut (comes_before change.row number) front.all versions.old.list }
+    requires place { front.not_ended ≡ not_ended_before front.all versions.old.list }
     requires room { 0 < versions.old.spare }
     ensures changed { versions.new.list ≡ changed number change versions.old.list }
     ensures cut { IsCut (comes_before change.row number) result.all versions.new.list }
     ensures place { result.not_ended ≡ not_ended_before result.all versions.new.list }
     ensures room { versions.old.spare ≤ versions.new.spare + 1 }
 {
-    let front = front_of(&change.row, number, high, left, versions);
     if is_current_before(&change.row, front.all, versions) {
         return change_current(change, number, front, versions);
     }
@@ -174,7 +170,73 @@ fn apply(change: SignedRow, number: u64, high: Front, left: usize, versions: &mu
     front
 }
 
-/// Applies changes of different rows, from the last one on. Cost: that of `apply` for each.
+/// Whether a change ends the last of the first so many versions, and leaves no group of its row. The numbers are looked at
+/// first: the rows are compared only where the change takes all tuples of that version.
+fn ends_before(change: &SignedRow, at: usize, versions: &Versions) -> bool
+    requires { at ≤ length versions.now.list }
+    ensures { result ≡ true → EndsBefore change.now at versions.now.list }
+{
+    if at == 0 {
+        return false;
+    }
+    takes_all(&versions.get(at - 1).group, change) && is_current_before(&change.row, at, versions)
+}
+
+/// Takes the last change off if it ends the last of the first so many versions and leaves no group of its row, where a
+/// change is given that brings one.
+fn take_ending(
+    change: &SignedRow,
+    changes: &mut Signed,
+    at: usize,
+    versions: &Versions,
+) -> Option<SignedRow>
+    requires { at ≤ length versions.now.list }
+    ensures { MatchOption result (changes.new ≡ changes.old) (λ ending. AreBoth ending change.now at changes.old changes.new versions.now.list) }
+{
+    let left = changes.len();
+    if change.count <= 0 || left == 0 {
+        return None;
+    }
+    if !ends_before(changes.get(left - 1), at, versions) {
+        return None;
+    }
+    changes.pop()
+}
+
+/// Applies a change, which is the last one, and with it the one before that if this ends the version that the new one comes
+/// right behind: then one takes the place of the other. Answers how many versions come before the row of the last one applied.
+/// Cost: a search from `high` in each order, `left` changes with this one being sought below it, and that of `apply`, or for
+/// both changes one move of small numbers.
+fn apply_last(
+    change: SignedRow,
+    changes: &mut Signed,
+    number: u64,
+    high: Front,
+    left: usize,
+    versions: &mut Versions,
+) -> Front
+    requires left { AreLeft number (changes.old ++ change ∷ []) versions.old.list high.all high.not_ended }
+    requires room { length changes.old < versions.old.spare }
+    ensures changed { changed_all number changes.new versions.new.list ≡ changed_all number (changes.old ++ change ∷ []) versions.old.list }
+    ensures left { AreLeft number changes.new versions.new.list result.all result.not_ended }
+    ensures fewer { length changes.new ≤ length changes.old }
+    ensures room { versions.old.spare + length changes.new ≤ versions.new.spare + length changes.old + 1 }
+{
+    let front = front_of(&change.row, number, high, left, versions);
+    match take_ending(&change, changes, front.all, versions) {
+        Some(_ending) => {
+            versions.replace(front.all - 1, change, number);
+            Front {
+                all: front.all,
+                not_ended: front.not_ended - 1,
+            }
+        }
+        None => apply(change, number, front, versions),
+    }
+}
+
+/// Applies changes of different rows, from the last one on. Cost: for each a search from the place of the one before it and
+/// that of `apply`; for a row that goes and the next one that comes right behind it, one search and one move of small numbers.
 fn apply_each(mut changes: Signed, number: u64, versions: &mut Versions)
     requires order { Apart Precedes versions.old.list }
     requires each { AllByRecursion (IsBy number) versions.old.list }
@@ -192,7 +254,7 @@ fn apply_each(mut changes: Signed, number: u64, versions: &mut Versions)
     };
     let mut left = changes.len();
     while let Some(change) = changes.pop() {
-        high = apply(change, number, high, left, versions);
+        high = apply_last(change, &mut changes, number, high, left, versions);
         left = changes.len();
     }
 }
@@ -214,8 +276,9 @@ fn fill(groups: Signed, number: u64, versions: &mut Versions)
 
 /// Applies changes of different rows, as those of a commit. It takes no memory. Cost: for each a search from the place of
 /// the one before it, which for changes that are spread evenly takes about log (versions / changes) comparisons, the same
-/// among the versions that have not ended where some have, and a move of small numbers, or two for a group that comes; where
-/// there is no version yet, linear in the changes.
+/// among the versions that have not ended where some have, and a move of small numbers, or two for a group that comes; a row
+/// that goes and the next one that comes right behind it, as of an update, take one search and one move together; where there
+/// is no version yet, linear in the changes.
 pub(crate) fn apply_all(changes: Signed, number: u64, versions: &mut Versions)
     requires order { Apart Precedes versions.old.list }
     requires each { AllByRecursion (IsBy number) versions.old.list }

@@ -1,5 +1,5 @@
 //! The numbers of a group with those of a change.
-ghost use Rattle.std.specs.Prelude.{◌≡◌, ◌<◌, ◌+ℤ◌, length, slice_index_or};
+ghost use Rattle.std.specs.Prelude.{◌≡◌, ◌<◌, ◌+ℤ◌, length, not, slice_index_or};
 ghost use Rattle.std.specs.Int.{int_wrap, w128};
 ghost use Rattle.lv_group.specs.Gathered.{has_tuples};
 ghost use Rattle.lv_viewrows.specs.Changed.{sums_added, group_with};
@@ -12,6 +12,13 @@ pub(crate) fn has_tuples(group: &SignedRow) -> bool
     ensures { result ≡ has_tuples group.now }
 {
     group.count != 0
+}
+
+/// Whether a change takes all tuples of a group.
+pub(crate) fn takes_all(group: &SignedRow, change: &SignedRow) -> bool
+    ensures { result ≡ not (has_tuples (group_with group.now change.now)) }
+{
+    group.count.checked_add(change.count) == Some(0)
 }
 
 /// The sum of two numbers, wrapped to 128 bits.

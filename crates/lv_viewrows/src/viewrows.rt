@@ -244,7 +244,8 @@ impl ViewRows {
     /// Installs a change, whose commits end at `hi`: from there on the rows are those before with it, and below they stay.
     /// It takes no memory. Cost: for each changed row a search from the place of the one before it, of about
     /// log (versions / changed rows) comparisons where these are spread evenly and never more than twice log (versions); and
-    /// for each that comes a move of small numbers, as of `Shelf::insert`.
+    /// for each that comes a move of small numbers, as of `Shelf::insert`. A row that goes and the next one that comes right
+    /// behind it, as of an update, take one search and one move together.
     pub fn install(&mut self, hi: u64, changes: Signed)
         requires change { CanInstall self.old hi changes }
         requires room { length changes ≤ self.old.spare }

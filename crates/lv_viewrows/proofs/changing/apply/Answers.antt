@@ -1,14 +1,14 @@
-use Rattle.std.proofs.Common.{map, refl, subst, sym, ap, ◌∙◌}
+use Rattle.std.proofs.Common.{refl, subst, sym, ◌∙◌}
 use Rattle.lv_shelf.specs.Shelves.{LacksItem}
 use Rattle.lv_shelf.proofs.Cutting.{cut_long}
 use Rattle.lv_viewrows.specs.Kept.{version_from}
-use Rattle.lv_viewrows.specs.Standing.{comes_before, ended, joined, put}
+use Rattle.lv_viewrows.specs.Standing.{comes_before}
 use Rattle.lv_viewrows.proofs.Filling.{new_to_ended}
-use Rattle.lv_viewrows.proofs.Replacing.{no_current}
+use Rattle.lv_viewrows.proofs.Replacing.{no_current, put_alone}
 use Rattle.lv_viewrows.proofs.changing.apply.Goals as goal
 
 pub is_current_before-requires : goal.is_current_before-requires
-is_current_before-requires c = cut_long (comes_before c.args.change.row c.args.number) c.front_of-front.result.all c.args.versions.now.list c.front_of-front.ensures.cut
+is_current_before-requires c = cut_long (comes_before c.args.change.row c.args.number) c.args.front.all c.args.versions.now.list c.requires.cut
 
 pub change_current-requires-clause-some : goal.change_current-requires-clause-some
 change_current-requires-clause-some c = c.is_current_before.ensures.some c.if-is_current_before.true
@@ -22,7 +22,7 @@ put_change-requires-clause-absent c =
     let s = c.args.change in
     let number = c.args.number in
     let vs = c.args.versions.now.list in
-    let none = no_current number s vs c.requires.order c.requires.meets c.front_of-front.result.all c.front_of-front.ensures.cut (λ v lt e. sym (c.is_current_before.ensures.last v lt e) ∙ c.if-is_current_before.false) in
+    let none = no_current number s vs c.requires.order c.requires.meets c.args.front.all c.requires.cut (λ v lt e. sym (c.is_current_before.ensures.last v lt e) ∙ c.if-is_current_before.false) in
     subst (LacksItem (version_from number s)) none.1 (new_to_ended number s s vs refl c.requires.meets)
 
 pub returns-clause-changed : goal.returns-clause-changed
@@ -30,7 +30,5 @@ returns-clause-changed c =
     let s = c.args.change in
     let number = c.args.number in
     let vs = c.args.versions.now.list in
-    let none = no_current number s vs c.requires.order c.requires.meets c.front_of-front.result.all c.front_of-front.ensures.cut (λ v lt e. sym (c.is_current_before.ensures.last v lt e) ∙ c.if-is_current_before.false) in
-    c.put_change.ensures.put
-    ∙ ap (put number s) (sym none.1)
-    ∙ ap (λ groups. put number (joined groups s) (map (ended number s.row) vs)) (sym none.0)
+    let none = no_current number s vs c.requires.order c.requires.meets c.args.front.all c.requires.cut (λ v lt e. sym (c.is_current_before.ensures.last v lt e) ∙ c.if-is_current_before.false) in
+    c.put_change.ensures.put ∙ put_alone number s vs none
