@@ -10,13 +10,13 @@ ghost use Rattle.lv_runner.specs.Following.{GoesOn, HasAnswered, HasFollowed, Ha
 ghost use Rattle.lv_runner.specs.declared.writing.Stop.TheVariants as stop;
 
 use crate::naming::{names_of, renew_names};
-use crate::writing::{Stop, text_with_room, write_last};
+use crate::writing::{Stop, write_last};
 use lv_core::Core;
 use lv_lines::Names;
 use lv_namelaw::more_names_give_the_same_text;
 use lv_outside::{Disk, Sink};
 use lv_plain::Event;
-use lv_values::{Bytes, Items, NoMemory, Steps};
+use lv_values::{Items, NoMemory, Steps};
 use std::alloc::Global;
 use std::sync::ledger::Ledger;
 
@@ -43,12 +43,11 @@ pub(crate) fn answer_event<D: Disk, L: Ledger>(
     }
 }
 
-/// Writes the entry that an event has added, under the names that there are then. Its text is made in the place of another.
+/// Writes the entry that an event has added, under the names that there are then.
 fn write_entry<K: Sink, D: Disk>(
     alloc: Global,
     core: &Core<D>,
     names: &mut Names,
-    text: &mut Bytes,
     sink: &mut K,
 ) -> Result<(), Stop>
     requires { WereNames names.old core.now.run }
@@ -59,7 +58,7 @@ fn write_entry<K: Sink, D: Disk>(
     ensures cause { result ≡ Err stop.Sink → Rose (K.faults sink.old) (K.faults sink.new) }
 {
     renew_names(alloc, core, names)?;
-    write_last(core, names, text, sink)
+    write_last(alloc, core, names, sink)
 }
 
 /// Answers an event and writes its entry.
@@ -67,7 +66,6 @@ fn follow_event<K: Sink, D: Disk, L: Ledger>(
     alloc: Global,
     core: &mut Core<D>,
     names: &mut Names,
-    text: &mut Bytes,
     event: &Event,
     sink: &mut K,
     steps: &mut Steps<L>,
@@ -82,7 +80,7 @@ fn follow_event<K: Sink, D: Disk, L: Ledger>(
     ensures cause { result ≡ Err stop.Sink → Rose (K.faults sink.old) (K.faults sink.new) }
 {
     answer_event(alloc, core, event, steps)?;
-    write_entry(alloc, core, names, text, sink)
+    write_entry(alloc, core, names, sink)
 }
 
 /// Answers these events, one after another, from the begin of the program, and writes the entry of each.
@@ -106,9 +104,8 @@ fn follow<K: Sink, D: Disk, L: Ledger>(
 {
     more_names_give_the_same_text();
     core.known();
-    let mut text = text_with_room(alloc)?;
     for event in events {
-        follow_event(alloc, core, names, &mut text, event, sink, steps)?;
+        follow_event(alloc, core, names, event, sink, steps)?;
     }
     Ok(())
 }

@@ -48,29 +48,24 @@ impl From<Failed> for Stop {
 /// How many bytes the text of most entries has at most.
 const SHORT: usize = 256;
 
-/// An empty text, with room for that of most entries.
-pub(crate) fn text_with_room(alloc: Global) -> Result<Bytes, NoMemory> {
-    Ok(Bytes::from_vec(Vec::with_capacity(alloc, SHORT)?))
-}
-
-/// Makes a text that of the last entry, or empty where there is no entry.
-fn print_last<D: Disk>(core: &Core<D>, names: &Names, text: &mut Bytes) -> Result<(), NoMemory>
+/// The text of the last entry, none where there is no entry.
+fn last_text<D: Disk>(alloc: Global, core: &Core<D>, names: &Names) -> Result<Bytes, NoMemory>
     requires { names.now ≡ names_now core.now.run }
-    ensures { (es : List AnEntry) (e : AnEntry) → core.now.run.entries ≡ es ++ e ∷ [] → OnOk result (text.new ≡ entry_text (names_now core.now.run) e) }
+    ensures { (es : List AnEntry) (e : AnEntry) → core.now.run.entries ≡ es ++ e ∷ [] → IfOk result (λ text. text ≡ entry_text (names_now core.now.run) e) }
 {
     core.known();
-    text.clear();
-    match core.entries().last() {
-        Some(entry) => print_entry(names, entry, text),
-        None => Ok(()),
+    let mut text = Bytes::from_vec(Vec::with_capacity(alloc, SHORT)?);
+    if let Some(entry) = core.entries().last() {
+        print_entry(names, entry, &mut text)?;
     }
+    Ok(text)
 }
 
-/// Writes the text of the last entry as one piece, which is made in the place of another text. Cost: linear in the text.
+/// Writes the text of the last entry as one piece. Cost: linear in the text.
 pub(crate) fn write_last<K: Sink, D: Disk>(
+    alloc: Global,
     core: &Core<D>,
     names: &Names,
-    text: &mut Bytes,
     sink: &mut K,
 ) -> Result<(), Stop>
     requires { names.now ≡ names_now core.now.run }
@@ -79,7 +74,7 @@ pub(crate) fn write_last<K: Sink, D: Disk>(
     ensures later { K.faults sink.old ≤ K.faults sink.new }
     ensures cause { result ≡ Err stop.Sink → Rose (K.faults sink.old) (K.faults sink.new) }
 {
-    print_last(core, names, text)?;
+    let text = last_text(alloc, core, names)?;
     write_whole(sink, text.as_slice())?;
     Ok(())
 }
