@@ -6,3 +6,4 @@ pub mod Terms
 pub mod NetOfTerms
 pub mod Turns
 pub mod AddedPairs
+pub mod OneTable

@@ -1,3 +1,4 @@
+pub mod Alone
 pub mod Inputs
 pub mod Pairs
 pub mod Runs

@@ -1,6 +1,6 @@
 -- The reach of a change of a view of one alias: no link leads from an alias to itself, so the changed rows alone are near,
 -- and of the old rows those alone that go.
-use Rattle.std.proofs.Common.{◌≡◌, ℕ, zero, suc, ◌<◌, Bool, true, false, cond, ◌&&◌, ◌||◌, ◌==◌, List, [], ◌∷◌, map, length, Option, Some, None, refl, sym, ap, ◌∙◌, subst, arith}
+use Rattle.std.proofs.Common.{◌≡◌, ℕ, zero, suc, ◌<◌, Bool, true, false, cond, ◌&&◌, ◌||◌, ◌==◌, List, [], ◌∷◌, map, length, get_or, Option, Some, None, refl, sym, ap, ◌∙◌, subst, arith}
 use Rattle.std.specs.Prelude.{◌⊎◌}
 use mathlib.Core.Logic.{inl}
 use Rattle.std.proofs.lemmas.Bool.{and_parts, eqb-true, eq-eqb}
@@ -185,3 +185,9 @@ one_alias b lo cond (t ∷ []) (p ∷ []) small e each is =
     subst (IsReachOf (links_of cond) (one ∷ [])) (sym is) (alone (links_of cond) (links_apart cond) one (table_at (defs_of b) t) each.0)
 one_alias b lo cond (t ∷ []) (p ∷ q ∷ changes) small e each is = absurd each.1
 one_alias b lo cond (t ∷ u ∷ tables) changes small e each is = absurd (let more = e in omega (arith, more))
+
+-- ---- the one table
+pub only_one : (tables : List ℕ) (d : ℕ) → length tables ≡ 1 → tables ≡ get_or tables 0 d ∷ []
+only_one [] d h = absurd (omega (arith, h))
+only_one (t ∷ []) d h = refl
+only_one (t ∷ u ∷ tables) d h = absurd (omega (arith, h))

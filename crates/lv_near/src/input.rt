@@ -17,6 +17,7 @@ ghost use Rattle.lv_near.specs.Small.{AreEmptyAt, CanRead, IsSmallInput, IsSplit
 
 use crate::changes::{all_stay_same, changes_between};
 use crate::differing::difference_by;
+use crate::one_table::alone_difference;
 use crate::picking::{flag_at, old_of};
 use crate::source::TablesBetween;
 use lv_base::Base;
@@ -198,6 +199,9 @@ fn needed_difference<L: Ledger>(
     ensures less { (i : ℕ) (near : List ARowOf) (far : ℕ → Bool) → OnlyChanges i (told def.now (whole_parts at.now.base.now def.now.tables at.now.lo at.now.hi)) → IsReach (links_of def.now.cond) (without_old i (told def.now (whole_parts at.now.base.now def.now.tables at.now.lo at.now.hi))) near far
         → steps.new ≤ steps.old + cost (links_of def.now.cond) (without_old i (told def.now (whole_parts at.now.base.now def.now.tables at.now.lo at.now.hi))) near far }
 {
+    if at.tables.len() == 1 {
+        return alone_difference(alloc, at, def);
+    }
     let changes = changes_between(alloc, at)?;
     let left = told(alloc, def, changes)?;
     difference_by(alloc, at, def, left, steps)

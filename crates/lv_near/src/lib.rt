@@ -6,6 +6,7 @@ mod changes;
 mod differing;
 mod entries;
 mod input;
+mod one_table;
 mod ordering;
 mod orders;
 mod pairs;
