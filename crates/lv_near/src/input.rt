@@ -183,7 +183,8 @@ fn step_parts<L: Ledger>(
     reached_parts(alloc, at, def, changes, steps)
 }
 
-/// The difference of a step where nobody needs its input. Changes that the view cannot tell are let go of first.
+/// The difference of a step where nobody needs its input. Of a view of several tables the changes that it cannot tell are
+/// let go of first.
 fn needed_difference<L: Ledger>(
     alloc: Global,
     at: &TablesBetween<'_>,
