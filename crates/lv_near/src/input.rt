@@ -242,7 +242,8 @@ pub fn step_input<L: Ledger>(
 
 /// What becomes of the rows or groups of a view by the step from one commit to another: the difference over the input that
 /// `step_input` gives, where nobody needs that input. Cost: at most as of `step_input`, without a copy of the view, and that
-/// of the difference; it ticks at most as often. Changes that the view cannot tell are let go of before any row is read, and
+/// of the difference; it ticks at most as often. A view of one table needs its changed rows alone, and none of them is copied.
+/// Of several tables, changes that the view cannot tell are let go of before any row is read, and
 /// where one alias alone changes then, it ticks at most as often as a step costs whose alias has no other rows; where none
 /// does, no row is read. Of two tables that are linked, the rows of the other one are not copied, but looked up where they
 /// lie, for each changed row once.
