@@ -199,6 +199,22 @@ impl<D: Disk> Core<D> {
         Ok(())
     }
 
+    /// A worker claims a step, once the setup is answered: its entry is that of `fetch`, and its slot stays as it is, since
+    /// nothing is copied out. So it is for steps that `install_slot` computes. Want of memory changes nothing. Cost: that of
+    /// the engine's `claim_next`.
+    pub fn claim_next(&mut self, alloc: Global, worker: u32) -> Result<(), NoMemory>
+        requires worker { IsWorker worker }
+        requires setup { setup_answered self.old.run.program self.old.run.places ≡ true }
+        ensures done { OnOk result (Gave D.seen D.may_leave D.moment D.left_since D.failures (fetch_of worker) self.old.run self.new.run) }
+        ensures slots { self.new.slots ≡ self.old.slots }
+        ensures kept { OnErr result (self.new.run ≡ self.old.run) }
+    {
+        if self.picker.kind() != self.run.policy() {
+            return Err(NoMemory);
+        }
+        self.run.claim_next(alloc, worker, &self.picker)
+    }
+
     /// Takes out what lies in a worker's slot. The run stays as it is. Cost: constant.
     pub fn take_slot(&mut self, worker: u32) -> Option<JobInput>
         requires worker { IsWorker worker }

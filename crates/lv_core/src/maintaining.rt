@@ -43,6 +43,30 @@ fn fetched(worker: u32, step: Forced) -> Entry
     }
 }
 
+/// A worker claims a step: it is busy where it has a claim, and idle where there is none to claim. Nothing is read. Want of
+/// memory leaves everything as it was.
+pub fn claim_next<D: Disk>(
+    engine: &mut Engine<D>,
+    alloc: Global,
+    worker: u32,
+    picker: &Picker,
+) -> Result<Entry, NoMemory>
+    requires worker { IsWorker worker }
+    ensures entry { (rules : Rules) (s : State) → rules.settings.combine ≡ engine.old.store.settings.combine → rules.settings.policy ≡ picker.now.kind → Stands s.world engine.old
+        → IfOk result (λ entry. GivesEntry (give rules false (fetch_of worker) s) engine.new entry) }
+    ensures refused { OnErr result (engine.new ≡ engine.old) }
+    ensures settings { engine.new.store.settings ≡ engine.old.store.settings }
+    ensures journal { engine.new.journal ≡ engine.old.journal }
+{
+    if engine.claim(worker).is_some() {
+        return Ok(Entry::Busy { worker });
+    }
+    match engine.claim_next(alloc, worker, picker)? {
+        Some(step) => Ok(fetched(worker, step)),
+        None => Ok(Entry::Idle { worker }),
+    }
+}
+
 /// A worker fetches a step: it is busy where it has a claim, and idle where there is none to fetch; then nothing is read.
 /// Want of memory leaves everything as it was.
 pub fn fetch<D: Disk, L: Ledger>(

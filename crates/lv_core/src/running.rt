@@ -24,7 +24,7 @@ ghost use Rattle.lv_core.specs.Run.{Gave, IsOpenedBy, IsOpening, IsRun, IsSame, 
 
 use crate::answering::{answer_line, stale_line};
 use crate::lines::{all_answered, has_more, line_left};
-use crate::maintaining::{Given, clean, fetch, install, is_installed, release};
+use crate::maintaining::{Given, claim_next, clean, fetch, install, is_installed, release};
 use crate::marking::{mark_view, view_of_name};
 use crate::opening::{Opened, Opening};
 use lv_engine::Engine;
@@ -276,6 +276,25 @@ impl<D: Disk> Run<D> {
             reply: answered.reply,
         });
         self.places.set(at, place + 1);
+        Ok(())
+    }
+
+    /// A worker, 1 to 8, claims a step, by a policy of the run's kind: the entry is that of `fetch`, and nothing is copied out.
+    pub fn claim_next(
+        &mut self,
+        alloc: Global,
+        worker: u32,
+        picker: &Picker,
+    ) -> Result<(), NoMemory>
+        requires worker { IsWorker worker }
+        requires setup { setup_answered self.old.program self.old.places ≡ true }
+        requires policy { self.old.settings.policy ≡ picker.now.kind }
+        ensures done { OnOk result (Gave D.seen D.may_leave D.moment D.left_since D.failures (fetch_of worker) self.old self.new) }
+        ensures kept { OnErr result (self.new ≡ self.old) }
+    {
+        make_room(&mut self.entries, 1)?;
+        let entry = claim_next(&mut self.engine, alloc, worker, picker)?;
+        self.entries.push(entry);
         Ok(())
     }
 

@@ -10,7 +10,7 @@ use Rattle.lv_schema.specs.UpkeepCases.{Fetched, chosen_view, claim_of, fetch_am
 use Rattle.lv_schema.specs.World.{Settings, Upkeep, World, last, live, point}
 use Rattle.lv_schema.proofs.Candidates.{IsCandidate, chosen_is}
 use Rattle.lv_maint.specs.Inputs.{Input}
-use Rattle.lv_store.specs.Maintaining.{IsGiven}
+use Rattle.lv_store.specs.Maintaining.{IsGiven, step_told}
 use Rattle.lv_upkeep.specs.Kept.{claim_kept}
 use Rattle.lv_engine.specs.Kept.{EngineView, Stands}
 
@@ -67,6 +67,13 @@ module _ (settings : Settings) (worker : ℕ) (w : World) (free : claim_of w.upk
 
   pub idle_where : (fetching_now.0 ≡ idle) ↔ (unclaimed w ≡ [])
   idle_where = (λ is. none_here (subst (λ (a : Fetched). IsGiven w.visible a None) (sym is) refl), λ none. ap (λ (d : Fetched × Upkeep). d.0) (idle_now none))
+
+  pub step_none : (step : Option Forced) → step_told step ≡ fetching_now.0 → (step ≡ None) ↔ (unclaimed w ≡ [])
+  step_none step is = (λ none. idle_where.0 (sym is ∙ ap step_told none), λ none. left step (is ∙ idle_where.1 none))
+    where
+      left : (o : Option Forced) → step_told o ≡ idle → o ≡ None
+      left None e = refl
+      left (Some f) e = absurd cc
 
 -- the claim that is kept is the world's
 pub claim_is : {D : Type 0} (w : World) (e : EngineView D) (worker : ℕ) → Stands w e → claim_kept e.store.upkeep worker ≡ claim_of w.upkeep worker

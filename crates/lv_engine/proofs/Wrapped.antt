@@ -1,6 +1,7 @@
 -- What is told of the store holds of the engine round it.
 use Rattle.std.proofs.Common.{◌≡◌, ℕ, Option, Result, Ok, Err, refl, sym, ap, ◌∙◌}
 use Rattle.std.specs.Prelude.{IfOk}
+use Rattle.lv_schema.specs.declared.forced.Forced.{Forced}
 use Rattle.lv_schema.specs.UpkeepCases.{fetching}
 use Rattle.lv_schema.specs.WholeWorld.{Done, Queried, maintained}
 use Rattle.lv_schema.specs.World.{Settings, World}
@@ -13,7 +14,7 @@ use Rattle.lv_store.specs.Answering as answering
 use Rattle.lv_store.specs.Maintaining as maintaining
 use Rattle.lv_store.specs.Kept as store
 use Rattle.lv_store.specs.Kept.{IsStore, StoreKept, store_of}
-use Rattle.lv_engine.specs.Answering.{GivesFetch, GivesQuery}
+use Rattle.lv_engine.specs.Answering.{GivesClaim, GivesFetch, GivesQuery}
 use Rattle.lv_engine.specs.Kept.{StandsForSome, engine_of, length_of}
 
 pub if_ok : {A E : Type 0} {P Q : A → Type 0} (r : Result A E) → ((a : A) → P a → Q a) → IfOk r P → IfOk r Q
@@ -49,7 +50,14 @@ pub stands_for_some : {D : Type 0} (s : Store) (j : Writer D) → IsStore s → 
 stands_for_some s j whole =
     (with_length (length_of j) whole.world, record { store_stands = any_length whole.world (length_of j) (store_of s) whole.stands; journal_is = refl })
 
--- ---- a fetch and a query
+-- ---- a claim, a fetch and a query
+pub claimed_stands : {D : Type 0} (w : World) (settings : Settings) (worker : ℕ) (step : Option Forced) (s : StoreKept) (j : Writer D) → length_of j ≡ w.upkeep.journal
+    → maintaining.GivesClaim (maintained (fetching settings worker w) w) step s → GivesClaim (maintained (fetching settings worker w) w) step (record { store = s; journal = j })
+claimed_stands w settings worker step s j is gives = record {
+  step_is = gives.step_is;
+  stands = record { store_stands = gives.stands; journal_is = is ∙ sym (ap (λ (x : World). x.upkeep.journal) (fetched_keeps w settings worker)) };
+}
+
 pub fetched_stands : {D : Type 0} (w : World) (settings : Settings) (worker : ℕ) (input : Option Input) (s : StoreKept) (j : Writer D) → length_of j ≡ w.upkeep.journal
     → maintaining.GivesFetch w.visible (maintained (fetching settings worker w) w) input s → GivesFetch w.visible (maintained (fetching settings worker w) w) input (record { store = s; journal = j })
 fetched_stands w settings worker input s j is gives = record {

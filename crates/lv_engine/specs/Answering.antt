@@ -2,6 +2,7 @@
 use Rattle.std.specs.Prelude.{◌≡◌, ℕ, Bool, true, false, List, Option, Some, None, Result, Ok, Err}
 use Rattle.lv_schema.specs.declared.fault.Fault.{Fault}
 use Rattle.lv_schema.specs.declared.fault.Fault.TheVariants as fault
+use Rattle.lv_schema.specs.declared.forced.Forced.{Forced}
 use Rattle.lv_schema.specs.declared.rec.Rec.{Rec}
 use Rattle.lv_schema.specs.Cases.{Case}
 use Rattle.lv_schema.specs.UpkeepCases.{Marking}
@@ -14,7 +15,7 @@ use Rattle.lv_maint.specs.Inputs.{Input}
 use Rattle.lv_store.specs.declared.answer.Answer.{Answer}
 use Rattle.lv_store.specs.declared.cleaned.Cleaned.{Cleaned}
 use Rattle.lv_store.specs.declared.installed.Installed.{Installed as InstallAnswer}
-use Rattle.lv_store.specs.Maintaining.{IsGiven, shown_by, told}
+use Rattle.lv_store.specs.Maintaining.{IsGiven, shown_by, step_told, told}
 use Rattle.lv_txn.specs.Written.{conflict_fault}
 use Rattle.lv_engine.specs.declared.fault.CommitFault.{CommitFault}
 use Rattle.lv_engine.specs.declared.fault.CommitFault.TheVariants as commit
@@ -84,6 +85,10 @@ pub record GivesQuery {D : Type 0} (done : Done Queried) (a : Answer) (new : Eng
 
 pub record GivesFetch {D : Type 0} (s : Visible) (done : Done Fetched) (input : Option Input) (new : EngineView D) : Type 0 where
   pub input_is : IsGiven s done.answer input
+  pub stands : Stands done.next new
+
+pub record GivesClaim {D : Type 0} (done : Done Fetched) (step : Option Forced) (new : EngineView D) : Type 0 where
+  pub step_is : step_told step ≡ done.answer
   pub stands : Stands done.next new
 
 pub record GivesInstall {D : Type 0} (done : Done Installed) (a : InstallAnswer) (new : EngineView D) : Type 0 where

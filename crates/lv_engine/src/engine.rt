@@ -19,7 +19,7 @@ ghost use Rattle.lv_store.specs.Kept.{IsStore, kept, store_of};
 ghost use Rattle.lv_store.specs.Maintaining.{KeepsNoneBelow, TakesGiven, TakesInstalled};
 ghost use Rattle.lv_engine.specs.declared.fault.AloneFault.TheVariants as fault;
 ghost use Rattle.lv_engine.specs.Alone.{alone_fails, alone_fault};
-ghost use Rattle.lv_engine.specs.Answering.{GivesCleaned, GivesFetch, GivesInstall, GivesQuery, LogsCase, Meets, MeetsMark, commit_fault, create_fault, fails};
+ghost use Rattle.lv_engine.specs.Answering.{GivesCleaned, GivesClaim, GivesFetch, GivesInstall, GivesQuery, LogsCase, Meets, MeetsMark, commit_fault, create_fault, fails};
 ghost use Rattle.lv_replay.specs.Runs.{mark_written};
 ghost use Rattle.lv_engine.specs.Kept.{IsSame, Stands, StandsForSome, length_of};
 ghost use Rattle.lv_engine.specs.Writing.{IsUntouched};
@@ -372,6 +372,26 @@ impl<D: Disk> Engine<D> {
         ensures { result ≡ claim_kept self.now.store.upkeep worker }
     {
         self.store.claim(worker)
+    }
+
+    /// A worker, 1 to 8, that has no claim claims the step that `fetch` would give it, which it answers, none exactly where
+    /// there is none; nothing is read or copied out. Want of memory changes nothing. Cost: a look at each view, and at each
+    /// task that the step takes.
+    pub fn claim_next(
+        &mut self,
+        alloc: Global,
+        worker: u32,
+        picker: &Picker,
+    ) -> Result<Option<Forced>, NoMemory>
+        requires worker { worker < 9 }
+        requires free { claim_kept self.old.store.upkeep worker ≡ None }
+        ensures done { (w : World) (settings : schema.Settings) → settings.combine ≡ self.old.store.settings.combine → settings.policy ≡ picker.now.kind → Stands w self.old
+            → IfOk result (λ step. GivesClaim (maintained (fetching settings worker w) w) step self.new) }
+        ensures none { (w : World) → Stands w self.old → IfOk result (λ step. (step ≡ None) ↔ (unclaimed w ≡ [])) }
+        ensures refused { OnErr result (self.new ≡ self.old) }
+        ensures others { self.new ≡ record self.old { store = record self.old.store { upkeep = self.new.store.upkeep } } }
+    {
+        self.store.claim_next(alloc, worker, picker)
     }
 
     /// A worker, 1 to 8, that has no claim fetches a step: of the views that nobody has claimed and that have pending

@@ -35,7 +35,7 @@ pub(crate) fn answer_event<D: Disk, L: Ledger>(
     core.known();
     match event {
         Event::Turn { session } => core.turn(alloc, *session, Items::new(alloc), steps),
-        Event::Fetch { worker } => core.fetch(alloc, *worker, steps),
+        Event::Fetch { worker } => core.claim_next(alloc, *worker),
         Event::Install { worker } => core.install_slot(alloc, *worker, steps),
         Event::Mark { view } => core.mark(alloc, view),
         Event::Clean => core.clean(alloc),

@@ -39,7 +39,7 @@ use Rattle.lv_stands.proofs.Workers as laws
 use Rattle.lv_base.specs.Bases.{BaseRoom}
 use Rattle.lv_store.specs.declared.installed.Installed.TheVariants as answer
 use Rattle.lv_store.specs.declared.store.Store.{Store}
-use Rattle.lv_store.specs.Maintaining.{GivesFetch, GivesInstall, IsGiven, RoomChanges, TakesGiven, TakesInstalled, next_among, next_in}
+use Rattle.lv_store.specs.Maintaining.{GivesClaim, GivesFetch, GivesInstall, IsGiven, RoomChanges, TakesGiven, TakesInstalled, next_among, next_in}
 use Rattle.lv_store.specs.Querying.{IsCostIn, IsInputIn, RowsInstall, ViewInstalled, changes_in}
 use Rattle.lv_store.specs.Kept.{IsStore, Stands, kept, no_rows, rows_in, rows_of, store_of}
 use Rattle.lv_store.proofs.Forcing.{IsKeptStep, changes_told, cost_told, input_told}
@@ -271,22 +271,38 @@ module _ (p : Store) (w : World) (is : Stands w (store_of p)) where
     pub takes_step : (f : Forced) (old new : ℕ) → next_in kind p ≡ Some f → ((n : ℕ) → IsCostIn p f n → new ≤ old + n) → TakesGiven w.visible (fetching settings worker w).0 old new
     takes_step f old new next most = subst (λ (x : Fetched). TakesGiven w.visible x old new) (sym (fits (Some f) next).0) (λ n c. most n (cost_told p w is f (next_is_kept kind f next) n c))
 
+    -- a step that is claimed
+    pub claims_none : next_in kind p ≡ None → GivesClaim (maintained (fetching settings worker w) w) None (store_of p)
+    claims_none next =
+        let h = fits None next in
+        record { step_is = sym h.0; stands = any_journal (with_upkeep (fetching settings worker w).1 w) w.upkeep.journal (store_of p) h.1 }
+
+    pub claims_step : (f : Forced) (u : UpkeepKept) → next_in kind p ≡ Some f → u ≡ upkeep_claimed worker (Some f) p.upkeep.kept
+        → GivesClaim (maintained (fetching settings worker w) w) (Some f) (record (store_of p) { upkeep = u })
+    claims_step f u next set =
+        let h = fits (Some f) next in
+        let next_world : World = with_upkeep (fetching settings worker w).1 w in
+        record {
+          step_is = sym h.0;
+          stands =
+              subst (λ (k : UpkeepKept). Stands next_world (record (store_of p) { upkeep = k })) (sym set)
+              (any_journal next_world w.upkeep.journal (record (store_of p) { upkeep = upkeep_claimed worker (Some f) p.upkeep.kept }) h.1);
+        }
+
+    -- and one that is fetched
     pub gives_none : next_in kind p ≡ None → GivesFetch w.visible (maintained (fetching settings worker w) w) None (store_of p)
     gives_none next =
         let h = fits None next in
         record {
           input_is = subst (λ (x : Fetched). IsGiven w.visible x None) (sym h.0) refl;
-          stands = any_journal (with_upkeep (fetching settings worker w).1 w) w.upkeep.journal (store_of p) h.1;
+          stands = (claims_none next).stands;
         }
 
     pub gives_step : (f : Forced) (input : Input) (u : UpkeepKept) → next_in kind p ≡ Some f → IsInputIn p f input → u ≡ upkeep_claimed worker (Some f) p.upkeep.kept
         → GivesFetch w.visible (maintained (fetching settings worker w) w) (Some input) (record (store_of p) { upkeep = u })
     gives_step f input u next made set =
         let h = fits (Some f) next in
-        let next_world : World = with_upkeep (fetching settings worker w).1 w in
         record {
           input_is = subst (λ (x : Fetched). IsGiven w.visible x (Some input)) (sym h.0) (input, refl, input_told p w is f (next_is_kept kind f next) input made);
-          stands =
-              subst (λ (k : UpkeepKept). Stands next_world (record (store_of p) { upkeep = k })) (sym set)
-              (any_journal next_world w.upkeep.journal (record (store_of p) { upkeep = upkeep_claimed worker (Some f) p.upkeep.kept }) h.1);
+          stands = (claims_step f u next set).stands;
         }

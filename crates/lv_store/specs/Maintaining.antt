@@ -38,6 +38,15 @@ pub record GivesFetch (s : Visible) (done : Done Fetched) (input : Option Input)
   pub input_is : IsGiven s done.answer input
   pub stands : Stands done.next new
 
+-- what a claim tells: the step that is claimed, or that there is none
+abbrev pub step_told : Option Forced → Fetched
+step_told None = idle
+step_told (Some f) = fetched f
+
+pub record GivesClaim (done : Done Fetched) (step : Option Forced) (new : StoreKept) : Type 0 where
+  pub step_is : step_told step ≡ done.answer
+  pub stands : Stands done.next new
+
 -- what became of a step that was claimed
 abbrev pub told : InstallAnswer → Installed
 told (answer.Done view lo hi) = installed (record { view = view; lo = lo; hi = hi })

@@ -6,7 +6,7 @@ ghost use Rattle.lv_schema.specs.WholeWorld.{maintained, with_upkeep};
 ghost use Rattle.lv_schema.specs.World.{World};
 ghost use Rattle.lv_schema.specs.World as schema;
 ghost use Rattle.lv_upkeep.specs.Kept.{claim_kept};
-ghost use Rattle.lv_store.specs.Maintaining.{GivesFetch, GivesInstall, TakesGiven, TakesInstalled, next_in};
+ghost use Rattle.lv_store.specs.Maintaining.{GivesClaim, GivesFetch, GivesInstall, TakesGiven, TakesInstalled, next_in};
 ghost use Rattle.lv_store.specs.Kept.{IsStore, Stands, store_of};
 
 use crate::installed::Installed;
@@ -45,6 +45,29 @@ impl Store {
             self.upkeep
                 .planned(view, last, &self.txns, self.settings.combine),
         )
+    }
+
+    /// A worker claims the step that a fetch would give it, and nothing is copied out. Cost: that of choosing it.
+    pub fn claim_next(
+        &mut self,
+        alloc: Global,
+        worker: u32,
+        picker: &Picker,
+    ) -> Result<Option<Forced>, NoMemory>
+        requires whole { IsStore self.old }
+        requires worker { worker < 9 }
+        requires free { claim_kept (store_of self.old).upkeep worker ≡ None }
+        ensures done { (w : World) (settings : schema.Settings) → settings.combine ≡ (store_of self.old).settings.combine → settings.policy ≡ picker.now.kind → Stands w (store_of self.old)
+            → IfOk result (λ step. GivesClaim (maintained (fetching settings worker w) w) step (store_of self.new)) }
+        ensures refused { OnErr result (store_of self.new ≡ store_of self.old) }
+        ensures others { store_of self.new ≡ record (store_of self.old) { upkeep = (store_of self.new).upkeep } }
+        ensures whole { IsStore self.new }
+    {
+        let Some(step) = self.next_step(alloc, picker)? else {
+            return Ok(None);
+        };
+        self.upkeep.set_claim(worker, step);
+        Ok(Some(step))
     }
 
     /// A worker fetches a step. Cost: that of choosing it and of its input. It reads nothing where it answers none, and else
