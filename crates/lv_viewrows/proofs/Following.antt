@@ -17,6 +17,7 @@ use Rattle.lv_viewrows.specs.declared.version.GroupVersion.{GroupVersion}
 use Rattle.lv_viewrows.specs.Changed.{group_with}
 use Rattle.lv_viewrows.specs.Kept.{version_from}
 use Rattle.lv_viewrows.specs.Standing.{AreBoth, AreLeft, IsBy, MeetAll, Meets, NoneBefore, Precedes, changed, changed_all, comes_before, ended_at, has_no_end, is_current, not_ended, not_ended_before, version_cmp}
+use Rattle.lv_viewrows.proofs.Bounds.{as_many, few_upto, left_wide}
 use Rattle.lv_viewrows.proofs.Changes.{ascend_last, changed_each, changed_last, changed_order, rest_met}
 use Rattle.lv_viewrows.proofs.Ending.{both, later_other}
 use Rattle.lv_viewrows.proofs.Galloping.{cut_put, lower, none_lower, none_passes}
@@ -149,7 +150,7 @@ module _ (number : ℕ) (changes rest : List SignedRow) (t s : SignedRow) (vs : 
     done : IsChanged number t more n (not_ended_before n vs) now
     done = with_item vs (n - 1) last_within (λ item get. replaced item get now (follows item get))
 
-    pub both_fewer : not_ended_before n vs ≡ suc (not_ended_before n now)
+    both_fewer : not_ended_before n vs ≡ suc (not_ended_before n now)
     both_fewer = done.place
 
     pub both_changed : changed_all number rest now ≡ changed_all number (changes ++ s ∷ []) vs
@@ -160,5 +161,13 @@ module _ (number : ℕ) (changes rest : List SignedRow) (t s : SignedRow) (vs : 
         ∙ sym (changed_last number (rest ++ t ∷ []) s vs)
         ∙ ap (λ l. changed_all number (l ++ s ∷ []) vs) (sym pair.last)
 
-    pub both_left : (among : ℕ) → among ≡ not_ended_before n now → AreLeft number rest now n among
-    both_left among place = left_after number rest t more n (not_ended_before n more) left_more now done.is n among done.cut place
+    as_many_here : length (not_ended now) ≡ length (not_ended vs)
+    as_many_here = with_item vs (n - 1) last_within (λ item get. as_many number (n - 1) vs item new get (both (has_no_end item) (row_eq t.row item.group.row) (pair.ends.current item get)).0 refl now (follows item get))
+
+    pub both_left : AreLeft number rest now n few
+    both_left =
+        let above = (all_last (λ (u : SignedRow). NoneBefore u.row number few (not_ended vs)) changes s left.above_few).1 in
+        left_wide number rest now n (not_ended_before n now) few
+        (left_after number rest t more n (not_ended_before n more) left_more now done.is n (not_ended_before n now) done.cut refl)
+        (omega (arith, both_fewer, few_upto s.row number n few vs cut above))
+        (omega (arith, left.within_few, as_many_here))

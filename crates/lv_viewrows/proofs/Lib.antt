@@ -1,4 +1,5 @@
 pub mod AddedUp
+pub mod Bounds
 pub mod Changes
 pub mod Ending
 pub mod Entries

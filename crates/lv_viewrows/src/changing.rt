@@ -18,7 +18,7 @@ use crate::versions::Versions;
 use lv_schema::{Signed, SignedRow};
 use lv_values::Row;
 
-/// How many versions come before a row, and how many of those have not ended.
+/// How many versions come before a row, and how many of those that have not ended do at most: those from there on do not.
 #[derive(Clone, Copy)]
 struct Front {
     all: usize,
@@ -61,20 +61,19 @@ fn front_not_ended(
     )
 }
 
-/// How many versions come before a row; those from `high` on do not. Cost: a search from there in each order.
+/// How many versions come before a row; those from `high` on do not. Cost: a search from there.
 fn front_of(row: &Row, number: u64, high: Front, left: usize, versions: &Versions) -> Front
     requires order { Apart Precedes versions.now.list }
     requires within { high.all ≤ length versions.now.list }
     requires above { NoneBefore row.now number high.all versions.now.list }
-    requires within_not_ended { high.not_ended ≤ length (not_ended versions.now.list) }
-    requires above_not_ended { NoneBefore row.now number high.not_ended (not_ended versions.now.list) }
     ensures cut { IsCut (comes_before row.now number) result.all versions.now.list }
-    ensures not_ended { result.not_ended ≡ not_ended_before result.all versions.now.list }
+    ensures same { result.not_ended ≡ high.not_ended }
 {
     let step = first_step(high.all, left);
-    let all = place_of(row, number, high.all, step, &versions.all());
-    let not_ended = front_not_ended(row, number, all, high.not_ended, left, versions);
-    Front { all, not_ended }
+    Front {
+        all: place_of(row, number, high.all, step, &versions.all()),
+        not_ended: high.not_ended,
+    }
 }
 
 /// Whether the last of the first so many versions has a row and has not ended.
@@ -91,33 +90,38 @@ fn is_current_before(row: &Row, at: usize, versions: &Versions) -> bool
 
 /// Applies a change to the group of its row that is there, whose version is the last of those before `front`: that one ends,
 /// and one of the group with the change takes its place if it has a tuple. Answers how many versions come before the row.
-/// Cost: a move of small numbers.
-fn change_current(change: SignedRow, number: u64, front: Front, versions: &mut Versions) -> Front
+/// Cost: a move of small numbers, and for a group that goes a search among the versions that have not ended.
+fn change_current(
+    change: SignedRow,
+    number: u64,
+    front: Front,
+    left: usize,
+    versions: &mut Versions,
+) -> Front
     requires order { Apart Precedes versions.old.list }
     requires meets { MeetAll number versions.old.list change }
     requires some { 0 < front.all }
     requires cut { IsCut (comes_before change.row number) front.all versions.old.list }
-    requires place { front.not_ended ≡ not_ended_before front.all versions.old.list }
+    requires within { front.not_ended ≤ length (not_ended versions.old.list) }
+    requires above { NoneBefore change.row number front.not_ended (not_ended versions.old.list) }
     requires current { (v : GroupVersion) → slice_get versions.old.list (front.all - 1) ≡ Some v → is_current change.row v ≡ true }
     requires room { 0 < versions.old.spare }
     ensures changed { versions.new.list ≡ changed number change versions.old.list }
     ensures cut { IsCut (comes_before change.row number) result.all versions.new.list }
-    ensures place { result.not_ended ≡ not_ended_before result.all versions.new.list }
+    ensures from { not_ended_before result.all versions.new.list ≤ result.not_ended }
+    ensures upto { result.not_ended ≤ length (not_ended versions.new.list) }
     ensures room { versions.old.spare ≤ versions.new.spare + 1 }
 {
-    let at = front.all - 1;
-    let group = with_group(&versions.get(at).group, change);
-    let not_ended = front.not_ended - 1;
-    let after = Front {
-        all: front.all,
-        not_ended,
-    };
-    if !has_tuples(&group) {
+    let Front { all, not_ended } = front;
+    let at = all - 1;
+    if takes_all(&versions.get(at).group, &change) {
+        let not_ended = front_not_ended(&change.row, number, all, not_ended, left, versions) - 1;
         versions.end(at, not_ended, number);
-        return after;
+        return Front { all, not_ended };
     }
+    let group = with_group(&versions.get(at).group, change);
     versions.replace(at, group, number);
-    after
+    front
 }
 
 /// Puts a group at its place, from a commit on: as many versions as `at` come before it. Cost: a move of small numbers.
@@ -151,23 +155,34 @@ fn put_change(group: SignedRow, number: u64, at: usize, not_ended: usize, versio
 }
 
 /// Applies one change, as that of a commit, before whose row the versions of `front` come, and answers how many come then.
-/// Cost: a move of small numbers, or one in each order for a group that comes.
-fn apply(change: SignedRow, number: u64, front: Front, versions: &mut Versions) -> Front
+/// Cost: a move of small numbers, or, for a group that comes or goes, one in each order and a search among the versions that
+/// have not ended.
+fn apply(
+    change: SignedRow,
+    number: u64,
+    front: Front,
+    left: usize,
+    versions: &mut Versions,
+) -> Front
     requires order { Apart Precedes versions.old.list }
     requires meets { MeetAll number versions.old.list change }
     requires cut { IsCut (comes_before change.row number) front.all versions.old.list }
-    requires place { front.not_ended ≡ not_ended_before front.all versions.old.list }
+    requires within { front.not_ended ≤ length (not_ended versions.old.list) }
+    requires above { NoneBefore change.row number front.not_ended (not_ended versions.old.list) }
     requires room { 0 < versions.old.spare }
     ensures changed { versions.new.list ≡ changed number change versions.old.list }
     ensures cut { IsCut (comes_before change.row number) result.all versions.new.list }
-    ensures place { result.not_ended ≡ not_ended_before result.all versions.new.list }
+    ensures from { not_ended_before result.all versions.new.list ≤ result.not_ended }
+    ensures upto { result.not_ended ≤ length (not_ended versions.new.list) }
     ensures room { versions.old.spare ≤ versions.new.spare + 1 }
 {
-    if is_current_before(&change.row, front.all, versions) {
-        return change_current(change, number, front, versions);
+    let Front { all, not_ended } = front;
+    if is_current_before(&change.row, all, versions) {
+        return change_current(change, number, front, left, versions);
     }
-    put_change(change, number, front.all, front.not_ended, versions);
-    front
+    let not_ended = front_not_ended(&change.row, number, all, not_ended, left, versions);
+    put_change(change, number, all, not_ended, versions);
+    Front { all, not_ended }
 }
 
 /// Whether a change ends the last of the first so many versions, and leaves no group of its row. The numbers are looked at
@@ -205,8 +220,8 @@ fn take_ending(
 
 /// Applies a change, which is the last one, and with it the one before that if this ends the version that the new one comes
 /// right behind: then one takes the place of the other. Answers how many versions come before the row of the last one applied.
-/// Cost: a search from `high` in each order, `left` changes with this one being sought below it, and that of `apply`, or for
-/// both changes one move of small numbers.
+/// Cost: a search from `high`, `left` changes with this one being sought below it, and that of `apply`, or for both changes
+/// one move of small numbers.
 fn apply_last(
     change: SignedRow,
     changes: &mut Signed,
@@ -226,12 +241,9 @@ fn apply_last(
     match take_ending(&change, changes, front.all, versions) {
         Some(_ending) => {
             versions.replace(front.all - 1, change, number);
-            Front {
-                all: front.all,
-                not_ended: front.not_ended - 1,
-            }
+            front
         }
-        None => apply(change, number, front, versions),
+        None => apply(change, number, front, left, versions),
     }
 }
 
@@ -275,10 +287,10 @@ fn fill(groups: Signed, number: u64, versions: &mut Versions)
 }
 
 /// Applies changes of different rows, as those of a commit. It takes no memory. Cost: for each a search from the place of
-/// the one before it, which for changes that are spread evenly takes about log (versions / changes) comparisons, the same
-/// among the versions that have not ended where some have, and a move of small numbers, or two for a group that comes; a row
-/// that goes and the next one that comes right behind it, as of an update, take one search and one move together; where there
-/// is no version yet, linear in the changes.
+/// the one before it, which for changes that are spread evenly takes about log (versions / changes) comparisons, and a move of
+/// small numbers; for a group that comes or goes, where some version has ended, the same search and move among those that
+/// have not; a row that goes and the next one that comes right behind it, as of an update, take one search and one move
+/// together; where there is no version yet, linear in the changes.
 pub(crate) fn apply_all(changes: Signed, number: u64, versions: &mut Versions)
     requires order { Apart Precedes versions.old.list }
     requires each { AllByRecursion (IsBy number) versions.old.list }

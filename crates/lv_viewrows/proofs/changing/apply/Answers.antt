@@ -1,9 +1,10 @@
-use Rattle.std.proofs.Common.{refl, subst, sym, ◌∙◌}
+use Rattle.std.proofs.Common.{refl, subst, sym, ◌∙◌, arith}
 use Rattle.lv_shelf.specs.Shelves.{LacksItem}
 use Rattle.lv_shelf.proofs.Cutting.{cut_long}
 use Rattle.lv_viewrows.specs.Kept.{version_from}
-use Rattle.lv_viewrows.specs.Standing.{comes_before}
+use Rattle.lv_viewrows.specs.Standing.{comes_before, has_no_end}
 use Rattle.lv_viewrows.proofs.Filling.{new_to_ended}
+use Rattle.lv_viewrows.proofs.NotEnded.{before_long}
 use Rattle.lv_viewrows.proofs.Replacing.{no_current, put_alone}
 use Rattle.lv_viewrows.proofs.changing.apply.Goals as goal
 
@@ -32,3 +33,6 @@ returns-clause-changed c =
     let vs = c.args.versions.now.list in
     let none = no_current number s vs c.requires.order c.requires.meets c.args.front.all c.requires.cut (λ v lt e. sym (c.is_current_before.ensures.last v lt e) ∙ c.if-is_current_before.false) in
     c.put_change.ensures.put ∙ put_alone number s vs none
+
+pub returns-clause-upto : goal.returns-clause-upto
+returns-clause-upto c = omega (arith, c.put_change.ensures.place, before_long has_no_end c.args.front.all c.put_change.new.versions.list)

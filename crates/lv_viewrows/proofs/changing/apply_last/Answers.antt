@@ -1,11 +1,12 @@
-use Rattle.std.proofs.Common.{◌≡◌, ◌-◌, suc, sym, ap, ◌∙◌, subst, arith}
+use Rattle.std.proofs.Common.{refl, sym, ap, ◌∙◌, subst}
 use Rattle.lv_shelf.proofs.Cutting.{cut_long}
 use Rattle.lv_shelf.proofs.Shelved.{all_last}
-use Rattle.lv_viewrows.specs.Standing.{AreLeft, MeetAll, changed_all, comes_before, not_ended_before}
+use Rattle.lv_schema.specs.declared.signed.SignedRow.{SignedRow}
+use Rattle.lv_viewrows.specs.Standing.{AreLeft, MeetAll, NoneBefore, changed_all, comes_before, not_ended, not_ended_before}
+use Rattle.lv_viewrows.proofs.Bounds.{left_wide}
 use Rattle.lv_viewrows.proofs.Changes.{changed_last}
-use Rattle.lv_viewrows.proofs.Following.{both_changed, both_fewer, both_left, last_within, left_after}
+use Rattle.lv_viewrows.proofs.Following.{both_changed, both_left, last_within, left_after}
 use Rattle.lv_viewrows.proofs.changing.apply_last.Goals as goal
-use Rattle.lv_viewrows.proofs.changing.apply_last.Goals.{After-replace}
 
 pub take_ending-requires : goal.take_ending-requires
 take_ending-requires c = cut_long (comes_before c.args.change.row c.args.number) c.front_of-front.result.all c.args.versions.now.list c.front_of-front.ensures.cut
@@ -13,14 +14,6 @@ take_ending-requires c = cut_long (comes_before c.args.change.row c.args.number)
 pub replace-requires-clause-at : goal.replace-requires-clause-at
 replace-requires-clause-at c =
     last_within c.args.number c.args.changes.now c.take_ending.new.changes c.in-Some._ending c.args.change c.args.versions.now.list c.args.high.all c.args.high.not_ended c.requires.left c.front_of-front.result.all c.front_of-front.ensures.cut c.in-Some.ensures
-
-fewer : (c : After-replace) → not_ended_before c.front_of-front.result.all c.args.versions.now.list ≡ suc (not_ended_before c.front_of-front.result.all c.replace.new.self.list)
-fewer c =
-    both_fewer c.args.number c.args.changes.now c.take_ending.new.changes c.in-Some._ending c.args.change c.args.versions.now.list c.args.high.all c.args.high.not_ended c.requires.left c.front_of-front.result.all c.front_of-front.ensures.cut c.in-Some.ensures
-    c.replace.new.self.list c.replace.ensures.replaced
-
-pub overflow_sub-result : goal.overflow_sub-result
-overflow_sub-result c = omega (arith, fewer (goal.at.overflow_sub-result c).After-replace, c.front_of-front.ensures.not_ended)
 
 pub apply-requires-clause-meets : goal.apply-requires-clause-meets
 apply-requires-clause-meets c = (all_last (MeetAll c.args.number c.args.versions.now.list) c.args.changes.now c.args.change c.requires.left.meet).1
@@ -32,8 +25,9 @@ returns-in-Some-clause-changed c =
 
 pub returns-in-Some-clause-left : goal.returns-in-Some-clause-left
 returns-in-Some-clause-left c =
-    both_left c.args.number c.args.changes.now c.take_ending.new.changes c.in-Some._ending c.args.change c.args.versions.now.list c.args.high.all c.args.high.not_ended c.requires.left c.front_of-front.result.all c.front_of-front.ensures.cut c.in-Some.ensures
-    c.replace.new.self.list c.replace.ensures.replaced (c.front_of-front.result.not_ended - 1) (omega (arith, fewer (goal.at.returns-in-Some-clause-left c).After-replace, c.front_of-front.ensures.not_ended))
+    subst (AreLeft c.args.number c.take_ending.new.changes c.replace.new.self.list c.front_of-front.result.all) (sym c.front_of-front.ensures.same)
+    (both_left c.args.number c.args.changes.now c.take_ending.new.changes c.in-Some._ending c.args.change c.args.versions.now.list c.args.high.all c.args.high.not_ended c.requires.left c.front_of-front.result.all c.front_of-front.ensures.cut c.in-Some.ensures
+    c.replace.new.self.list c.replace.ensures.replaced)
 
 pub returns-in-None-clause-changed : goal.returns-in-None-clause-changed
 returns-in-None-clause-changed c =
@@ -43,5 +37,9 @@ returns-in-None-clause-changed c =
 
 pub returns-in-None-clause-left : goal.returns-in-None-clause-left
 returns-in-None-clause-left c =
-    subst (λ l. AreLeft c.args.number l c.apply.new.versions.list c.apply.result.all c.apply.result.not_ended) (sym c.in-None.ensures)
-    (left_after c.args.number c.args.changes.now c.args.change c.args.versions.now.list c.args.high.all c.args.high.not_ended c.requires.left c.apply.new.versions.list c.apply.ensures.changed c.apply.result.all c.apply.result.not_ended c.apply.ensures.cut c.apply.ensures.place)
+    let now = c.apply.new.versions.list in
+    let at = c.apply.result.all in
+    subst (λ l. AreLeft c.args.number l now at c.apply.result.not_ended) (sym c.in-None.ensures)
+    (left_wide c.args.number c.args.changes.now now at (not_ended_before at now) c.apply.result.not_ended
+    (left_after c.args.number c.args.changes.now c.args.change c.args.versions.now.list c.args.high.all c.args.high.not_ended c.requires.left now c.apply.ensures.changed at (not_ended_before at now) c.apply.ensures.cut refl)
+    c.apply.ensures.from c.apply.ensures.upto)
