@@ -1,4 +1,5 @@
 pub mod Rounding
+pub mod InTurn
 pub mod Runs
 pub mod DeltaRule
 pub mod Balance
