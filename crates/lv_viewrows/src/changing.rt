@@ -61,19 +61,15 @@ fn front_not_ended(
     )
 }
 
-/// How many versions come before a row; those from `high` on do not. Cost: a search from there.
-fn front_of(row: &Row, number: u64, high: Front, left: usize, versions: &Versions) -> Front
+/// How many versions come before a row, where those from `high` on do not and `left` more places are sought behind it. Cost:
+/// a search from there.
+fn count_before(row: &Row, number: u64, high: usize, left: usize, versions: &Versions) -> usize
     requires order { Apart Precedes versions.now.list }
-    requires within { high.all ≤ length versions.now.list }
-    requires above { NoneBefore row.now number high.all versions.now.list }
-    ensures cut { IsCut (comes_before row.now number) result.all versions.now.list }
-    ensures same { result.not_ended ≡ high.not_ended }
+    requires within { high ≤ length versions.now.list }
+    requires above { NoneBefore row.now number high versions.now.list }
+    ensures { IsCut (comes_before row.now number) result versions.now.list }
 {
-    let step = first_step(high.all, left);
-    Front {
-        all: place_of(row, number, high.all, step, &versions.all()),
-        not_ended: high.not_ended,
-    }
+    place_of(row, number, high, first_step(high, left), &versions.all())
 }
 
 /// Whether the last of the first so many versions has a row and has not ended.
@@ -237,7 +233,10 @@ fn apply_last(
     ensures fewer { length changes.new ≤ length changes.old }
     ensures room { versions.old.spare + length changes.new ≤ versions.new.spare + length changes.old + 1 }
 {
-    let front = front_of(&change.row, number, high, left, versions);
+    let front = Front {
+        all: count_before(&change.row, number, high.all, left, versions),
+        not_ended: high.not_ended,
+    };
     match take_ending(&change, changes, front.all, versions) {
         Some(_ending) => {
             versions.replace(front.all - 1, change, number);

@@ -18,6 +18,7 @@ use crate::version::GroupVersion;
 use crate::versions::Candidates;
 use lv_group::list_into;
 use lv_schema::{Signed, SignedRow, ViewDef};
+use lv_shelf::Run;
 use lv_values::{Copying, NoMemory, Row, Rows, Test};
 use std::alloc::Global;
 use std::cmp::Ordering;
@@ -178,9 +179,26 @@ fn push_if_there<T: Test<Row>>(
     Ok(())
 }
 
-/// Appends the rows of the groups that are there at commit n, of the versions from one place up to another. It is kept apart
-/// from its caller, whose values would crowd out those of this loop.
+/// Appends the rows of the groups that are there at commit n, of these versions. It is kept apart from its caller, whose
+/// values would crowd out those of this loop.
 #[inline(never)]
+fn push_run<T: Test<Row>>(
+    alloc: Global,
+    view: &ViewDef,
+    test: &T,
+    n: u64,
+    run: &Run<'_, GroupVersion>,
+    out: &mut Listing,
+) -> Result<(), NoMemory>
+    ensures { OnOk result (out.new.rows ≡ out.old.rows ++ passing view.now (T.passed test.now) (groups_at n run.now)) }
+{
+    for i in 0..run.len() {
+        push_if_there(alloc, view, test, n, run.get(i), out)?;
+    }
+    Ok(())
+}
+
+/// Appends the rows of the groups that are there at commit n, of the versions from one place up to another.
 fn push_unchanged<T: Test<Row>>(
     alloc: Global,
     view: &ViewDef,
@@ -194,8 +212,11 @@ fn push_unchanged<T: Test<Row>>(
     requires { end ≤ length versions.now }
     ensures { OnOk result (out.new.rows ≡ out.old.rows ++ passing view.now (T.passed test.now) (groups_at n (drop from (take end versions.now)))) }
 {
-    for at in from..end {
-        push_if_there(alloc, view, test, n, versions.get(at), out)?;
+    let mut at = from;
+    while at < end {
+        let run = versions.run(at, end);
+        push_run(alloc, view, test, n, &run, out)?;
+        at += run.len();
     }
     Ok(())
 }

@@ -1,5 +1,5 @@
 //! Versions in the order of their rows, and which of them have not ended.
-ghost use Rattle.std.specs.Prelude.{◌≡◌, ◌+◌, ◌++◌, ◌∷◌, ◌≤◌, ◌<◌, [], Some, true, filter, length, nat_le, slice_get, slice_set, IfOk, OnOk};
+ghost use Rattle.std.specs.Prelude.{◌≡◌, ◌+◌, ◌++◌, ◌∷◌, ◌≤◌, ◌<◌, [], Some, true, drop, filter, length, nat_le, slice_get, slice_set, take, IfOk, OnOk};
 ghost use Rattle.std.specs.List.{insert};
 ghost use Rattle.lv_shelf.specs.Cuts.{Apart, Falls, IsCut};
 ghost use Rattle.lv_shelf.specs.Shelves.{LacksItem};
@@ -8,7 +8,7 @@ ghost use Rattle.lv_viewrows.specs.Standing.{Precedes, ended_at, has_no_end, not
 
 use crate::version::{EndOf, GroupVersion};
 use lv_schema::SignedRow;
-use lv_shelf::Shelf;
+use lv_shelf::{Run, Shelf};
 use lv_values::{Copying, NoMemory, Test};
 use std::alloc::Global;
 use std::marker::Model;
@@ -74,6 +74,21 @@ impl<'a> Candidates<'a> {
         }
     }
 
+    /// Versions from a place on that are looked up together: at least the one there, and none from `end` on. Cost: constant.
+    pub(crate) fn run(&self, at: usize, end: usize) -> Run<'a, GroupVersion>
+        requires place { at < end }
+        requires end { end ≤ length self.now }
+        ensures some { 0 < length result }
+        ensures within { at + length result ≤ end }
+        ensures run { result ≡ take (length result) (drop at self.now) }
+    {
+        if self.all {
+            self.versions.run(at, end)
+        } else {
+            self.versions.run_not_ended(at, end)
+        }
+    }
+
     /// How many of them pass a test that no later one passes where an earlier one fails. Cost: a binary search.
     pub(crate) fn cut<P: Test<GroupVersion>>(&self, test: &P) -> usize
         requires { Falls (P.passed test.now) self.now }
@@ -126,6 +141,28 @@ impl Versions {
         ensures { slice_get (not_ended self.now.list) at ≡ Some result.now }
     {
         self.shelf.get_in(0, at)
+    }
+
+    /// Versions from a place on that are looked up together.
+    fn run(&self, at: usize, end: usize) -> Run<'_, GroupVersion>
+        requires place { at < end }
+        requires end { end ≤ length self.now.list }
+        ensures some { 0 < length result }
+        ensures within { at + length result ≤ end }
+        ensures run { result ≡ take (length result) (drop at self.now.list) }
+    {
+        self.shelf.run(at, end)
+    }
+
+    /// The same, among those that have not ended.
+    fn run_not_ended(&self, at: usize, end: usize) -> Run<'_, GroupVersion>
+        requires place { at < end }
+        requires end { end ≤ length (not_ended self.now.list) }
+        ensures some { 0 < length result }
+        ensures within { at + length result ≤ end }
+        ensures run { result ≡ take (length result) (drop at (not_ended self.now.list)) }
+    {
+        self.shelf.run_in(0, at, end)
     }
 
     /// How many versions pass a test that no later one passes where an earlier one fails.

@@ -1,33 +1,31 @@
 use Rattle.std.proofs.Common.{refl, sym, ap, ◌∙◌, subst}
 use Rattle.lv_shelf.proofs.Cutting.{cut_long}
 use Rattle.lv_shelf.proofs.Shelved.{all_last}
-use Rattle.lv_schema.specs.declared.signed.SignedRow.{SignedRow}
-use Rattle.lv_viewrows.specs.Standing.{AreLeft, MeetAll, NoneBefore, changed_all, comes_before, not_ended, not_ended_before}
+use Rattle.lv_viewrows.specs.Standing.{AreLeft, MeetAll, changed_all, comes_before, not_ended_before}
 use Rattle.lv_viewrows.proofs.Bounds.{left_wide}
 use Rattle.lv_viewrows.proofs.Changes.{changed_last}
 use Rattle.lv_viewrows.proofs.Following.{both_changed, both_left, last_within, left_after}
 use Rattle.lv_viewrows.proofs.changing.apply_last.Goals as goal
 
 pub take_ending-requires : goal.take_ending-requires
-take_ending-requires c = cut_long (comes_before c.args.change.row c.args.number) c.front_of-front.result.all c.args.versions.now.list c.front_of-front.ensures.cut
+take_ending-requires c = cut_long (comes_before c.args.change.row c.args.number) c.count_before.result c.args.versions.now.list c.count_before.ensures
 
 pub replace-requires-clause-at : goal.replace-requires-clause-at
 replace-requires-clause-at c =
-    last_within c.args.number c.args.changes.now c.take_ending.new.changes c.in-Some._ending c.args.change c.args.versions.now.list c.args.high.all c.args.high.not_ended c.requires.left c.front_of-front.result.all c.front_of-front.ensures.cut c.in-Some.ensures
+    last_within c.args.number c.args.changes.now c.take_ending.new.changes c.in-Some._ending c.args.change c.args.versions.now.list c.args.high.all c.args.high.not_ended c.requires.left c.count_before.result c.count_before.ensures c.in-Some.ensures
 
 pub apply-requires-clause-meets : goal.apply-requires-clause-meets
 apply-requires-clause-meets c = (all_last (MeetAll c.args.number c.args.versions.now.list) c.args.changes.now c.args.change c.requires.left.meet).1
 
 pub returns-in-Some-clause-changed : goal.returns-in-Some-clause-changed
 returns-in-Some-clause-changed c =
-    both_changed c.args.number c.args.changes.now c.take_ending.new.changes c.in-Some._ending c.args.change c.args.versions.now.list c.args.high.all c.args.high.not_ended c.requires.left c.front_of-front.result.all c.front_of-front.ensures.cut c.in-Some.ensures
+    both_changed c.args.number c.args.changes.now c.take_ending.new.changes c.in-Some._ending c.args.change c.args.versions.now.list c.args.high.all c.args.high.not_ended c.requires.left c.count_before.result c.count_before.ensures c.in-Some.ensures
     c.replace.new.self.list c.replace.ensures.replaced
 
 pub returns-in-Some-clause-left : goal.returns-in-Some-clause-left
 returns-in-Some-clause-left c =
-    subst (AreLeft c.args.number c.take_ending.new.changes c.replace.new.self.list c.front_of-front.result.all) (sym c.front_of-front.ensures.same)
-    (both_left c.args.number c.args.changes.now c.take_ending.new.changes c.in-Some._ending c.args.change c.args.versions.now.list c.args.high.all c.args.high.not_ended c.requires.left c.front_of-front.result.all c.front_of-front.ensures.cut c.in-Some.ensures
-    c.replace.new.self.list c.replace.ensures.replaced)
+    both_left c.args.number c.args.changes.now c.take_ending.new.changes c.in-Some._ending c.args.change c.args.versions.now.list c.args.high.all c.args.high.not_ended c.requires.left c.count_before.result c.count_before.ensures c.in-Some.ensures
+    c.replace.new.self.list c.replace.ensures.replaced
 
 pub returns-in-None-clause-changed : goal.returns-in-None-clause-changed
 returns-in-None-clause-changed c =

@@ -1,4 +1,4 @@
-use Rattle.std.proofs.Common.{◌≡◌, ◌-◌, Bool, true, false, Some, not, refl, sym, ap, ◌∙◌, subst, arith}
+use Rattle.std.proofs.Common.{◌≡◌, ◌-◌, Bool, true, false, Some, not, refl, sym, ap, ◌∙◌, arith}
 use Rattle.lv_values.specs.Order.{row_eq}
 use Rattle.lv_group.specs.Gathered.{has_tuples}
 use Rattle.lv_shelf.proofs.Cutting.{cut_long, got_within}
