@@ -60,6 +60,21 @@ pub(crate) fn install(hi: u64, changes: Signed, rows: &mut ViewRows) -> Result<(
     Ok(())
 }
 
+/// Installs copies of differences in what is kept of a view, one after another.
+fn install_copies(
+    alloc: Global,
+    differences: &[Difference],
+    rows: &mut ViewRows,
+) -> Result<(), NoMemory>
+    requires { CanTakeEach differences.now rows.old }
+    ensures { OnOk result (TakesEach differences.now rows.old rows.new) }
+{
+    for difference in differences {
+        install(difference.hi, difference.changes.copy(alloc)?, rows)?;
+    }
+    Ok(())
+}
+
 /// A copy of what is kept of a view, in which these differences are installed.
 fn copy_with(
     alloc: Global,
@@ -70,9 +85,7 @@ fn copy_with(
     ensures { IfOk result (λ copy. TakesEach differences.now rows.now copy) }
 {
     let mut copy = rows.copy(alloc)?;
-    for difference in differences {
-        install(difference.hi, difference.changes.copy(alloc)?, &mut copy)?;
-    }
+    install_copies(alloc, differences, &mut copy)?;
     Ok(copy)
 }
 

@@ -7,14 +7,15 @@ use Rattle.lv_core.specs.Run.{Gave, rules_of, state_of, view_of}
 use Rattle.lv_engine.proofs.NoneLeft.{given_none}
 use Rattle.lv_core.proofs.Fetching.{given_step}
 use Rattle.lv_core.proofs.Happened.{roomy}
-use Rattle.lv_core.proofs.Held.{combine_held, gave, setup_held, stands_held}
+use Rattle.lv_core.proofs.Held.{combine_held, gave, open_run, setup_held, stands_held}
 use Rattle.lv_core.proofs.running.Run.fetch_any.Goals as goal
 
 pub returns-in_default-clause-none : goal.returns-in_default-clause-none
 returns-in_default-clause-none g c =
     let r = c.self.inside in
     let v = c.args.self.now in
-    let told = given_none v.settings c.args.worker (state_of v).world c.requires.free c.in_ok-entry.field-0.input (c.in_ok-entry.ensures.input (rules_of v.settings v.program) (state_of v) (combine_held g.D.Disk.seen g.D.Disk.may_leave g.D.Disk.moment g.D.Disk.left_since g.D.Disk.failures r.policy r.program r.engine r.opening.engine.value r.places r.entries.list r.entries.spare v c.self.invariant.roomy c.self.view_is) c.requires.policy (stands_held g.D.Disk.seen g.D.Disk.may_leave g.D.Disk.moment g.D.Disk.left_since g.D.Disk.failures r.policy r.program r.engine r.opening.engine.value r.places r.entries.list r.entries.spare v c.self.invariant.roomy c.self.view_is)) in
+    let o = open_run r.policy r.program r.engine r.opening.engine.value r.places r.entries.list r.entries.spare v c.self.invariant.roomy c.self.view_is in
+    let told = given_none v.settings c.args.worker (state_of v).world c.requires.free c.in_ok-entry.field-0.input (c.in_ok-entry.ensures.input (rules_of v.settings v.program) (state_of v) (combine_held o) c.requires.policy (stands_held o)) in
     let none : c.in_ok-entry.field-0.input ≡ None = let part = c.in_ok-entry.input-is in let is = c.in_default.is in cc in
     (λ e. told.0 none, λ views. refl)
 
@@ -23,9 +24,10 @@ gave_fetch : (g : _) (c : goal.After-push g) → Gave g.D.Disk.seen g.D.Disk.may
 gave_fetch g c =
     let r = c.self.inside in
     let v = c.args.self.now in
-    let entry = c.in_ok-entry.ensures.entry (rules_of v.settings v.program) (state_of v) (combine_held g.D.Disk.seen g.D.Disk.may_leave g.D.Disk.moment g.D.Disk.left_since g.D.Disk.failures r.policy r.program r.engine r.opening.engine.value r.places r.entries.list r.entries.spare v c.self.invariant.roomy c.self.view_is) c.requires.policy (stands_held g.D.Disk.seen g.D.Disk.may_leave g.D.Disk.moment g.D.Disk.left_since g.D.Disk.failures r.policy r.program r.engine r.opening.engine.value r.places r.entries.list r.entries.spare v c.self.invariant.roomy c.self.view_is) in
-    gave g.D.Disk.seen g.D.Disk.may_leave g.D.Disk.moment g.D.Disk.left_since g.D.Disk.failures r.policy r.program r.engine r.opening.engine.value r.places r.entries.list r.entries.spare v c.self.invariant.roomy c.self.view_is
-    (fetch_of c.args.worker) c.make_room.new.entries.list c.push.new.self.list c.fetch.new.engine c.in_ok-entry.field-0.entry (c.requires.worker, setup_held g.D.Disk.seen g.D.Disk.may_leave g.D.Disk.moment g.D.Disk.left_since g.D.Disk.failures r.policy r.program r.engine r.opening.engine.value r.places r.entries.list r.entries.spare v c.self.invariant.roomy c.self.view_is c.requires.setup) refl refl
+    let o = open_run r.policy r.program r.engine r.opening.engine.value r.places r.entries.list r.entries.spare v c.self.invariant.roomy c.self.view_is in
+    let entry = c.in_ok-entry.ensures.entry (rules_of v.settings v.program) (state_of v) (combine_held o) c.requires.policy (stands_held o) in
+    gave o
+    (fetch_of c.args.worker) c.make_room.new.entries.list c.push.new.self.list c.fetch.new.engine c.in_ok-entry.field-0.entry (c.requires.worker, setup_held o c.requires.setup) refl refl
     c.in_ok-make_room.ensures.same c.push.ensures.added c.in_ok-entry.ensures.settings c.in_ok-entry.ensures.journal entry
 
 pub invariant_of-self-2 : goal.invariant_of-self-2
@@ -41,7 +43,8 @@ input_told : (g : _) (c : goal.After-push g) → let v = c.args.self.now in IsGi
 input_told g c =
     let r = c.self.inside in
     let v = c.args.self.now in
-    c.in_ok-entry.ensures.input (rules_of v.settings v.program) (state_of v) (combine_held g.D.Disk.seen g.D.Disk.may_leave g.D.Disk.moment g.D.Disk.left_since g.D.Disk.failures r.policy r.program r.engine r.opening.engine.value r.places r.entries.list r.entries.spare v c.self.invariant.roomy c.self.view_is) c.requires.policy (stands_held g.D.Disk.seen g.D.Disk.may_leave g.D.Disk.moment g.D.Disk.left_since g.D.Disk.failures r.policy r.program r.engine r.opening.engine.value r.places r.entries.list r.entries.spare v c.self.invariant.roomy c.self.view_is)
+    let o = open_run r.policy r.program r.engine r.opening.engine.value r.places r.entries.list r.entries.spare v c.self.invariant.roomy c.self.view_is in
+    c.in_ok-entry.ensures.input (rules_of v.settings v.program) (state_of v) (combine_held o) c.requires.policy (stands_held o)
 
 input_is : (g : _) (c : goal.After-push g) → c.in_ok-entry.field-0.input ≡ Some c.in-Some.input
 input_is g c = let part = c.in_ok-entry.input-is in let is = c.in-Some.is in cc

@@ -2,7 +2,7 @@ use Rattle.std.proofs.Common.{refl}
 use Rattle.lv_plain.specs.declared.event.Event.TheVariants.{Install as install_of}
 use Rattle.lv_core.specs.Run.{Gave, rules_of, state_of, view_of}
 use Rattle.lv_core.proofs.Happened.{roomy}
-use Rattle.lv_core.proofs.Held.{gave, setup_held, stands_held}
+use Rattle.lv_core.proofs.Held.{gave, open_run, setup_held, stands_held}
 use Rattle.lv_schema.specs.UpkeepCases.{installing}
 use Rattle.lv_core.proofs.Taking.{nothing_installed}
 use Rattle.lv_core.proofs.running.Run.install.Goals as goal
@@ -11,9 +11,10 @@ gave_install : (g : _) (c : goal.After-push g) → Gave g.D.Disk.seen g.D.Disk.m
 gave_install g c =
     let r = c.self.inside in
     let v = c.args.self.now in
-    let entry = c.in_ok-entry.ensures.entry (rules_of v.settings v.program) (state_of v) (stands_held g.D.Disk.seen g.D.Disk.may_leave g.D.Disk.moment g.D.Disk.left_since g.D.Disk.failures r.policy r.program r.engine r.opening.engine.value r.places r.entries.list r.entries.spare v c.self.invariant.roomy c.self.view_is) in
-    gave g.D.Disk.seen g.D.Disk.may_leave g.D.Disk.moment g.D.Disk.left_since g.D.Disk.failures r.policy r.program r.engine r.opening.engine.value r.places r.entries.list r.entries.spare v c.self.invariant.roomy c.self.view_is
-    (install_of c.args.worker) c.make_room.new.entries.list c.push.new.self.list c.install.new.engine c.in_ok-entry.entry (c.requires.worker, setup_held g.D.Disk.seen g.D.Disk.may_leave g.D.Disk.moment g.D.Disk.left_since g.D.Disk.failures r.policy r.program r.engine r.opening.engine.value r.places r.entries.list r.entries.spare v c.self.invariant.roomy c.self.view_is c.requires.setup) refl refl
+    let o = open_run r.policy r.program r.engine r.opening.engine.value r.places r.entries.list r.entries.spare v c.self.invariant.roomy c.self.view_is in
+    let entry = c.in_ok-entry.ensures.entry (rules_of v.settings v.program) (state_of v) (stands_held o) in
+    gave o
+    (install_of c.args.worker) c.make_room.new.entries.list c.push.new.self.list c.install.new.engine c.in_ok-entry.entry (c.requires.worker, setup_held o c.requires.setup) refl refl
     c.in_ok-make_room.ensures.same c.push.ensures.added c.in_ok-entry.ensures.settings c.in_ok-entry.ensures.journal entry
 
 pub invariant_of-self-2 : goal.invariant_of-self-2
@@ -35,10 +36,12 @@ pub returns-in_err-entry-clause-most : goal.returns-in_err-entry-clause-most
 returns-in_err-entry-clause-most g c =
     let r = c.self.inside in
     let v = c.args.self.now in
-    c.install.ensures.most (state_of v) (stands_held g.D.Disk.seen g.D.Disk.may_leave g.D.Disk.moment g.D.Disk.left_since g.D.Disk.failures r.policy r.program r.engine r.opening.engine.value r.places r.entries.list r.entries.spare v c.self.invariant.roomy c.self.view_is)
+    let o = open_run r.policy r.program r.engine r.opening.engine.value r.places r.entries.list r.entries.spare v c.self.invariant.roomy c.self.view_is in
+    c.install.ensures.most (state_of v) (stands_held o)
 
 pub returns-clause-most : goal.returns-clause-most
 returns-clause-most g c =
     let r = c.self.inside in
     let v = c.args.self.now in
-    c.install.ensures.most (state_of v) (stands_held g.D.Disk.seen g.D.Disk.may_leave g.D.Disk.moment g.D.Disk.left_since g.D.Disk.failures r.policy r.program r.engine r.opening.engine.value r.places r.entries.list r.entries.spare v c.self.invariant.roomy c.self.view_is)
+    let o = open_run r.policy r.program r.engine r.opening.engine.value r.places r.entries.list r.entries.spare v c.self.invariant.roomy c.self.view_is in
+    c.install.ensures.most (state_of v) (stands_held o)

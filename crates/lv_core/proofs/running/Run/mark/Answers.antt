@@ -4,7 +4,7 @@ use Rattle.lv_plain.specs.declared.event.Event.TheVariants.{Mark as mark_of}
 use Rattle.lv_core.specs.Answering.{IsUndone}
 use Rattle.lv_core.specs.Run.{Gave, rules_of, state_of, view_of}
 use Rattle.lv_core.proofs.Happened.{on_err, roomy}
-use Rattle.lv_core.proofs.Held.{limit_held, roomy_held, setup_held, stands_held}
+use Rattle.lv_core.proofs.Held.{limit_held, open_run, roomy_held, setup_held, stands_held}
 use Rattle.lv_core.proofs.MarksNamed.{marked_gave, unknown_gave}
 use Rattle.lv_core.proofs.Undone.{IsLeft, is_left}
 use Rattle.lv_core.proofs.running.Run.mark.Goals as goal
@@ -14,8 +14,9 @@ gave_unknown : (g : _) (c : goal.After-push g) → let r = c.self.inside in Gave
 gave_unknown g c =
     let r = c.self.inside in
     let v = c.args.self.now in
-    unknown_gave g.D.Disk.seen g.D.Disk.may_leave g.D.Disk.moment g.D.Disk.left_since g.D.Disk.failures r.policy r.program r.engine r.opening.engine.value r.places r.entries.list c.make_room.new.entries.list c.push.new.self.list v c.self.view_is (roomy_held g.D.Disk.seen g.D.Disk.may_leave g.D.Disk.moment g.D.Disk.left_since g.D.Disk.failures r.policy r.program r.engine r.opening.engine.value r.places r.entries.list r.entries.spare v c.self.invariant.roomy c.self.view_is).run c.args.view.now
-    (c.requires.name, setup_held g.D.Disk.seen g.D.Disk.may_leave g.D.Disk.moment g.D.Disk.left_since g.D.Disk.failures r.policy r.program r.engine r.opening.engine.value r.places r.entries.list r.entries.spare v c.self.invariant.roomy c.self.view_is c.requires.setup) c.in_ok-make_room.ensures.same c.schema.result.now.views c.schema.ensures.views (sym c.in_default.is ∙ c.view_of_name.ensures)
+    let o = open_run r.policy r.program r.engine r.opening.engine.value r.places r.entries.list r.entries.spare v c.self.invariant.roomy c.self.view_is in
+    unknown_gave g.D.Disk.seen g.D.Disk.may_leave g.D.Disk.moment g.D.Disk.left_since g.D.Disk.failures r.policy r.program r.engine r.opening.engine.value r.places r.entries.list c.make_room.new.entries.list c.push.new.self.list v c.self.view_is (roomy_held o).run c.args.view.now
+    (c.requires.name, setup_held o c.requires.setup) c.in_ok-make_room.ensures.same c.schema.result.now.views c.schema.ensures.views (sym c.in_default.is ∙ c.view_of_name.ensures)
     (c.push.ensures.added ∙ λ i. c.make_room.new.entries.list ++ entry.MarkUnknown (c.in_ok-name.ensures i) ∷ [])
 
 pub invariant_of-self-in_default : goal.invariant_of-self-in_default
@@ -35,7 +36,8 @@ undone : (g : _) (c : goal.After-from_residual-in_err-entry g) → IsUndone g.D.
 undone g c =
     let r = c.self.inside in
     let v = c.args.self.now in
-    c.in_err-entry.ensures.case (rules_of v.settings v.program) (state_of v).world (limit_held g.D.Disk.seen g.D.Disk.may_leave g.D.Disk.moment g.D.Disk.left_since g.D.Disk.failures r.policy r.program r.engine r.opening.engine.value r.places r.entries.list r.entries.spare v c.self.invariant.roomy c.self.view_is) (stands_held g.D.Disk.seen g.D.Disk.may_leave g.D.Disk.moment g.D.Disk.left_since g.D.Disk.failures r.policy r.program r.engine r.opening.engine.value r.places r.entries.list r.entries.spare v c.self.invariant.roomy c.self.view_is)
+    let o = open_run r.policy r.program r.engine r.opening.engine.value r.places r.entries.list r.entries.spare v c.self.invariant.roomy c.self.view_is in
+    c.in_err-entry.ensures.case (rules_of v.settings v.program) (state_of v).world (limit_held o) (stands_held o)
 
 -- what it leaves
 left : (g : _) (c : goal.After-from_residual-in_err-entry g) → let r = c.self.inside in IsLeft g.D.Disk.seen g.D.Disk.may_leave g.D.Disk.moment g.D.Disk.left_since g.D.Disk.failures c.args.self.now (view_of r.policy r.program c.mark_view.new.engine r.opening.engine.value r.places c.make_room.new.entries.list) c.make_room.new.entries.spare
@@ -57,9 +59,10 @@ gave_mark : (g : _) (c : goal.After-push-2 g) → let r = c.self.inside in Gave 
 gave_mark g c =
     let r = c.self.inside in
     let v = c.args.self.now in
-    marked_gave g.D.Disk.seen g.D.Disk.may_leave g.D.Disk.moment g.D.Disk.left_since g.D.Disk.failures r.policy r.program r.engine r.opening.engine.value r.places r.entries.list c.make_room.new.entries.list c.push-2.new.self.list v c.self.view_is (roomy_held g.D.Disk.seen g.D.Disk.may_leave g.D.Disk.moment g.D.Disk.left_since g.D.Disk.failures r.policy r.program r.engine r.opening.engine.value r.places r.entries.list r.entries.spare v c.self.invariant.roomy c.self.view_is).run c.args.view.now
-    (c.requires.name, setup_held g.D.Disk.seen g.D.Disk.may_leave g.D.Disk.moment g.D.Disk.left_since g.D.Disk.failures r.policy r.program r.engine r.opening.engine.value r.places r.entries.list r.entries.spare v c.self.invariant.roomy c.self.view_is c.requires.setup) c.in_ok-make_room.ensures.same c.in-Some.number c.schema.result.now.views c.mark_view.new.engine c.in_ok-entry.entry c.schema.ensures.views (sym c.in-Some.is ∙ c.view_of_name.ensures)
-    c.push-2.ensures.added c.in_ok-entry.ensures.settings (c.in_ok-entry.ensures.case (rules_of v.settings v.program) (state_of v).world (limit_held g.D.Disk.seen g.D.Disk.may_leave g.D.Disk.moment g.D.Disk.left_since g.D.Disk.failures r.policy r.program r.engine r.opening.engine.value r.places r.entries.list r.entries.spare v c.self.invariant.roomy c.self.view_is) (stands_held g.D.Disk.seen g.D.Disk.may_leave g.D.Disk.moment g.D.Disk.left_since g.D.Disk.failures r.policy r.program r.engine r.opening.engine.value r.places r.entries.list r.entries.spare v c.self.invariant.roomy c.self.view_is))
+    let o = open_run r.policy r.program r.engine r.opening.engine.value r.places r.entries.list r.entries.spare v c.self.invariant.roomy c.self.view_is in
+    marked_gave g.D.Disk.seen g.D.Disk.may_leave g.D.Disk.moment g.D.Disk.left_since g.D.Disk.failures r.policy r.program r.engine r.opening.engine.value r.places r.entries.list c.make_room.new.entries.list c.push-2.new.self.list v c.self.view_is (roomy_held o).run c.args.view.now
+    (c.requires.name, setup_held o c.requires.setup) c.in_ok-make_room.ensures.same c.in-Some.number c.schema.result.now.views c.mark_view.new.engine c.in_ok-entry.entry c.schema.ensures.views (sym c.in-Some.is ∙ c.view_of_name.ensures)
+    c.push-2.ensures.added c.in_ok-entry.ensures.settings (c.in_ok-entry.ensures.case (rules_of v.settings v.program) (state_of v).world (limit_held o) (stands_held o))
 
 pub invariant_of-self-2 : goal.invariant_of-self-2
 invariant_of-self-2 g c =

@@ -14,7 +14,7 @@ use Rattle.lv_core.specs.Answering.{IsUndone}
 use Rattle.lv_engine.specs.Kept.{Stands}
 use Rattle.lv_core.specs.Run.{Gave, next_bound, next_steps, state_of, view_of}
 use Rattle.lv_core.proofs.Happened.{on_err, roomy}
-use Rattle.lv_core.proofs.Held.{combine_held, limit_held, roomy_held, stands_held}
+use Rattle.lv_core.proofs.Held.{combine_held, limit_held, open_run, roomy_held, stands_held}
 use Rattle.lv_core.proofs.Turns.{bound_here, next_held, next_line_is, place_held, small_held, turn_taken}
 use Rattle.lv_core.proofs.Undone.{IsLeft, is_left}
 use Rattle.lv_core.proofs.running.Run.turn.Goals.{After-answer_line, After-place_of-place}
@@ -37,7 +37,8 @@ undone : (g : _) (c : goal.After-from_residual-in_err-answered g) → IsUndone g
 undone g c =
     let r = c.self.inside in
     let v = c.args.self.now in
-    c.in_err-answered.ensures.case (state_of v).world v.settings (combine_held g.D.Disk.seen g.D.Disk.may_leave g.D.Disk.moment g.D.Disk.left_since g.D.Disk.failures r.policy r.program r.engine r.opening.engine.value r.places r.entries.list r.entries.spare v c.self.invariant.roomy c.self.view_is) (limit_held g.D.Disk.seen g.D.Disk.may_leave g.D.Disk.moment g.D.Disk.left_since g.D.Disk.failures r.policy r.program r.engine r.opening.engine.value r.places r.entries.list r.entries.spare v c.self.invariant.roomy c.self.view_is) (stands_held g.D.Disk.seen g.D.Disk.may_leave g.D.Disk.moment g.D.Disk.left_since g.D.Disk.failures r.policy r.program r.engine r.opening.engine.value r.places r.entries.list r.entries.spare v c.self.invariant.roomy c.self.view_is)
+    let o = open_run r.policy r.program r.engine r.opening.engine.value r.places r.entries.list r.entries.spare v c.self.invariant.roomy c.self.view_is in
+    c.in_err-answered.ensures.case (state_of v).world v.settings (combine_held o) (limit_held o) (stands_held o)
 
 -- what it leaves
 left : (g : _) (c : goal.After-from_residual-in_err-answered g) → let r = c.self.inside in IsLeft g.D.Disk.seen g.D.Disk.may_leave g.D.Disk.moment g.D.Disk.left_since g.D.Disk.failures c.args.self.now (view_of r.policy r.program c.answer_line.new.engine r.opening.engine.value r.places c.make_room.new.entries.list) c.make_room.new.entries.spare
@@ -79,10 +80,11 @@ gave_turn : (g : _) (c : goal.After-set g) → let r = c.self.inside in Gave g.D
 gave_turn g c =
     let r = c.self.inside in
     let v = c.args.self.now in
+    let o = open_run r.policy r.program r.engine r.opening.engine.value r.places r.entries.list r.entries.spare v c.self.invariant.roomy c.self.view_is in
     let at : c.place_of-place.result ≡ slice_index r.places c.args.session = c.place_of-place.ensures ∙ ap (λ (ps : List ℕ). slice_index ps c.args.session) c.as_slice.ensures in
     let line = next_line_is r.program r.places c.as_slice.result.now c.args.session c.place_of-place.result c.line_left-line.result.now c.as_slice.ensures c.place_of-place.ensures c.line_left-line.ensures.line in
     turn_taken g.D.Disk.seen g.D.Disk.may_leave g.D.Disk.moment g.D.Disk.left_since g.D.Disk.failures r.policy r.program r.engine c.answer_line.new.engine r.opening.engine.value r.places c.set.new.self r.entries.list c.make_room.new.entries.list c.push.new.self.list v c.args.session c.place_of-place.result
-    c.line_left-line.result.now c.in_ok-answered.answered c.self.view_is (roomy_held g.D.Disk.seen g.D.Disk.may_leave g.D.Disk.moment g.D.Disk.left_since g.D.Disk.failures r.policy r.program r.engine r.opening.engine.value r.places r.entries.list r.entries.spare v c.self.invariant.roomy c.self.view_is).run c.requires.may at line c.in_ok-make_room.ensures.same c.set.ensures c.push.ensures.added
+    c.line_left-line.result.now c.in_ok-answered.answered c.self.view_is (roomy_held o).run c.requires.may at line c.in_ok-make_room.ensures.same c.set.ensures c.push.ensures.added
     c.in_ok-answered.ensures.settings c.in_ok-answered.ensures.case
 
 pub invariant_of-self-2 : goal.invariant_of-self-2
@@ -106,7 +108,9 @@ module _ (g : _) (c : After-answer_line g) (query : AQuery) (bound_is : next_bou
       bound_here g.D.Disk.seen g.D.Disk.may_leave g.D.Disk.moment g.D.Disk.left_since g.D.Disk.failures r.policy r.program r.engine r.opening.engine.value r.places r.entries.list c.args.self.now c.self.view_is c.args.session c.line_left-line.result.now line
 
   stands : Stands (state_of c.args.self.now).world c.self.inside.engine
-  stands = let r = c.self.inside in stands_held g.D.Disk.seen g.D.Disk.may_leave g.D.Disk.moment g.D.Disk.left_since g.D.Disk.failures r.policy r.program r.engine r.opening.engine.value r.places r.entries.list r.entries.spare c.args.self.now c.self.invariant.roomy c.self.view_is
+  stands =
+      let r = c.self.inside in
+      stands_held (open_run r.policy r.program r.engine r.opening.engine.value r.places r.entries.list r.entries.spare c.args.self.now c.self.invariant.roomy c.self.view_is)
 
   fresh : ReadsNoTable c.args.session query (state_of c.args.self.now).world → c.answer_line.new.steps ≡ c.args.steps.now
   fresh reading = c.answer_line.ensures.fresh (state_of c.args.self.now).world query stands (here ∙ bound_is) reading
@@ -115,8 +119,9 @@ module _ (g : _) (c : After-answer_line g) (query : AQuery) (bound_is : next_bou
   most reading n costs =
       let r = c.self.inside in
       let v = c.args.self.now in
+      let o = open_run r.policy r.program r.engine r.opening.engine.value r.places r.entries.list r.entries.spare v c.self.invariant.roomy c.self.view_is in
       let w = (state_of v).world in
-      c.answer_line.ensures.most w v.settings query (combine_held g.D.Disk.seen g.D.Disk.may_leave g.D.Disk.moment g.D.Disk.left_since g.D.Disk.failures r.policy r.program r.engine r.opening.engine.value r.places r.entries.list r.entries.spare v c.self.invariant.roomy c.self.view_is) stands (here ∙ bound_is) reading n
+      c.answer_line.ensures.most w v.settings query (combine_held o) stands (here ∙ bound_is) reading n
       (subst (λ (b : Result Bound Fault). AreCosts (IsCostBetween w.visible) (steps_of v.settings c.args.session b w) n) (sym here) costs)
 
 pub returns-in_err-answered-clause-fresh : goal.returns-in_err-answered-clause-fresh
