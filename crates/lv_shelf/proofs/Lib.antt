@@ -3,3 +3,5 @@ pub mod Among
 pub mod Shelved
 pub mod Orders
 pub mod Runs
+pub mod Chained
+pub mod ChainShelves

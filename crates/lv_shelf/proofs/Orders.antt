@@ -141,7 +141,7 @@ items_agree : {T : Type 0} (a b : List (Option T)) (ps : List ℕ) → AllByRecu
 items_agree a b [] h = refl
 items_agree a b (p ∷ ps) h = ap₂ (λ o l. cons_option o l) h.0 (items_agree a b ps h.1)
 
-filter_items : {T : Type 0} (test : T → Bool) (slots : List (Option T)) (ps : List ℕ) → items_at slots (filter (passes_in test slots) ps) ≡ filter test (items_at slots ps)
+pub filter_items : {T : Type 0} (test : T → Bool) (slots : List (Option T)) (ps : List ℕ) → items_at slots (filter (passes_in test slots) ps) ≡ filter test (items_at slots ps)
 filter_items test slots [] = refl
 filter_items {T} test slots (q ∷ ps) = by (slot_of slots q) refl (filter_items test slots ps)
   where

@@ -10,12 +10,12 @@ all_taken P zero xs a = tt
 all_taken P (suc n) [] a = tt
 all_taken P (suc n) (x ∷ xs) a = (a.0, all_taken P n xs a.1)
 
-all_behind : {X : Type 0} (P : X → Type 0) (n : ℕ) (xs : List X) → AllByRecursion P xs → AllByRecursion P (drop n xs)
+pub all_behind : {X : Type 0} (P : X → Type 0) (n : ℕ) (xs : List X) → AllByRecursion P xs → AllByRecursion P (drop n xs)
 all_behind P zero xs a = a
 all_behind P (suc n) [] a = tt
 all_behind P (suc n) (x ∷ xs) a = all_behind P n xs a.1
 
-items_taken : {T : Type 0} (slots : List (Option T)) (n : ℕ) (ps : List ℕ) → AllByRecursion (IsHeld slots) ps → items_at slots (take n ps) ≡ take n (items_at slots ps)
+pub items_taken : {T : Type 0} (slots : List (Option T)) (n : ℕ) (ps : List ℕ) → AllByRecursion (IsHeld slots) ps → items_at slots (take n ps) ≡ take n (items_at slots ps)
 items_taken slots zero ps h = refl
 items_taken slots (suc n) [] h = refl
 items_taken {T} slots (suc n) (p ∷ ps) h = by (slot_of slots p) h.0 (items_taken slots n ps h.1)
@@ -24,7 +24,7 @@ items_taken {T} slots (suc n) (p ∷ ps) h = by (slot_of slots p) h.0 (items_tak
     by None e ih = cc
     by (Some x) e ih = ap (λ l. x ∷ l) ih
 
-items_behind : {T : Type 0} (slots : List (Option T)) (n : ℕ) (ps : List ℕ) → AllByRecursion (IsHeld slots) ps → items_at slots (drop n ps) ≡ drop n (items_at slots ps)
+pub items_behind : {T : Type 0} (slots : List (Option T)) (n : ℕ) (ps : List ℕ) → AllByRecursion (IsHeld slots) ps → items_at slots (drop n ps) ≡ drop n (items_at slots ps)
 items_behind slots zero ps h = refl
 items_behind slots (suc n) [] h = refl
 items_behind {T} slots (suc n) (p ∷ ps) h = by (slot_of slots p) h.0 (items_behind slots n ps h.1)

@@ -64,11 +64,30 @@ pub(crate) fn make_room<T>(
     ensures free_kept { vec_capacity free.old ≤ vec_capacity free.new }
     ensures others_kept { (n : ℕ) → HaveRoom n others.old.items → HaveRoom n others.new.items }
 {
+    make_room_beside(more, slots, free, others)?;
+    order.reserve(slots.len() + more)
+}
+
+/// Makes room for so many slots more, and for their numbers and ranks in every further order.
+pub(crate) fn make_room_beside<T>(
+    more: usize,
+    slots: &mut Vec<Option<T>>,
+    free: &mut Vec<u32>,
+    others: &mut Vec<RankedPlaces>,
+) -> Result<(), NoMemory>
+    ensures slots { slots.new.items ≡ slots.old.items }
+    ensures free { free.new.items ≡ free.old.items }
+    ensures others { lists_of others.new.items ≡ lists_of others.old.items }
+    ensures slots_room { OnOk result (length slots.old.items + more ≤ vec_capacity slots.new) }
+    ensures free_room { OnOk result (length slots.old.items + more ≤ vec_capacity free.new) }
+    ensures others_room { OnOk result (HaveRoom (length slots.old.items + more) others.new.items) }
+    ensures free_kept { vec_capacity free.old ≤ vec_capacity free.new }
+    ensures others_kept { (n : ℕ) → HaveRoom n others.old.items → HaveRoom n others.new.items }
+{
     let Some(room) = slots.len().checked_add(more) else {
         return Err(NoMemory);
     };
     slots.reserve(more)?;
-    order.reserve(room)?;
     reserve_to(free, room)?;
     reserve_each(others, room)
 }

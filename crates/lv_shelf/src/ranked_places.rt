@@ -118,6 +118,18 @@ impl RankedPlaces {
         self.places.set(at, slot);
     }
 
+    /// Puts a number in the place of another one, and gives its slot a rank. Cost: constant.
+    pub(crate) fn replace(&mut self, at: usize, slot: u32, rank: i64)
+        requires { at < length self.old.list }
+        ensures replaced { self.new.list ≡ slice_set self.old.list at slot }
+        ensures room { self.new.room ≡ self.old.room }
+    {
+        self.places.set(at, slot);
+        if let Some(old) = self.ranks.get_mut(slot as usize) {
+            *old = rank;
+        }
+    }
+
     /// Keeps the first so many numbers. Cost: constant for each that goes.
     pub(crate) fn truncate(&mut self, len: usize)
         ensures rest { self.new.list ≡ take len self.old.list }

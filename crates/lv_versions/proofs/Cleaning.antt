@@ -1,9 +1,7 @@
 -- The order of the ended versions.
-use Rattle.std.proofs.Common.{◌≡◌, ℕ, zero, suc, ◌<◌, ◌≤◌, Bool, true, false, cond, List, [], ◌∷◌, ◌++◌, map, filter, length, set, Option, Some, None, refl, sym, ap, ap₂, ◌∙◌, subst, arith}
+use Rattle.std.proofs.Common.{◌≡◌, ℕ, zero, suc, ◌<◌, ◌≤◌, Bool, true, false, cond, List, [], ◌∷◌, ◌++◌, map, filter, length, Option, Some, None, refl, sym, ap, ap₂, ◌∙◌, subst, arith}
 use Rattle.std.specs.Prelude.{◌&&◌, nat_lt, nat_le, not, is_none, slice_get}
-use Rattle.std.specs.List.{AllByRecursion, insert, remove}
-use Rattle.std.proofs.lemmas.List.{get_or-set_same, length-set}
-use Rattle.std.proofs.lemmas.Option.{slice_get-get_or}
+use Rattle.std.specs.List.{AllByRecursion, remove}
 use Rattle.std.specs.Ordering.{is_eq, is_gt, nat_cmp}
 use Rattle.std.specs.declared.cmp.Ordering.{Ordering}
 use Rattle.std.specs.declared.cmp.Ordering.TheVariants.{Less, Equal, Greater}
@@ -21,7 +19,7 @@ use Rattle.lv_shelf.specs.Cuts.{Apart, Falls, IsCut}
 use Rattle.lv_shelf.specs.Shelves.{ChangesOnly, LacksItem}
 use Rattle.lv_shelf.proofs.Among.{all_remove}
 use Rattle.lv_shelf.proofs.Cutting.{all_at, all_kept, got, got_within}
-use Rattle.lv_versions.specs.Versions.{AreEnded, EndsAtMost, EndsNoLater, EndsSooner, HasEnded, IsBy, IsIn, Precedes, closed, comes_before, ended_at, ends_after, is_current, is_over, new_version, version_cmp}
+use Rattle.lv_versions.specs.Versions.{AreEnded, EndsAtMost, EndsNoLater, EndsSooner, HasEnded, IsBy, IsIn, Precedes, closed, ended_at, ends_after, is_current, is_over, new_version, upto, version_cmp}
 use Rattle.lv_versions.proofs.Ending.{Closed, all_mapped, closed_current, closed_other, earlier_other, ends_at_most, later_other}
 use Rattle.lv_versions.proofs.Bringing.{all_last}
 use Rattle.lv_versions.proofs.Standing.{all_placed, falls_from, precedes_less, true_not_false, version_total}
@@ -176,21 +174,21 @@ ended_more ps number row order vs at item a b e h only r =
     map_all g P (y ∷ ys) q = (q.0, map_all g P ys q.1)
 
 -- the end of the version that has the row changes that one alone
-others_stay : (ps : List ℕ) (row : List Value) (number : ℕ) (vs : List RowVersion) → AllByRecursion (λ v. comes_before ps row number v ≡ false) vs → AllByRecursion (λ v. Closed ps number row v ≡ v) vs
-others_stay ps row number vs b = all_weaker (λ v. comes_before ps row number v ≡ false) (λ v. Closed ps number row v ≡ v) (λ v f. closed_other ps number row v (later_other ps row number v f)) vs b
+others_stay : (ps : List ℕ) (row : List Value) (number : ℕ) (vs : List RowVersion) → AllByRecursion (λ v. upto ps row v ≡ false) vs → AllByRecursion (λ v. Closed ps number row v ≡ v) vs
+others_stay ps row number vs b = all_weaker (λ v. upto ps row v ≡ false) (λ v. Closed ps number row v ≡ v) (λ v f. closed_other ps number row v (later_other ps row number v f)) vs b
 
-changes_only : (ps : List ℕ) (row : List Value) (number i : ℕ) (vs : List RowVersion) (item : RowVersion) → Apart (Precedes ps) vs → IsCut (comes_before ps row number) (suc i) vs → slice_get vs i ≡ Some item
-    → (comes_before ps row number item ≡ true) × ChangesOnly (Closed ps number row) i vs
+changes_only : (ps : List ℕ) (row : List Value) (number i : ℕ) (vs : List RowVersion) (item : RowVersion) → Apart (Precedes ps) vs → IsCut (upto ps row) (suc i) vs → slice_get vs i ≡ Some item
+    → (upto ps row item ≡ true) × ChangesOnly (Closed ps number row) i vs
 changes_only ps row number i [] item a cut e = absurd cut
-changes_only ps row number zero (v ∷ vs) item a cut e = (subst (λ w. comes_before ps row number w ≡ true) (got (v ∷ vs) zero item item e) cut.0, others_stay ps row number vs cut.1)
+changes_only ps row number zero (v ∷ vs) item a cut e = (subst (λ w. upto ps row w ≡ true) (got (v ∷ vs) zero item item e) cut.0, others_stay ps row number vs cut.1)
 changes_only ps row number (suc i) (v ∷ vs) item a cut e =
     let more = changes_only ps row number i vs item a.1 cut.1 e in
     let before : Precedes ps v item = subst (Precedes ps v) (got vs i item item e) (all_at (Precedes ps v) vs i item (got_within vs i item e) a.0) in
     (more.0, (closed_other ps number row v (earlier_other ps row number v item before more.0), more.1))
 
-pub changes_one : (ps : List ℕ) (row : List Value) (number i at : ℕ) (vs : List RowVersion) (item : RowVersion) → suc i ≡ at → Apart (Precedes ps) vs → IsCut (comes_before ps row number) at vs
+pub changes_one : (ps : List ℕ) (row : List Value) (number i at : ℕ) (vs : List RowVersion) (item : RowVersion) → suc i ≡ at → Apart (Precedes ps) vs → IsCut (upto ps row) at vs
     → slice_get vs i ≡ Some item → ChangesOnly (Closed ps number row) i vs
-changes_one ps row number i at vs item is a cut e = (changes_only ps row number i vs item a (subst (λ n. IsCut (comes_before ps row number) n vs) (sym is) cut) e).1
+changes_one ps row number i at vs item is a cut e = (changes_only ps row number i vs item a (subst (λ n. IsCut (upto ps row) n vs) (sym is) cut) e).1
 
 -- ---- the first ones in the order
 sooner_over : (floor : ℕ) (u w : Option ℕ) → EndsNoLater u w → not (ends_after floor w) ≡ true → not (ends_after floor u) ≡ true
@@ -285,12 +283,6 @@ filter_gone p v (z ∷ zs) zero e f = sym (ap (λ b. cond b (z ∷ filter p zs) 
 filter_gone p v (z ∷ zs) (suc at) e f = ap (λ l. cond (p z) (z ∷ l) l) (filter_gone p v zs at e f)
 
 -- ---- what is there at a place after a change there
-pub got_set : (vs : List RowVersion) (i : ℕ) (x : RowVersion) → i < length vs → slice_get (set vs i x) i ≡ Some x
-got_set vs i x lt = slice_get-get_or (set vs i x) i x (omega (arith, lt, length-set vs i x)) ∙ ap Some (get_or-set_same vs i x x lt)
-
-pub set_got : (vs : List RowVersion) (i : ℕ) (x v : RowVersion) → i < length vs → slice_get (set vs i x) i ≡ Some v → x ≡ v
-set_got vs i x v lt e = sym (get_or-set_same vs i x x lt) ∙ got (set vs i x) i v x e
-
 -- ---- ends by a commit
 at_most_later : (u : Option ℕ) (last number : ℕ) → last < number → EndsAtMost last u → EndsAtMost number u
 at_most_later None last number lt h = tt
@@ -323,7 +315,3 @@ not_after floor v h = by (ends_after floor v.until) h
     by false t = refl
 
 -- ---- a version put in at a place
-pub got_insert : (vs : List RowVersion) (i : ℕ) (x : RowVersion) → i ≤ length vs → slice_get (insert vs i x) i ≡ Some x
-got_insert vs zero x le = refl
-got_insert [] (suc i) x le = absurd (omega arith)
-got_insert (v ∷ vs) (suc i) x le = got_insert vs i x (omega arith)

@@ -21,13 +21,23 @@ use Rattle.lv_schema.proofs.Apart.{Untied, all_weaker, apart_append, apart_filte
 use Rattle.lv_schema.proofs.NetsLead.{any_ascending, any_lacking, key_total, one_of_key, only_rows, row_itself, same_row}
 use Rattle.lv_schema.specs.declared.version.RowVersion.{RowVersion}
 use Rattle.lv_shelf.specs.Cuts.{Apart}
-use Rattle.lv_versions.specs.Versions.{Applies, AreNew, AreVersions, EndsFrom, IsBy, IsNewTo, Precedes, closed, ends_after, is_at, lost, new_version, soonest_after, state_at, with_versions}
+use Rattle.lv_versions.specs.Versions.{Applies, AreNew, AreVersions, CameBefore, EndsFrom, IsBy, IsNewTo, Lived, Precedes, closed, ends_after, is_at, lost, new_version, soonest_after, state_at, with_versions}
 use Rattle.lv_versions.proofs.Bringing.{all_with, new_to_all, with_before, with_from, with_permutes}
 use Rattle.lv_versions.proofs.Ending.{end_twice, lost_before, lost_by, lost_earlier, lost_from, lost_kept, lost_none, or_comm}
 use Rattle.lv_versions.proofs.Standing.{state_ascends, true_not_false}
 
 pub all_earlier : (last number : ℕ) (vs : List RowVersion) → last < number → AllByRecursion (IsBy last) vs → AllByRecursion (λ v. v.from < number) vs
 all_earlier last number vs lt a = all_weaker (IsBy last) (λ v. v.from < number) (λ v h. omega (arith, h.0)) vs a
+
+-- what ends now came before
+lived_end : (from number : ℕ) (u : Option ℕ) (b : Bool) → from < number → CameBefore from u → CameBefore from (end_by u b number)
+lived_end from number None true lt h = tt
+lived_end from number None false lt h = lt
+lived_end from number (Some k) b lt h = h
+
+lost_lived : (number : ℕ) (rows : List (List Value)) (vs : List RowVersion) → AllByRecursion (λ v. v.from < number) vs → AllByRecursion Lived vs → AllByRecursion Lived (map (lost number rows) vs)
+lost_lived number rows [] a b = tt
+lost_lived number rows (v ∷ vs) a b = (lived_end v.from number v.until (not (has_row v.row rows)) a.0 b.0, lost_lived number rows vs a.1 b.1)
 
 -- ---- rows and their keys
 or_true : (b : Bool) → (b || true) ≡ true
@@ -155,6 +165,7 @@ module _ (ps : List ℕ) (last floor number : ℕ) (net : Net) (vs : List RowVer
     order = order;
     each = all_with (IsBy number) ps number net.plus left (λ row. (omega arith, tt)) (lost_by last number net.minus vs (omega (arith, lt)) held.each);
     kept = all_with (λ v. ends_after floor v.until ≡ true) ps number net.plus left (λ row. refl) (lost_kept floor number net.minus vs above held.kept);
+    lived = all_with Lived ps number net.plus left (λ row. tt) (lost_lived number net.minus vs (all_earlier last number vs lt held.each) held.lived);
   }
 
   pub after_versions : IsPermutation (left ++ map (new_version number) net.plus) after

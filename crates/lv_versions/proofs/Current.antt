@@ -12,7 +12,7 @@ use Rattle.lv_schema.specs.declared.version.RowVersion.{RowVersion}
 use Rattle.lv_shelf.specs.Cuts.{Apart, Falls, IsCut}
 use Rattle.lv_shelf.specs.Shelves.{ChangesOnly, LacksItem}
 use Rattle.lv_shelf.proofs.Cutting.{all_kept, cut_from, cut_long, got, got_within, passed_up_to}
-use Rattle.lv_versions.specs.Versions.{EndsAtMost, HasEnded, IsBy, Precedes, comes_before, ends_after, is_at, current_of, is_current, is_open, state_at}
+use Rattle.lv_versions.specs.Versions.{EndsAtMost, HasEnded, IsBy, Precedes, ends_after, is_at, current_of, is_current, is_open, state_at, upto}
 use Rattle.lv_versions.proofs.Cleaning.{changes_one}
 use Rattle.lv_versions.proofs.Ending.{Closed, closed_current}
 use Rattle.lv_versions.proofs.Keeping.{item_there}
@@ -116,27 +116,27 @@ first_of true b h = refl
 first_of false b h = cc
 
 left_current : (ps : List ℕ) (row : List Value) (number at k : ℕ) (vs shown : List RowVersion) (item : RowVersion) → Apart (Precedes ps) vs → slice_get vs at ≡ Some item → is_current ps row number item ≡ true
-    → IsCut (comes_before ps row number) (at + 1) vs → shown ≡ filter is_open vs → IsCut (comes_before ps row number) k shown → Left is_open (comes_before ps row number) (Closed ps number row) k item vs
+    → IsCut (upto ps row) (at + 1) vs → shown ≡ filter is_open vs → IsCut (upto ps row) k shown → Left is_open (upto ps row) (Closed ps number row) k item vs
 left_current ps row number at k vs shown item stand e h cut is cut' =
     let next : suc at ≡ at + 1 = omega arith in
-    left_open is_open (comes_before ps row number) (Closed ps number row) at k item vs
-    (subst (λ n. IsCut (comes_before ps row number) n vs) (sym next) cut) e
+    left_open is_open (upto ps row) (Closed ps number row) at k item vs
+    (subst (λ n. IsCut (upto ps row) n vs) (sym next) cut) e
     (changes_one ps row number at (at + 1) vs item next stand cut e)
     (first_of (is_none item.until) (nat_lt item.from number && same_key ps item.row row) h)
     (ap is_open (closed_current ps number row item h))
-    (subst (IsCut (comes_before ps row number) k) is cut')
+    (subst (IsCut (upto ps row) k) is cut')
 
 -- it leaves the order of those that have not ended, which is kept: it is the last one there before the row's place
 pub record Leaves (ps : List ℕ) (row : List Value) (number k : ℕ) (kept : Bool) (vs shown : List RowVersion) : Type 0 where
   pub some : 0 < k
   pub within : k - 1 < length shown
   pub rest : map (Closed ps number row) (remove shown (k - 1)) ≡ current_of kept (map (Closed ps number row) vs)
-  pub cut : IsCut (comes_before ps row number) (k - 1) (current_of kept (map (Closed ps number row) vs))
+  pub cut : IsCut (upto ps row) (k - 1) (current_of kept (map (Closed ps number row) vs))
 
-pub leaving : (ps : List ℕ) (row : List Value) (number at k : ℕ) (kept : Bool) (vs shown : List RowVersion) → kept ≡ true → Apart (Precedes ps) vs → IsCut (comes_before ps row number) (at + 1) vs
-    → ((v : RowVersion) → slice_get vs at ≡ Some v → is_current ps row number v ≡ true) → shown ≡ current_of kept vs → IsCut (comes_before ps row number) k shown → Leaves ps row number k kept vs shown
+pub leaving : (ps : List ℕ) (row : List Value) (number at k : ℕ) (kept : Bool) (vs shown : List RowVersion) → kept ≡ true → Apart (Precedes ps) vs → IsCut (upto ps row) (at + 1) vs
+    → ((v : RowVersion) → slice_get vs at ≡ Some v → is_current ps row number v ≡ true) → shown ≡ current_of kept vs → IsCut (upto ps row) k shown → Leaves ps row number k kept vs shown
 leaving ps row number at k kept vs shown t stand cut is these cut' =
-    let before = comes_before ps row number in
+    let before = upto ps row in
     let f = Closed ps number row in
     let item = item_there vs at (omega (arith, cut_long before (at + 1) vs cut)) in
     let current : shown ≡ filter is_open vs = these ∙ ap (λ b. current_of b vs) t in

@@ -2,7 +2,7 @@
 use Rattle.std.proofs.Common.{◌≡◌, ℕ, zero, suc, ◌<◌, ◌≤◌, Bool, true, false, List, [], ◌∷◌, ◌++◌, map, get_or, set, Option, Some, None, refl, sym, ap, ap₂, ◌∙◌, subst, arith}
 use Rattle.std.specs.Prelude.{◌&&◌, ◌||◌, nat_lt, nat_le, not, is_none, slice_get}
 use Rattle.std.specs.List.{AllByRecursion}
-use Rattle.std.specs.Ordering.{is_lt, nat_cmp, ordering_reverse, ordering_then}
+use Rattle.std.specs.Ordering.{is_gt, ordering_reverse}
 use Rattle.std.specs.declared.cmp.Ordering.{Ordering}
 use Rattle.std.specs.declared.cmp.Ordering.TheVariants.{Less, Equal, Greater}
 use Rattle.std.proofs.lemmas.Bool.Decides.{nat_tests}
@@ -20,9 +20,8 @@ use Rattle.lv_schema.proofs.Apart.{all_weaker}
 use Rattle.lv_schema.proofs.NetsLead.{same_row}
 use Rattle.lv_schema.specs.declared.version.RowVersion.{RowVersion}
 use Rattle.lv_shelf.specs.Cuts.{Apart, IsCut}
-use Rattle.lv_versions.specs.Versions.{EndsAtMost, EndsBy, IsBy, Precedes, closed, comes_before, ended_at, ends_after, is_at, is_current, lost, precedes_by, state_at}
+use Rattle.lv_versions.specs.Versions.{EndsAtMost, EndsBy, IsBy, Precedes, closed, ended_at, ends_after, is_at, is_current, lost, precedes_by, state_at, upto}
 use Rattle.lv_shelf.proofs.Cutting.{all_at, cut_at, cut_long, got}
-use Rattle.lv_versions.proofs.Standing.{less_of}
 
 -- ---- the one version that a row names
 abbrev pub Closed : List ℕ → ℕ → List Value → RowVersion → RowVersion
@@ -72,8 +71,8 @@ current_parts ps row number v e =
     let came = more.0 in
     (no_until v.until parts.0, grind (arith, nat_tests), same_row (values_at ps v.row) (values_at ps row) more.1)
 
--- behind the place of the row no version is its current one
-pub later_other : (ps : List ℕ) (row : List Value) (number : ℕ) (v : RowVersion) → comes_before ps row number v ≡ false → is_current ps row number v ≡ false
+-- above the key of the row no version is its current one
+pub later_other : (ps : List ℕ) (row : List Value) (number : ℕ) (v : RowVersion) → upto ps row v ≡ false → is_current ps row number v ≡ false
 later_other ps row number v h = by (is_current ps row number v) refl
   where
     by : (b : Bool) → is_current ps row number v ≡ b → b ≡ false
@@ -81,15 +80,15 @@ later_other ps row number v h = by (is_current ps row number v) refl
     by true e =
         let parts = current_parts ps row number v e in
         let tied : row_cmp (values_at ps v.row) (values_at ps row) ≡ Equal = ap (λ k. row_cmp k (values_at ps row)) parts.2 ∙ tied_itself row_total (values_at ps row) in
-        let before : comes_before ps row number v ≡ true = ap (λ o. is_lt (ordering_then o (nat_cmp v.from number))) tied ∙ ap is_lt (less_of v.from number parts.1) in
+        let before : upto ps row v ≡ true = ap (λ o. not (is_gt o)) tied in
         cc
 
--- nor is one before the last that comes before the row
-pub earlier_other : (ps : List ℕ) (row : List Value) (number : ℕ) (v w : RowVersion) → Precedes ps v w → comes_before ps row number w ≡ true → is_current ps row number v ≡ false
+-- nor is one before the last that is not above it
+pub earlier_other : (ps : List ℕ) (row : List Value) (number : ℕ) (v w : RowVersion) → Precedes ps v w → upto ps row w ≡ true → is_current ps row number v ≡ false
 earlier_other ps row number v w r h = by (is_current ps row number v) refl
   where
-    above : (o : Ordering) → o ≡ Greater → is_lt (ordering_then o (nat_cmp w.from number)) ≡ true → ⊥
-    above o e t = let f = ap (λ x. is_lt (ordering_then x (nat_cmp w.from number))) e in cc
+    above : (o : Ordering) → o ≡ Greater → not (is_gt o) ≡ true → ⊥
+    above o e t = let f = ap (λ x. not (is_gt x)) e in cc
 
     at : values_at ps v.row ≡ values_at ps row → v.until ≡ None → (o : Ordering) → key_cmp ps v.row w.row ≡ o → precedes_by o v w → ⊥
     at same none Less e r' =
@@ -102,7 +101,7 @@ earlier_other ps row number v w r h = by (is_current ps row number v) refl
     by false e = refl
     by true e = let parts = current_parts ps row number v e in absurd (at parts.2 parts.0 (key_cmp ps v.row w.row) refl r)
 
-none_closed : (ps : List ℕ) (row : List Value) (number : ℕ) (vs : List RowVersion) → AllByRecursion (λ v. comes_before ps row number v ≡ false) vs → map (Closed ps number row) vs ≡ vs
+none_closed : (ps : List ℕ) (row : List Value) (number : ℕ) (vs : List RowVersion) → AllByRecursion (λ v. upto ps row v ≡ false) vs → map (Closed ps number row) vs ≡ vs
 none_closed ps row number [] b = refl
 none_closed ps row number (v ∷ vs) b = ap₂ (λ x l. x ∷ l) (closed_other ps number row v (later_other ps row number v b.0)) (none_closed ps row number vs b.1)
 
@@ -111,13 +110,13 @@ abbrev pub changed_before : {X : Type 0} → (X → X) → ℕ → List X → X 
 changed_before f zero vs d = vs
 changed_before f (suc i) vs d = set vs i (f (get_or vs i d))
 
-pub closed_at : (ps : List ℕ) (row : List Value) (number : ℕ) (i : ℕ) (vs : List RowVersion) (d : RowVersion) → Apart (Precedes ps) vs → IsCut (comes_before ps row number) i vs
+pub closed_at : (ps : List ℕ) (row : List Value) (number : ℕ) (i : ℕ) (vs : List RowVersion) (d : RowVersion) → Apart (Precedes ps) vs → IsCut (upto ps row) i vs
     → map (Closed ps number row) vs ≡ changed_before (Closed ps number row) i vs d
 closed_at ps row number zero vs d a cut = none_closed ps row number vs cut
 closed_at ps row number (suc i) [] d a cut = absurd cut
 closed_at ps row number (suc zero) (v ∷ vs) d a cut = ap (λ l. Closed ps number row v ∷ l) (none_closed ps row number vs cut.1)
 closed_at ps row number (suc (suc i)) (v ∷ vs) d a cut =
-    let p = comes_before ps row number in
+    let p = upto ps row in
     let long = cut_long p (suc i) vs cut.1 in
     let w = get_or vs i d in
     ap₂ (λ x l. x ∷ l)
@@ -218,8 +217,8 @@ cut_mapped f p (suc n) [] a = a
 cut_mapped f p (suc n) (x ∷ xs) a = (a.0, cut_mapped f p n xs a.1)
 
 -- the place of a row is as it was
-pub closed_cut : (ps : List ℕ) (number : ℕ) (row : List Value) (at : ℕ) (vs us : List RowVersion) → us ≡ map (Closed ps number row) vs → IsCut (comes_before ps row number) at vs → IsCut (comes_before ps row number) at us
-closed_cut ps number row at vs us is cut = subst (IsCut (comes_before ps row number) at) (sym is) (cut_mapped (Closed ps number row) (comes_before ps row number) at vs cut)
+pub closed_cut : (ps : List ℕ) (number : ℕ) (row : List Value) (at : ℕ) (vs us : List RowVersion) → us ≡ map (Closed ps number row) vs → IsCut (upto ps row) at vs → IsCut (upto ps row) at us
+closed_cut ps number row at vs us is cut = subst (IsCut (upto ps row) at) (sym is) (cut_mapped (Closed ps number row) (upto ps row) at vs cut)
 
 pub closed_order : (ps : List ℕ) (number : ℕ) (rows : List (List Value)) (vs : List RowVersion) → Apart (Precedes ps) vs → Apart (Precedes ps) (map (closed ps number rows) vs)
 closed_order ps number rows [] a = tt
@@ -314,23 +313,17 @@ lost_from last number n rows (v ∷ vs) lt le a = by v.until refl (has_row v.row
         let stays' : is_at last v ≡ true = ap₂ (λ a b. a && b) there (ap (ends_after last) e) in
         rw (stays, stays') (rw f (ap (λ l. v.row ∷ l) ih))
 
--- what a search of the row's version leaves
-pub ended_here : (ps : List ℕ) (row : List Value) (number i at : ℕ) (vs : List RowVersion) (item : RowVersion) → suc i ≡ at → Apart (Precedes ps) vs
-    → IsCut (comes_before ps row number) at vs → slice_get vs i ≡ Some item → map (Closed ps number row) vs ≡ set vs i (Closed ps number row item)
-ended_here ps row number i at vs item is a cut e =
-    closed_at ps row number (suc i) vs item a (subst (λ n. IsCut (comes_before ps row number) n vs) (sym is) cut) ∙ ap (λ x. set vs i (Closed ps number row x)) (got vs i item item e)
-
 pub not_ended_here : (ps : List ℕ) (row : List Value) (number i at : ℕ) (vs : List RowVersion) (item : RowVersion) → suc i ≡ at → Apart (Precedes ps) vs
-    → IsCut (comes_before ps row number) at vs → slice_get vs i ≡ Some item → is_current ps row number item ≡ false → map (Closed ps number row) vs ≡ vs
+    → IsCut (upto ps row) at vs → slice_get vs i ≡ Some item → is_current ps row number item ≡ false → map (Closed ps number row) vs ≡ vs
 not_ended_here ps row number i at vs item is a cut e h =
-    closed_at ps row number (suc i) vs item a (subst (λ n. IsCut (comes_before ps row number) n vs) (sym is) cut)
+    closed_at ps row number (suc i) vs item a (subst (λ n. IsCut (upto ps row) n vs) (sym is) cut)
     ∙ ap (λ x. set vs i (Closed ps number row x)) (got vs i item item e)
     ∙ ap (set vs i) (closed_other ps number row item h ∙ sym (got vs i item item e))
     ∙ set-get_or vs i item
 
 pub none_ended : (ps : List ℕ) (row : List Value) (number at : ℕ) (vs : List RowVersion) (d : RowVersion) → at ≡ 0 → Apart (Precedes ps) vs
-    → IsCut (comes_before ps row number) at vs → map (Closed ps number row) vs ≡ vs
-none_ended ps row number at vs d is a cut = closed_at ps row number zero vs d a (subst (λ n. IsCut (comes_before ps row number) n vs) is cut)
+    → IsCut (upto ps row) at vs → map (Closed ps number row) vs ≡ vs
+none_ended ps row number at vs d is a cut = closed_at ps row number zero vs d a (subst (λ n. IsCut (upto ps row) n vs) is cut)
 
 end_none : (u : Option ℕ) (k : ℕ) → end_by u true k ≡ u
 end_none None k = refl

@@ -1,116 +1,25 @@
--- What a search of a key finds, and what a clean-up leaves.
-use Rattle.std.proofs.Common.{◌≡◌, ℕ, zero, suc, ◌+◌, ◌<◌, ◌≤◌, Bool, true, false, cond, List, [], ◌∷◌, ◌++◌, append_assoc, drop, length, length-append, map, filter, get_or, Option, Some, None, refl, sym, ap, ap₂, ◌∙◌, subst, arith}
+-- What a clean-up leaves, and rows that a reader finds.
+use Rattle.std.proofs.Common.{◌≡◌, ℕ, ◌+◌, ◌<◌, ◌≤◌, Bool, true, false, cond, List, [], ◌∷◌, ◌++◌, append_assoc, drop, length, length-append, map, filter, Option, Some, None, refl, sym, ap, ap₂, ◌∙◌, arith}
 use Rattle.std.specs.Prelude.{◌&&◌, nat_lt, nat_le, slice_get}
 use Rattle.std.specs.List.{AllByRecursion}
-use Rattle.std.specs.Ordering.{is_eq, ordering_reverse}
-use Rattle.std.specs.declared.cmp.Ordering.{Ordering}
-use Rattle.std.specs.declared.cmp.Ordering.TheVariants.{Less, Equal, Greater}
+use Rattle.std.specs.declared.cmp.Ordering.TheVariants.{Less}
 use Rattle.std.proofs.lemmas.Bool.Decides.{nat_tests}
 use Rattle.std.proofs.lemmas.List.{drop_more, length-map}
-use Rattle.std.proofs.lemmas.List.Elements.{filter-append}
 use denote.Ref.{Bor}
 use Rattle.lv_values.specs.declared.value.Value.{Value}
-use Rattle.lv_values.specs.Order.{row_cmp, row_eq}
-use Rattle.lv_values.specs.OrderLaws.{row_total}
+use Rattle.lv_values.specs.Order.{row_eq}
 use Rattle.lv_values.specs.Rows.{key_cmp, values_at}
 use Rattle.lv_schema.specs.Once.{Ascends}
 use Rattle.lv_schema.proofs.Apart.{all_both, all_filter, all_weaker, apart_filter}
-use Rattle.lv_schema.proofs.NetsLead.{same_row}
 use Rattle.lv_schema.specs.declared.version.RowVersion.{RowVersion}
-use Rattle.lv_shelf.specs.Cuts.{Apart, IsCut}
-use Rattle.lv_versions.specs.Versions.{EndsAtMost, EndsBy, EndsFrom, IsBy, Precedes, ends_after, hits, is_at, precedes_by, reaches, reaches_by, row_with, rows_hit, rows_with, state_at}
-use Rattle.lv_shelf.proofs.Cutting.{all_at, all_kept, cut_at, cut_long, got}
+use Rattle.lv_shelf.specs.Cuts.{Apart}
+use Rattle.lv_versions.specs.Versions.{EndsAtMost, EndsFrom, IsBy, Precedes, ends_after, hits, is_at, rows_hit, rows_with, state_at}
+use Rattle.lv_shelf.proofs.Cutting.{all_kept, got}
 use Rattle.lv_versions.proofs.Standing.{state_ascends}
 
-both : (a b : Bool) → (a && b) ≡ true → (a ≡ true) × (b ≡ true)
+pub both : (a b : Bool) → (a && b) ≡ true → (a ≡ true) × (b ≡ true)
 both true b h = (refl, h)
 both false b h = cc
-
-equal_of : (o : Ordering) → is_eq o ≡ true → o ≡ Equal
-equal_of Less h = cc
-equal_of Equal h = refl
-equal_of Greater h = cc
-
--- the first row with the key, version by version
-found_step : (ps : List ℕ) (key : List Value) (n : ℕ) (v : RowVersion) (vs : List RowVersion) → row_with ps key (state_at n (v ∷ vs)) ≡ cond (hits ps key n v) (Some v.row) (row_with ps key (state_at n vs))
-found_step ps key n v vs = by (is_at n v)
-  where
-    at : (b : Bool) → slice_get (cond b (v.row ∷ filter (λ row. row_eq (values_at ps row) key) (state_at n vs)) (filter (λ row. row_eq (values_at ps row) key) (state_at n vs))) 0
-        ≡ cond b (Some v.row) (row_with ps key (state_at n vs))
-    at true = refl
-    at false = refl
-
-    by : (a : Bool) → row_with ps key (map (λ (w : RowVersion). w.row) (cond a (v ∷ filter (is_at n) vs) (filter (is_at n) vs))) ≡ cond (a && row_eq (values_at ps v.row) key) (Some v.row) (row_with ps key (state_at n vs))
-    by true = at (row_eq (values_at ps v.row) key)
-    by false = refl
-
-over_end : (n : ℕ) (u : Option ℕ) (from : ℕ) → EndsBy from u → nat_le from n ≡ true → ends_after n u ≡ false
-over_end n None from e t = absurd e
-over_end n (Some k) from e t = grind (arith, nat_tests)
-
--- behind the place no version hits
-later_misses : (ps : List ℕ) (key : List Value) (n : ℕ) (v : RowVersion) → reaches ps key n v ≡ false → hits ps key n v ≡ false
-later_misses ps key n v h = by (hits ps key n v) refl
-  where
-    by : (b : Bool) → hits ps key n v ≡ b → b ≡ false
-    by false e = refl
-    by true e =
-        let parts = both (is_at n v) (row_eq (values_at ps v.row) key) e in
-        let came = both (nat_le v.from n) (ends_after n v.until) parts.0 in
-        let there : reaches ps key n v ≡ true = ap (λ o. reaches_by o (nat_le v.from n)) (equal_of (row_cmp (values_at ps v.row) key) parts.1) ∙ came.0 in
-        cc
-
--- nor does one before the last that reaches the key
-earlier_misses : (ps : List ℕ) (key : List Value) (n : ℕ) (v w : RowVersion) → Precedes ps v w → reaches ps key n w ≡ true → hits ps key n v ≡ false
-earlier_misses ps key n v w r h = by (hits ps key n v) refl
-  where
-    at : values_at ps v.row ≡ key → is_at n v ≡ true → (o : Ordering) → key_cmp ps v.row w.row ≡ o → precedes_by o v w → ⊥
-    at same alive Less e r' =
-        let less : row_cmp key (values_at ps w.row) ≡ Less = ap (λ k. row_cmp k (values_at ps w.row)) (sym same) ∙ e in
-        let greater : row_cmp (values_at ps w.row) key ≡ Greater = row_total.antisymm (values_at ps w.row) key ∙ ap ordering_reverse less in
-        let f = ap (λ o. reaches_by o (nat_le w.from n)) greater in
-        cc
-    at same alive Equal e r' =
-        let tied : row_cmp key (values_at ps w.row) ≡ Equal = ap (λ k. row_cmp k (values_at ps w.row)) (sym same) ∙ e in
-        let back : row_cmp (values_at ps w.row) key ≡ Equal = row_total.antisymm (values_at ps w.row) key ∙ ap ordering_reverse tied in
-        let came : nat_le w.from n ≡ true = sym (ap (λ o. reaches_by o (nat_le w.from n)) back) ∙ h in
-        let over = over_end n v.until w.from r'.1 came in
-        let parts = both (nat_le v.from n) (ends_after n v.until) alive in
-        let f = parts.1 in
-        cc
-    at same alive Greater e r' = r'
-
-    by : (b : Bool) → hits ps key n v ≡ b → b ≡ false
-    by false e = refl
-    by true e =
-        let parts = both (is_at n v) (row_eq (values_at ps v.row) key) e in
-        absurd (at (same_row (values_at ps v.row) key parts.1) parts.0 (key_cmp ps v.row w.row) refl r)
-
-missed : (ps : List ℕ) (key : List Value) (n : ℕ) (vs : List RowVersion) → AllByRecursion (λ v. reaches ps key n v ≡ false) vs → row_with ps key (state_at n vs) ≡ None
-missed ps key n [] a = refl
-missed ps key n (v ∷ vs) a = found_step ps key n v vs ∙ ap (λ b. cond b (Some v.row) (row_with ps key (state_at n vs))) (later_misses ps key n v a.0) ∙ missed ps key n vs a.1
-
-abbrev found_in : List ℕ → List Value → ℕ → RowVersion → Option (List Value)
-found_in ps key n v = cond (hits ps key n v) (Some v.row) None
-
-found_at : (ps : List ℕ) (key : List Value) (n i : ℕ) (vs : List RowVersion) (d : RowVersion) → Apart (Precedes ps) vs → IsCut (reaches ps key n) (suc i) vs → row_with ps key (state_at n vs) ≡ found_in ps key n (get_or vs i d)
-found_at ps key n i [] d a cut = absurd cut
-found_at ps key n zero (v ∷ vs) d a cut = found_step ps key n v vs ∙ ap (λ o. cond (hits ps key n v) (Some v.row) o) (missed ps key n vs cut.1)
-found_at ps key n (suc i) (v ∷ vs) d a cut =
-    let p = reaches ps key n in
-    let long = cut_long p (suc i) vs cut.1 in
-    let w = get_or vs i d in
-    found_step ps key n v vs
-    ∙ ap (λ b. cond b (Some v.row) (row_with ps key (state_at n vs))) (earlier_misses ps key n v w (all_at (Precedes ps v) vs i d (omega (arith, long)) a.0) (cut_at p (suc i) i vs d cut.1 (omega arith)))
-    ∙ found_at ps key n i vs d a.1 cut.1
-
-pub found_here : (ps : List ℕ) (key : List Value) (n i at : ℕ) (vs : List RowVersion) (item : RowVersion) (b : Bool) → suc i ≡ at → Apart (Precedes ps) vs → IsCut (reaches ps key n) at vs → slice_get vs i ≡ Some item
-    → hits ps key n item ≡ b → row_with ps key (state_at n vs) ≡ cond b (Some item.row) None
-found_here ps key n i at vs item b is a cut e h =
-    found_at ps key n i vs item a (subst (λ k. IsCut (reaches ps key n) k vs) (sym is) cut) ∙ ap (found_in ps key n) (got vs i item item e) ∙ ap (λ t. cond t (Some item.row) None) h
-
-pub none_found : (ps : List ℕ) (key : List Value) (n at : ℕ) (vs : List RowVersion) → at ≡ 0 → IsCut (reaches ps key n) at vs → row_with ps key (state_at n vs) ≡ None
-none_found ps key n at vs is cut = missed ps key n vs (subst (λ k. IsCut (reaches ps key n) k vs) is cut)
 
 -- ---- a clean-up
 alive_ends_after : (n floor : ℕ) (u : Option ℕ) → floor ≤ n → ends_after n u ≡ true → ends_after floor u ≡ true
@@ -181,12 +90,6 @@ shown_step n i rows v vs lt e =
     append_assoc rows (state_at n (v ∷ [])) (state_at n (drop (i + 1) vs))
     ∙ ap (λ l. rows ++ l) (state_cons n v (drop (i + 1) vs) ∙ ap (λ x. state_at n (x ∷ drop (i + 1) vs)) (sym (got vs i v v e)) ∙ ap (state_at n) (sym (drop_more vs i v lt)))
 
-pub passing_step : (p : List Value → Bool) (n i : ℕ) (rows : List (List Value)) (v : RowVersion) (vs : List RowVersion) → i < length vs → slice_get vs i ≡ Some v
-    → (rows ++ filter p (state_at n (v ∷ []))) ++ filter p (state_at n (drop (i + 1) vs)) ≡ rows ++ filter p (state_at n (drop i vs))
-passing_step p n i rows v vs lt e =
-    append_assoc rows (filter p (state_at n (v ∷ []))) (filter p (state_at n (drop (i + 1) vs)))
-    ∙ ap (λ l. rows ++ l) (sym (filter-append p (state_at n (v ∷ [])) (state_at n (drop (i + 1) vs))) ∙ ap (filter p) (shown_step n i [] v vs lt e))
-
 -- where nothing is tested all stay
 pub all_pass : {X : Type 0} (xs : List X) → filter (λ _. true) xs ≡ xs
 all_pass [] = refl
@@ -234,19 +137,6 @@ hit_rows ps key n (v ∷ vs) = by (is_at n v) (row_eq (values_at ps v.row) key) 
 -- they stand in the order of their keys
 pub with_ascends : (ps columns : List ℕ) (values : List Value) (n : ℕ) (vs : List RowVersion) → Apart (Precedes ps) vs → Ascends (key_cmp ps) (rows_with columns values (state_at n vs))
 with_ascends ps columns values n vs a = apart_filter (λ x y. key_cmp ps x y ≡ Less) (λ row. row_eq (values_at columns row) values) (state_at n vs) (state_ascends ps n vs a)
-
-hit_cons : (ps : List ℕ) (key : List Value) (n : ℕ) (v : RowVersion) (vs : List RowVersion) → rows_hit ps key n (v ∷ []) ++ rows_hit ps key n vs ≡ rows_hit ps key n (v ∷ vs)
-hit_cons ps key n v vs = by (hits ps key n v)
-  where
-    by : (b : Bool) → map (λ (w : RowVersion). w.row) (cond b (v ∷ []) []) ++ rows_hit ps key n vs ≡ map (λ (w : RowVersion). w.row) (cond b (v ∷ filter (hits ps key n) vs) (filter (hits ps key n) vs))
-    by true = refl
-    by false = refl
-
-pub hit_step : (ps : List ℕ) (key : List Value) (n i : ℕ) (rows : List (List Value)) (v : RowVersion) (vs : List RowVersion) → i < length vs → slice_get vs i ≡ Some v
-    → (rows ++ rows_hit ps key n (v ∷ [])) ++ rows_hit ps key n (drop (i + 1) vs) ≡ rows ++ rows_hit ps key n (drop i vs)
-hit_step ps key n i rows v vs lt e =
-    append_assoc rows (rows_hit ps key n (v ∷ [])) (rows_hit ps key n (drop (i + 1) vs))
-    ∙ ap (λ l. rows ++ l) (hit_cons ps key n v (drop (i + 1) vs) ∙ ap (λ x. rows_hit ps key n (x ∷ drop (i + 1) vs)) (sym (got vs i v v e)) ∙ ap (rows_hit ps key n) (sym (drop_more vs i v lt)))
 
 -- ---- rows where they lie
 abbrev pub seen : List (Bor (List Value)) → List (List Value)

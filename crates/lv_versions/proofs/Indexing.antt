@@ -1,5 +1,5 @@
 -- Indexes: the versions in the order of their values in some columns.
-use Rattle.std.proofs.Common.{◌≡◌, ℕ, zero, suc, ◌+◌, ◌≤◌, Bool, true, false, cond, List, [], ◌∷◌, ◌++◌, drop, take, map, filter, Some, refl, sym, ap, ap₂, ◌∙◌, subst, arith}
+use Rattle.std.proofs.Common.{◌≡◌, ℕ, zero, suc, ◌≤◌, Bool, true, false, cond, List, [], ◌∷◌, ◌++◌, drop, take, map, filter, Some, refl, sym, ap, ap₂, ◌∙◌, subst, arith}
 use Rattle.std.specs.Prelude.{◌&&◌, slice_get}
 use Rattle.std.specs.List.{AllByRecursion, remove}
 use Rattle.std.specs.Ordering.{is_eq, is_lt, nat_cmp, ordering_reverse, ordering_then}
@@ -8,7 +8,6 @@ use Rattle.std.specs.FinMap.{nat_cmp-IsAntisymmetric}
 use Rattle.std.specs.declared.cmp.Ordering.{Ordering}
 use Rattle.std.specs.declared.cmp.Ordering.TheVariants.{Less, Equal, Greater}
 use Rattle.std.proofs.lemmas.Cmp.{on_total, then_total, tied_itself}
-use Rattle.std.proofs.lemmas.List.{take_more}
 use Rattle.lv_values.specs.declared.value.Value.{Value}
 use Rattle.lv_values.specs.Ascending.{placed}
 use Rattle.lv_values.specs.Order.{row_cmp, row_eq}
@@ -22,7 +21,6 @@ use Rattle.lv_shelf.specs.Cuts.{Apart, Falls, IsCut}
 use Rattle.lv_shelf.specs.Shelves.{LacksItem}
 use Rattle.lv_shelf.proofs.Among.{all_remove, apart_remove}
 use Rattle.lv_shelf.proofs.Cutting.{all_at, all_kept, got, got_within}
-use Rattle.lv_shelf.proofs.Runs.{all_taken}
 use Rattle.lv_versions.specs.Versions.{AreIndexed, AreIndexedBut, IsIn, Precedes, closed, hits, index_cmp, is_at, is_upto, reaches_by, rows_hit, state_at, version_cmp}
 use Rattle.lv_versions.proofs.Bringing.{all_last}
 use Rattle.lv_versions.proofs.Cleaning.{all_unplaced, back_lacks, kept_here, placed_here, rest_lacks, same_version_or}
@@ -37,7 +35,7 @@ in_at vs at v e l = all_at (λ y. y ≡ v → ⊥) vs at v (got_within vs at v e
 
 -- ---- lists that ascend by an order of versions
 module _ {R : RowVersion → RowVersion → Ordering} (o : IsTotalOrder R) where
-  not_less : (x y : RowVersion) → x ≡ y → R x y ≡ Less → ⊥
+  pub not_less : (x y : RowVersion) → x ≡ y → R x y ≡ Less → ⊥
   not_less x y same e = let t : R x x ≡ Equal = tied_itself o x in let f : R x x ≡ Less = subst (λ z. R x z ≡ Less) (sym same) e in cc
 
   turn : (x y : RowVersion) (r : Ordering) → R x y ≡ r → R y x ≡ ordering_reverse r
@@ -289,24 +287,44 @@ indexed_hits cs ps values n order us stand a =
         let tied : row_cmp (values_at cs v.row) (values_at cs w.row) ≡ Equal = ap₂ row_cmp (hit_values cs values n v h) (hit_values cs values n w k) ∙ tied_itself row_total values in
         sym (ap (λ o. ordering_then o (version_cmp ps v w)) tied) ∙ e
 
--- ---- the first versions, put into an index one after another
-apart_take : {X : Type 0} (R : X → X → Type 0) (xs : List X) (i : ℕ) → Apart R xs → Apart R (take i xs)
-apart_take R [] zero a = tt
-apart_take R [] (suc i) a = tt
-apart_take R (x ∷ xs) zero a = tt
-apart_take R (x ∷ xs) (suc i) a = (all_taken (R x) i xs a.0, apart_take R xs i a.1)
+-- ---- versions put into an index one after another
+-- what is among some of them is among them
+pub in_part : (part us : List RowVersion) → AllByRecursion (λ y. IsIn y us) part → (w : RowVersion) → IsIn w part → IsIn w us
+in_part part us a w i l = i (all_weaker (λ y. IsIn y us) (λ y. y ≡ w → ⊥) (λ y j same. j (subst (λ x. LacksItem x us) (sym same) l)) part a)
 
-got_take : (vs : List RowVersion) (at : ℕ) (v : RowVersion) → slice_get vs at ≡ Some v → slice_get (take (at + 1) vs) at ≡ Some v
-got_take [] at v e = cc
-got_take (w ∷ vs) zero v e = e
-got_take (w ∷ vs) (suc at) v e = let n : suc (at + 1) ≡ suc at + 1 = omega arith in subst (λ k. slice_get (take k (w ∷ vs)) (suc at) ≡ Some v) n (got_take vs at v e)
+cut_there : {X : Type 0} (p : X → Bool) (xs : List X) → Falls p xs → (n : ℕ) × IsCut p n xs
+cut_there p [] f = (0, tt)
+cut_there p (x ∷ xs) f = by (p x) refl (cut_there p xs f.1)
+  where
+    fails : (e : p x ≡ false) (y : _) (b : Bool) → p y ≡ b → (p y ≡ true → p x ≡ true) → b ≡ false
+    fails e y true g h = absurd (true_not_false (p x) (h g) e)
+    fails e y false g h = refl
 
-pub indexed_more : (cs ps : List ℕ) (order vs : List RowVersion) (at : ℕ) (v : RowVersion) → Apart (Precedes ps) vs → slice_get vs at ≡ Some v → AreIndexed cs ps order (take at vs) → AreIndexed cs ps (placed (index_cmp cs ps) v order) (take (at + 1) vs)
-indexed_more cs ps order vs at v stand e a =
-    let more : take (at + 1) vs ≡ take at vs ++ v ∷ [] = take_more vs at v (got_within vs at v e) ∙ ap (λ x. take at vs ++ x ∷ []) (got vs at v v e) in
-    let but = indexed_but cs ps v order (take at vs) (take at vs ++ v ∷ []) (λ P b. (all_last P (take at vs) v b).0) (λ P h b. all_append P (take at vs) (v ∷ []) b (h, tt)) (earlier_lack (version_total ps) vs at v (stand_ascend ps vs stand) e) a in
-    indexed_entered cs ps (take (at + 1) vs) at v order (apart_take (Precedes ps) vs (at + 1) stand) (got_take vs at v e) (subst (AreIndexedBut cs ps v order) (sym more) but)
+    by : (b : Bool) → p x ≡ b → ((n : ℕ) × IsCut p n xs) → (n : ℕ) × IsCut p n (x ∷ xs)
+    by true e more = (suc more.0, (e, more.1))
+    by false e more = (0, (e, all_weaker (λ y. p y ≡ true → p x ≡ true) (λ y. p y ≡ false) (λ y h. fails e y (p y) refl h) xs f.0))
 
-pub indexed_lacks : (cs ps : List ℕ) (order vs : List RowVersion) (at : ℕ) (v : RowVersion) → Apart (Precedes ps) vs → slice_get vs at ≡ Some v → AreIndexed cs ps order (take at vs) → LacksItem v order
-indexed_lacks cs ps order vs at v stand e a =
-    all_weaker (λ w. IsIn w (take at vs)) (λ w. w ≡ v → ⊥) (λ w i same. i (subst (λ x. LacksItem x (take at vs)) (sym same) (earlier_lack (version_total ps) vs at v (stand_ascend ps vs stand) e))) order a.here
+-- a version that is among them has a place
+pub place_there : (ps : List ℕ) (us : List RowVersion) (v : RowVersion) → Apart (Precedes ps) us → IsIn v us → (at : ℕ) × (slice_get us at ≡ Some v)
+place_there ps us v stand i =
+    let a = stand_ascend ps us stand in
+    let cut = cut_there (λ w. is_lt (version_cmp ps w v)) us (cut_falls (version_total ps) v us a) in
+    (cut.0, found_in (version_total ps) v cut.0 us a i cut.1)
+
+pub indexed_lacks : (cs ps : List ℕ) (order part : List RowVersion) (v : RowVersion) → LacksItem v part → AreIndexed cs ps order part → LacksItem v order
+indexed_lacks cs ps order part v lacks a = all_weaker (λ w. IsIn w part) (λ w. w ≡ v → ⊥) (λ w i same. i (subst (λ x. LacksItem x part) (sym same) lacks)) order a.here
+
+pub indexed_next : (cs ps : List ℕ) (order part us : List RowVersion) (v : RowVersion) → Apart (Precedes ps) us → IsIn v us → AllByRecursion (λ y. IsIn y us) part → LacksItem v part → AreIndexed cs ps order part
+    → AreIndexed cs ps (placed (index_cmp cs ps) v order) (part ++ v ∷ [])
+indexed_next cs ps order part us v stand i within lacks a =
+    let at = place_there ps us v stand i in
+    record {
+      ascends = ascends_placed (index_total cs ps) v order
+          (all_weaker (λ w. IsIn w part) (Untied (index_total cs ps) v) (λ w j tie. untied_in cs ps us at.0 v w stand at.1 (in_part part us within w j) (λ same. j (subst (λ x. LacksItem x part) (sym same) lacks)) tie) order a.here)
+          a.ascends;
+      here = all_placed (index_cmp cs ps) (λ w. IsIn w (part ++ v ∷ [])) v order (λ l. (all_last (λ y. y ≡ v → ⊥) part v l).1 refl)
+          (all_weaker (λ w. IsIn w part) (λ w. IsIn w (part ++ v ∷ [])) (λ w j l. j (all_last (λ y. y ≡ w → ⊥) part v l).0) order a.here);
+      all = all_append (λ w. IsIn w (placed (index_cmp cs ps) v order)) part (v ∷ [])
+          (all_weaker (λ w. IsIn w order) (λ w. IsIn w (placed (index_cmp cs ps) v order)) (λ w j l. j (all_unplaced (index_cmp cs ps) (λ y. y ≡ w → ⊥) v order l)) part a.all)
+          ((λ l. placed_here (index_cmp cs ps) (λ y. y ≡ v → ⊥) v order l refl), tt);
+    }

@@ -11,15 +11,14 @@ use Rattle.lv_values.specs.OrderLaws.{row_total}
 use Rattle.lv_values.specs.Rows.{values_at}
 use Rattle.lv_schema.proofs.Apart.{all_weaker}
 use Rattle.lv_schema.specs.declared.version.RowVersion.{RowVersion}
-use Rattle.lv_shelf.specs.Cuts.{Apart, IsCut}
+use Rattle.lv_shelf.specs.Cuts.{Apart}
 use Rattle.lv_shelf.specs.Shelves.{ChangesOnly, LacksItem, other_at}
 use Rattle.lv_shelf.proofs.Cutting.{all_at, got, got_within}
 use Rattle.lv_shelf.proofs.Orders.{nth_map}
-use Rattle.lv_versions.specs.Versions.{AreEnded, AreIndexed, AreOrders, EndsAtMost, HaveOrders, IsIn, IsNewTo, Precedes, columns_at, comes_before, has_index, is_current, new_by, new_version}
+use Rattle.lv_versions.specs.Versions.{AreEnded, AreIndexed, AreOrders, EndsAtMost, HaveOrders, IsNewTo, Precedes, columns_at, has_index, is_current, new_by, new_version}
 use Rattle.lv_versions.proofs.Cleaning.{absent, ended_more, kept_ended, stay}
 use Rattle.lv_versions.proofs.Ending.{Closed}
-use Rattle.lv_versions.proofs.Indexing.{found_in, indexed_closed, indexed_kept, stand_ascend}
-use Rattle.lv_versions.proofs.Standing.{version_total}
+use Rattle.lv_versions.proofs.Indexing.{indexed_closed, indexed_kept}
 
 abbrev Lists : Type 0
 Lists = List (List RowVersion)
@@ -227,9 +226,3 @@ each_lacks v cs others count first next later = all_by_place (LacksItem v) other
     at zero lt = first
     at (suc zero) lt = next
     at (suc (suc j)) lt = let e : j + 2 ≡ suc (suc j) = omega arith in subst (λ k. LacksItem v (other_at others k)) e (later j (omega (arith, lt, count)))
-
--- the version that ended first, where a search of it ends
-pub first_found : (ps : List ℕ) (v : RowVersion) (order vs : List RowVersion) (at : ℕ) → slice_get order 0 ≡ Some v → Apart (Precedes ps) vs → AreEnded order vs → IsCut (comes_before ps v.row v.from) at vs → slice_get vs at ≡ Some v
-first_found ps v order vs at e stand a cut =
-    found_in (version_total ps) v at vs (stand_ascend ps vs stand)
-    (all_got (λ w. IsIn w vs) order 0 v e a.here) cut

@@ -10,3 +10,8 @@ pub mod Current
 pub mod Indexing
 pub mod Keeping
 pub mod Runs
+pub mod Chaining
+pub mod EndingChains
+pub mod BringingChains
+pub mod DroppingChains
+pub mod ReadingChains

@@ -17,7 +17,7 @@ use Rattle.lv_schema.specs.Once.{Ascends}
 use Rattle.lv_schema.proofs.Apart.{all_weaker}
 use Rattle.lv_schema.specs.declared.version.RowVersion.{RowVersion}
 use Rattle.lv_shelf.specs.Cuts.{Apart, Falls, IsCut}
-use Rattle.lv_versions.specs.Versions.{EndsBy, Precedes, comes_before, ends_after, is_at, new_version, precedes_by, reaches, reaches_by, state_at, version_cmp}
+use Rattle.lv_versions.specs.Versions.{EndsBy, Precedes, comes_before, ends_after, is_at, new_version, precedes_by, reaches_by, state_at, version_cmp}
 
 pub version_total : (ps : List ℕ) → IsTotalOrder (version_cmp ps)
 version_total ps = then_total (on_total (λ (v : RowVersion). values_at ps v.row) row_total) (on_total (λ (v : RowVersion). v.from) nat_cmp_total)
@@ -59,26 +59,6 @@ less_reaches x y key Equal b c e f t =
     let same : y ≡ key = row_exact y key f in
     ap (λ o. reaches_by o c) (subst (λ k. row_cmp x k ≡ Less) same e)
 less_reaches x y key Greater b c e f t = cc
-
-pub reaches_falls : (ps : List ℕ) (key : List Value) (n : ℕ) (vs : List RowVersion) → Apart (Precedes ps) vs → Falls (reaches ps key n) vs
-reaches_falls ps key n vs a = falls_from (reaches ps key n) (Precedes ps) step vs a
-  where
-    le_more : (x y : ℕ) → x < y → nat_le y n ≡ true → nat_le x n ≡ true
-    le_more x y lt t = grind (arith, nat_tests)
-
-    tied : (v w : RowVersion) → v.from < w.from → (o : Ordering) → reaches_by o (nat_le w.from n) ≡ true → reaches_by o (nat_le v.from n) ≡ true
-    tied v w lt Less t = refl
-    tied v w lt Equal t = le_more v.from w.from lt t
-    tied v w lt Greater t = t
-
-    step : (v w : RowVersion) → Precedes ps v w → reaches ps key n w ≡ true → reaches ps key n v ≡ true
-    step v w r t = by (key_cmp ps v.row w.row) refl r
-      where
-        by : (o : Ordering) → key_cmp ps v.row w.row ≡ o → precedes_by o v w → reaches ps key n v ≡ true
-        by Less e r' = less_reaches (values_at ps v.row) (values_at ps w.row) key (row_cmp (values_at ps w.row) key) (nat_le w.from n) (nat_le v.from n) e refl t
-        by Equal e r' =
-            tied v w r'.0 (row_cmp (values_at ps v.row) key) (ap (λ k. reaches_by (row_cmp k key) (nat_le w.from n)) (row_exact (values_at ps v.row) (values_at ps w.row) e) ∙ t)
-        by Greater e r' = absurd r'
 
 -- ---- a version goes in where those before it end
 turned : (r : Ordering) → is_gt (ordering_reverse r) ≡ is_lt r

@@ -17,6 +17,7 @@ use Rattle.lv_schema.specs.Once.{Ascends}
 use Rattle.lv_schema.specs.declared.version.RowVersion.{RowVersion}
 pub use Rattle.lv_schema.specs.Versions.{ends_after, end_by, is_at, new_version}
 use Rattle.lv_shelf.specs.Cuts.{Apart}
+use Rattle.lv_shelf.specs.Chains.{joined}
 use Rattle.lv_shelf.specs.Shelves.{LacksItem, other_at}
 
 -- the rows after commit n, in the order of the versions
@@ -61,10 +62,38 @@ Precedes positions v w = precedes_by (key_cmp positions v.row w.row) v w
 abbrev pub IsBy : ℕ → RowVersion → Type 0
 IsBy n v = (v.from ≤ n) × EndsAtMost n v.until
 
+-- it came before its end
+abbrev pub CameBefore : ℕ → Option ℕ → Type 0
+CameBefore n None = Unit {0}
+CameBefore n (Some k) = n < k
+
+abbrev pub Lived : RowVersion → Type 0
+Lived v = CameBefore v.from v.until
+
+-- versions of one key, the oldest first
+abbrev pub HaveOneKey : List ℕ → RowVersion → RowVersion → Type 0
+HaveOneKey positions v w = key_cmp positions v.row w.row ≡ Equal
+
+-- all of one chain have lesser keys than all of another one
+abbrev pub IsBelow : List ℕ → List RowVersion → List RowVersion → Type 0
+IsBelow positions c d = AllByRecursion (λ v. AllByRecursion (λ w. key_cmp positions v.row w.row ≡ Less) d) c
+
+-- chains of one key each, in the order of their keys, which differ
+abbrev pub AreChains : List ℕ → List (List RowVersion) → Type 0
+AreChains positions chains = AllByRecursion (Apart (HaveOneKey positions)) chains × Apart (IsBelow positions) chains
+
+-- each of a chain came before the later ones, and ended by then
+abbrev pub Succeeds : RowVersion → RowVersion → Type 0
+Succeeds v w = (v.from < w.from) × EndsBy w.from v.until
+
+abbrev pub AreHistories : List (List RowVersion) → Type 0
+AreHistories chains = AllByRecursion (Apart Succeeds) chains
+
 pub record AreVersions (positions : List ℕ) (last : ℕ) (floor : ℕ) (versions : List RowVersion) : Type 0 where
   pub order : Apart (Precedes positions) versions
   pub each : AllByRecursion (IsBy last) versions
   pub kept : AllByRecursion (λ v. ends_after floor v.until ≡ true) versions
+  pub lived : AllByRecursion Lived versions
 
 -- no end below a number
 abbrev pub EndsFrom : ℕ → Option ℕ → Type 0
@@ -151,21 +180,25 @@ HaveOrders positions columns spare [] versions = (columns ≡ []) × (versions �
 HaveOrders positions columns spare (order ∷ []) versions = (columns ≡ []) × (versions ≡ []) × (spare ≡ 0) × (order ≡ [])
 HaveOrders positions columns spare (order ∷ next ∷ more) versions = AreOrders positions columns (order ∷ next ∷ more) versions
 
--- what a reader looks at: all versions, or those of a further order
-abbrev pub seen_in : Option ℕ → List (List RowVersion) → List RowVersion → List RowVersion
-seen_in None others versions = versions
-seen_in (Some order) others versions = other_at others order
+-- what a reader looks at: all chains, or the versions of a further order, each by itself
+abbrev pub alone : RowVersion → List RowVersion
+alone v = v ∷ []
+
+abbrev pub seen_in : Option ℕ → List (List RowVersion) → List (List RowVersion) → List (List RowVersion)
+seen_in None others chains = chains
+seen_in (Some order) others chains = map alone (other_at others order)
 
 abbrev pub IsSeen : Option ℕ → List (List RowVersion) → Type 0
 IsSeen None others = Unit {0}
 IsSeen (Some order) others = order < length others
 
 -- and no version that a clean-up below the soonest end would drop, and the further orders
-pub record AreKept (positions : List ℕ) (last floor soonest : ℕ) (columns : List (List ℕ)) (kept : Bool) (spare : ℕ) (others : List (List RowVersion)) (versions : List RowVersion) : Type 0 where
-  pub are : AreVersions positions last floor versions
-  pub ends : AllByRecursion (λ v. EndsFrom soonest v.until) versions
-  pub orders : HaveOrders positions columns spare others versions
-  pub current : other_at others 1 ≡ current_of kept versions
+pub record AreKept (positions : List ℕ) (last floor soonest : ℕ) (columns : List (List ℕ)) (kept : Bool) (spare : ℕ) (others chains : List (List RowVersion)) : Type 0 where
+  pub are : AreVersions positions last floor (joined chains)
+  pub chained : AreChains positions chains
+  pub ends : AllByRecursion (λ v. EndsFrom soonest v.until) (joined chains)
+  pub orders : HaveOrders positions columns spare others (joined chains)
+  pub current : other_at others 1 ≡ current_of kept (joined chains)
 
 -- the soonest end after a commit that takes these rows away
 abbrev pub soonest_after : ℕ → ℕ → List (List Value) → ℕ
@@ -210,6 +243,14 @@ comes_before positions row number v = is_lt (version_cmp positions v (new_versio
 abbrev pub comes_before_in : List ℕ → List ℕ → List Value → ℕ → RowVersion → Bool
 comes_before_in columns positions row number v = is_lt (index_cmp columns positions v (new_version number row))
 
+-- whether a version's key is not above that of a row
+abbrev pub upto : List ℕ → List Value → RowVersion → Bool
+upto positions row v = not (is_gt (key_cmp positions v.row row))
+
+-- whether a version came by commit n
+abbrev pub came_by : ℕ → RowVersion → Bool
+came_by n v = nat_le v.from n
+
 abbrev pub is_current : List ℕ → List Value → ℕ → RowVersion → Bool
 is_current positions row number v = is_none v.until && (nat_lt v.from number && same_key positions v.row row)
 
@@ -229,14 +270,11 @@ ends_from positions row rows = is_last_from positions row (slice_get rows (lengt
 abbrev pub IsOlder : List ℕ → ℕ → List Value → RowVersion → Type 0
 IsOlder positions number row v = key_cmp positions row v.row ≡ Equal → v.from < number
 
--- whether a version's key is below a key, or is that key and came by commit n
+-- less passes, and equal where that counts too
 abbrev pub reaches_by : Ordering → Bool → Bool
 reaches_by Less b = true
 reaches_by Equal b = b
 reaches_by Greater b = false
-
-abbrev pub reaches : List ℕ → List Value → ℕ → RowVersion → Bool
-reaches positions key n v = reaches_by (row_cmp (values_at positions v.row) key) (nat_le v.from n)
 
 -- whether its values in some columns are below others, or, if these count too, are these
 abbrev pub is_upto : List ℕ → List Value → Bool → RowVersion → Bool

@@ -1,98 +1,93 @@
 //! What a commit does to versions, in place.
-ghost use Rattle.std.specs.Prelude.{◌≡◌, ◌+◌, ◌++◌, ◌<◌, ◌≤◌, ◌∷◌, [], IfSome, List, MatchOption, Some, false, true, filter, is_some, length, map, slice_get, slice_set};
+ghost use Rattle.std.specs.Prelude.{◌≡◌, ◌+◌, ◌-◌, ◌++◌, ◌<◌, ◌≤◌, ◌∷◌, [], IfSome, List, MatchOption, Some, false, true, filter, is_some, length, map, slice_get, slice_set};
 ghost use Rattle.std.specs.List.{AllByRecursion, insert};
+ghost use Rattle.std.specs.declared.cmp.Ordering.TheVariants.{Equal};
+ghost use Rattle.lv_values.specs.Rows.{key_cmp};
 ghost use Rattle.lv_values.specs.Ascending.{placed};
 ghost use Rattle.lv_shelf.specs.Cuts.{Apart, IsCut};
 ghost use Rattle.lv_shelf.specs.Shelves.{LacksItem, other_at};
 ghost use Rattle.lv_schema.specs.declared.version.RowVersion.{RowVersion};
-ghost use Rattle.lv_versions.specs.Versions.{AreNew, AreOrders, EndsAtMost, HaveOrders, IsOlder, Precedes, closed, comes_before, current_of, ends_from, is_current, is_open, lost, new_version, version_cmp, with_versions};
+ghost use Rattle.lv_shelf.specs.Chains.{before, chain_at, joined, newest_of};
+ghost use Rattle.lv_versions.specs.Versions.{AreChains, AreNew, AreOrders, EndsAtMost, HaveOrders, IsOlder, Precedes, closed, current_of, ends_from, is_current, is_open, lost, new_version, upto, version_cmp, with_versions};
 
 use crate::indexes::{CURRENT, ENDED, enter_each};
 use crate::rank::rank;
-use crate::version::{ComesBefore, EndAt, is_current};
+use crate::version::{EndAt, HasKeyUpTo, is_current};
 use lv_schema::{Net, Positions, RowVersion};
-use lv_shelf::Shelf;
+use lv_shelf::ChainShelf;
 use lv_values::{Row, Rows, compare_keys};
 
-/// Puts the version at a place last into the order of the ended ones.
-fn enter_last(at: usize, versions: &mut Shelf<RowVersion>)
-    requires at { at < length versions.old.list }
+/// Puts the newest version of a chain last into the order of the ended ones.
+fn enter_last(chain: usize, versions: &mut ChainShelf<RowVersion>)
+    requires chain { chain < length versions.old.chains }
     requires some { 0 < length versions.old.others }
-    requires absent { (v : RowVersion) → slice_get versions.old.list at ≡ Some v → LacksItem v (other_at versions.old.others 0) }
-    ensures entered { (v : RowVersion) → slice_get versions.old.list at ≡ Some v → versions.new.others ≡ slice_set versions.old.others 0 (other_at versions.old.others 0 ++ v ∷ []) }
-    ensures same { versions.new.list ≡ versions.old.list }
+    requires absent { (v : RowVersion) → newest_of (chain_at versions.old.chains chain) ≡ Some v → LacksItem v (other_at versions.old.others 0) }
+    ensures entered { (v : RowVersion) → newest_of (chain_at versions.old.chains chain) ≡ Some v → versions.new.others ≡ slice_set versions.old.others 0 (other_at versions.old.others 0 ++ v ∷ []) }
+    ensures same { versions.new.chains ≡ versions.old.chains }
     ensures room { versions.new.spare ≡ versions.old.spare }
 {
     let last = versions.len_in(ENDED);
-    versions.enter(ENDED, last, at, 0);
+    versions.enter(ENDED, last, chain, 0);
 }
 
-/// The place of the version of a row that a commit brings: behind those of lesser keys, and those of its key that came
-/// before. Cost: a binary search.
-fn place_of(positions: &[u8], row: &Row, number: u64, versions: &Shelf<RowVersion>) -> usize
-    requires { Apart (Precedes positions.now) versions.now.list }
-    ensures within { result ≤ length versions.now.list }
-    ensures cut { IsCut (comes_before positions.now row.now number) result versions.now.list }
+/// How many chains have keys up to that of a row: the last of them is that of its key, if there is one. Cost: a binary
+/// search.
+fn place_of(positions: &[u8], row: &Row, versions: &ChainShelf<RowVersion>) -> usize
+    requires stand { Apart (Precedes positions.now) (joined versions.now.chains) }
+    requires chained { AreChains positions.now versions.now.chains }
+    ensures within { result ≤ length versions.now.chains }
+    ensures cut { IsCut (upto positions.now row.now) (before versions.now.chains result) (joined versions.now.chains) }
 {
-    let before = ComesBefore {
-        positions,
-        row,
-        number,
-    };
-    versions.cut_near(rank(positions, row), &before)
+    versions.cut_near(rank(positions, row), &HasKeyUpTo { positions, row })
 }
 
-/// How many of the versions that have not ended stand before the place of the version of a row. Cost: a binary search.
-fn place_among_current(
-    positions: &[u8],
-    row: &Row,
-    number: u64,
-    versions: &Shelf<RowVersion>,
-) -> usize
+/// How many of the versions that have not ended have keys up to that of a row. Cost: a binary search.
+fn place_among_current(positions: &[u8], row: &Row, versions: &ChainShelf<RowVersion>) -> usize
     requires order { 1 < length versions.now.others }
-    requires stand { Apart (Precedes positions.now) versions.now.list }
-    requires current { other_at versions.now.others 1 ≡ filter is_open versions.now.list }
+    requires stand { Apart (Precedes positions.now) (joined versions.now.chains) }
+    requires current { other_at versions.now.others 1 ≡ filter is_open (joined versions.now.chains) }
     ensures within { result ≤ length (other_at versions.now.others 1) }
-    ensures cut { IsCut (comes_before positions.now row.now number) result (other_at versions.now.others 1) }
+    ensures cut { IsCut (upto positions.now row.now) result (other_at versions.now.others 1) }
 {
-    let before = ComesBefore {
-        positions,
-        row,
-        number,
-    };
-    versions.cut_in_near(CURRENT, rank(positions, row), &before)
+    versions.cut_in_near(
+        CURRENT,
+        rank(positions, row),
+        &HasKeyUpTo { positions, row },
+    )
 }
 
-/// Takes the version at a place, which is the row's current one and is about to end, out of the order of those that have
-/// not ended, if that is kept, and answers where it stood there. Cost: a binary search, and a move of small numbers.
+/// Takes the newest version of a chain, which is the row's current one and is about to end, out of the order of those that
+/// have not ended, if that is kept, and answers where it stood there. Cost: a binary search, and a move of small numbers.
 fn leave_current(
     positions: &[u8],
     kept: bool,
     row: &Row,
     number: u64,
-    at: usize,
-    versions: &mut Shelf<RowVersion>,
+    chain: usize,
+    versions: &mut ChainShelf<RowVersion>,
 ) -> usize
-    requires stand { Apart (Precedes positions.now) versions.old.list }
+    requires stand { Apart (Precedes positions.now) (joined versions.old.chains) }
     requires order { 1 < length versions.old.others }
-    requires current { other_at versions.old.others 1 ≡ current_of kept versions.old.list }
-    requires cut { IsCut (comes_before positions.now row.now number) (at + 1) versions.old.list }
-    requires is { (v : RowVersion) → slice_get versions.old.list at ≡ Some v → is_current positions.now row.now number v ≡ true }
-    ensures left { map (closed positions.now number (row.now ∷ [])) (other_at versions.new.others 1) ≡ current_of kept (map (closed positions.now number (row.now ∷ [])) versions.old.list) }
+    requires current { other_at versions.old.others 1 ≡ current_of kept (joined versions.old.chains) }
+    requires chain { chain < length versions.old.chains }
+    requires cut { IsCut (upto positions.now row.now) (before versions.old.chains (chain + 1)) (joined versions.old.chains) }
+    requires is { (v : RowVersion) → newest_of (chain_at versions.old.chains chain) ≡ Some v → is_current positions.now row.now number v ≡ true }
+    requires some { 0 < length (chain_at versions.old.chains chain) }
+    ensures left { map (closed positions.now number (row.now ∷ [])) (other_at versions.new.others 1) ≡ current_of kept (map (closed positions.now number (row.now ∷ [])) (joined versions.old.chains)) }
     ensures others { versions.new.others ≡ slice_set versions.old.others 1 (other_at versions.new.others 1) }
-    ensures place { kept ≡ true → IsCut (comes_before positions.now row.now number) result (current_of kept (map (closed positions.now number (row.now ∷ [])) versions.old.list)) }
-    ensures same { versions.new.list ≡ versions.old.list }
+    ensures place { kept ≡ true → IsCut (upto positions.now row.now) result (current_of kept (map (closed positions.now number (row.now ∷ [])) (joined versions.old.chains))) }
+    ensures same { versions.new.chains ≡ versions.old.chains }
     ensures room { versions.new.spare ≡ versions.old.spare }
 {
     if !kept {
         return 0;
     }
-    let place = place_among_current(positions, row, number, versions) - 1;
+    let place = place_among_current(positions, row, versions) - 1;
     versions.leave(CURRENT, place);
     place
 }
 
-/// Ends the version at a place, which is the row's current one, and answers where it stood in the order of those that
+/// Ends the newest version of a chain, which is the row's current one, and answers where it stood in the order of those that
 /// have not ended, if that is kept. Cost: as of `leave_current`.
 fn end_at(
     positions: &[u8],
@@ -100,57 +95,60 @@ fn end_at(
     kept: bool,
     row: &Row,
     number: u64,
-    at: usize,
-    versions: &mut Shelf<RowVersion>,
+    chain: usize,
+    versions: &mut ChainShelf<RowVersion>,
 ) -> usize
-    requires stand { Apart (Precedes positions.now) versions.old.list }
-    requires ends { AllByRecursion (λ v. EndsAtMost number v.until) versions.old.list }
-    requires orders { AreOrders positions.now indexes.now versions.old.others versions.old.list }
-    requires current { other_at versions.old.others 1 ≡ current_of kept versions.old.list }
-    requires cut { IsCut (comes_before positions.now row.now number) (at + 1) versions.old.list }
-    requires is { (v : RowVersion) → slice_get versions.old.list at ≡ Some v → is_current positions.now row.now number v ≡ true }
-    ensures ended { versions.new.list ≡ map (closed positions.now number (row.now ∷ [])) versions.old.list }
-    ensures orders { AreOrders positions.now indexes.now versions.new.others versions.new.list }
-    ensures current { other_at versions.new.others 1 ≡ current_of kept versions.new.list }
+    requires stand { Apart (Precedes positions.now) (joined versions.old.chains) }
+    requires ends { AllByRecursion (λ v. EndsAtMost number v.until) (joined versions.old.chains) }
+    requires orders { AreOrders positions.now indexes.now versions.old.others (joined versions.old.chains) }
+    requires current { other_at versions.old.others 1 ≡ current_of kept (joined versions.old.chains) }
+    requires chain { chain < length versions.old.chains }
+    requires cut { IsCut (upto positions.now row.now) (before versions.old.chains (chain + 1)) (joined versions.old.chains) }
+    requires is { (v : RowVersion) → newest_of (chain_at versions.old.chains chain) ≡ Some v → is_current positions.now row.now number v ≡ true }
+    requires some { 0 < length (chain_at versions.old.chains chain) }
+    ensures ended { versions.new.chains ≡ map (map (closed positions.now number (row.now ∷ []))) versions.old.chains }
+    ensures orders { AreOrders positions.now indexes.now versions.new.others (joined versions.new.chains) }
+    ensures current { other_at versions.new.others 1 ≡ current_of kept (joined versions.new.chains) }
     ensures room { versions.new.spare ≡ versions.old.spare }
-    ensures place { kept ≡ true → IsCut (comes_before positions.now row.now number) result (other_at versions.new.others 1) }
+    ensures place { kept ≡ true → IsCut (upto positions.now row.now) result (other_at versions.new.others 1) }
 {
-    let place = leave_current(positions, kept, row, number, at, versions);
+    let place = leave_current(positions, kept, row, number, chain, versions);
     let end = EndAt {
         positions,
         row,
         number,
     };
-    versions.edit(at, &end);
-    enter_last(at, versions);
+    versions.edit(chain, &end);
+    enter_last(chain, versions);
     place
 }
 
-/// Ends the version before the place of a row, if it has the row's key and has not ended, and answers where it stood in the
-/// order of those that have not, if that is kept. Cost: as of `end_at`, or constant where none ends.
+/// Ends the newest version of the chain before the place of a row, if it has the row's key, came before the commit and has
+/// not ended, and answers where it stood in the order of those that have not, if that is kept. Cost: as of `end_at`, or
+/// constant where none ends.
 fn end_before(
     positions: &[u8],
     indexes: &[Positions],
     kept: bool,
     row: &Row,
     number: u64,
-    at: usize,
-    versions: &mut Shelf<RowVersion>,
+    place: usize,
+    versions: &mut ChainShelf<RowVersion>,
 ) -> Option<usize>
-    requires stand { Apart (Precedes positions.now) versions.old.list }
-    requires ends { AllByRecursion (λ v. EndsAtMost number v.until) versions.old.list }
-    requires orders { HaveOrders positions.now indexes.now versions.old.spare versions.old.others versions.old.list }
-    requires current { other_at versions.old.others 1 ≡ current_of kept versions.old.list }
-    requires cut { IsCut (comes_before positions.now row.now number) at versions.old.list }
-    requires within { at ≤ length versions.old.list }
-    ensures ended { versions.new.list ≡ map (closed positions.now number (row.now ∷ [])) versions.old.list }
-    ensures orders { HaveOrders positions.now indexes.now versions.new.spare versions.new.others versions.new.list }
-    ensures current { other_at versions.new.others 1 ≡ current_of kept versions.new.list }
+    requires stand { Apart (Precedes positions.now) (joined versions.old.chains) }
+    requires ends { AllByRecursion (λ v. EndsAtMost number v.until) (joined versions.old.chains) }
+    requires orders { HaveOrders positions.now indexes.now versions.old.spare versions.old.others (joined versions.old.chains) }
+    requires current { other_at versions.old.others 1 ≡ current_of kept (joined versions.old.chains) }
+    requires within { place ≤ length versions.old.chains }
+    requires cut { IsCut (upto positions.now row.now) (before versions.old.chains place) (joined versions.old.chains) }
+    ensures ended { versions.new.chains ≡ map (map (closed positions.now number (row.now ∷ []))) versions.old.chains }
+    ensures orders { HaveOrders positions.now indexes.now versions.new.spare versions.new.others (joined versions.new.chains) }
+    ensures current { other_at versions.new.others 1 ≡ current_of kept (joined versions.new.chains) }
     ensures room { versions.new.spare ≡ versions.old.spare }
-    ensures place { IfSome result (λ place. kept ≡ true → IsCut (comes_before positions.now row.now number) place (other_at versions.new.others 1)) }
+    ensures place { IfSome result (λ at. kept ≡ true → IsCut (upto positions.now row.now) at (other_at versions.new.others 1)) }
 {
-    if at > 0 && is_current(positions, row, number, versions.get(at - 1)) {
-        Some(end_at(positions, indexes, kept, row, number, at - 1, versions))
+    if place > 0 && is_current(positions, row, number, versions.newest(place - 1)) {
+        Some(end_at(positions, indexes, kept, row, number, place - 1, versions))
     } else {
         None
     }
@@ -163,21 +161,23 @@ fn end_row(
     kept: bool,
     row: &Row,
     number: u64,
-    versions: &mut Shelf<RowVersion>,
+    versions: &mut ChainShelf<RowVersion>,
 )
-    requires stand { Apart (Precedes positions.now) versions.old.list }
-    requires ends { AllByRecursion (λ v. EndsAtMost number v.until) versions.old.list }
-    requires orders { HaveOrders positions.now indexes.now versions.old.spare versions.old.others versions.old.list }
-    requires current { other_at versions.old.others 1 ≡ current_of kept versions.old.list }
-    ensures ended { versions.new.list ≡ map (closed positions.now number (row.now ∷ [])) versions.old.list }
-    ensures stand { Apart (Precedes positions.now) versions.new.list }
-    ensures ends { AllByRecursion (λ v. EndsAtMost number v.until) versions.new.list }
-    ensures orders { HaveOrders positions.now indexes.now versions.new.spare versions.new.others versions.new.list }
-    ensures current { other_at versions.new.others 1 ≡ current_of kept versions.new.list }
+    requires stand { Apart (Precedes positions.now) (joined versions.old.chains) }
+    requires chained { AreChains positions.now versions.old.chains }
+    requires ends { AllByRecursion (λ v. EndsAtMost number v.until) (joined versions.old.chains) }
+    requires orders { HaveOrders positions.now indexes.now versions.old.spare versions.old.others (joined versions.old.chains) }
+    requires current { other_at versions.old.others 1 ≡ current_of kept (joined versions.old.chains) }
+    ensures ended { versions.new.chains ≡ map (map (closed positions.now number (row.now ∷ []))) versions.old.chains }
+    ensures stand { Apart (Precedes positions.now) (joined versions.new.chains) }
+    ensures chained { AreChains positions.now versions.new.chains }
+    ensures ends { AllByRecursion (λ v. EndsAtMost number v.until) (joined versions.new.chains) }
+    ensures orders { HaveOrders positions.now indexes.now versions.new.spare versions.new.others (joined versions.new.chains) }
+    ensures current { other_at versions.new.others 1 ≡ current_of kept (joined versions.new.chains) }
     ensures room { versions.new.spare ≡ versions.old.spare }
 {
-    let at = place_of(positions, row, number, versions);
-    end_before(positions, indexes, kept, row, number, at, versions);
+    let place = place_of(positions, row, versions);
+    end_before(positions, indexes, kept, row, number, place, versions);
 }
 
 /// Ends the versions that have the keys of some rows. Cost: a binary search for each.
@@ -187,16 +187,18 @@ fn end_rows(
     kept: bool,
     rows: &[Row],
     number: u64,
-    versions: &mut Shelf<RowVersion>,
+    versions: &mut ChainShelf<RowVersion>,
 )
-    requires stand { Apart (Precedes positions.now) versions.old.list }
-    requires ends { AllByRecursion (λ v. EndsAtMost number v.until) versions.old.list }
-    requires orders { HaveOrders positions.now indexes.now versions.old.spare versions.old.others versions.old.list }
-    requires current { other_at versions.old.others 1 ≡ current_of kept versions.old.list }
-    ensures ended { versions.new.list ≡ map (closed positions.now number rows.now) versions.old.list }
-    ensures stand { Apart (Precedes positions.now) versions.new.list }
-    ensures orders { HaveOrders positions.now indexes.now versions.new.spare versions.new.others versions.new.list }
-    ensures current { other_at versions.new.others 1 ≡ current_of kept versions.new.list }
+    requires stand { Apart (Precedes positions.now) (joined versions.old.chains) }
+    requires chained { AreChains positions.now versions.old.chains }
+    requires ends { AllByRecursion (λ v. EndsAtMost number v.until) (joined versions.old.chains) }
+    requires orders { HaveOrders positions.now indexes.now versions.old.spare versions.old.others (joined versions.old.chains) }
+    requires current { other_at versions.old.others 1 ≡ current_of kept (joined versions.old.chains) }
+    ensures ended { (joined versions.new.chains) ≡ map (closed positions.now number rows.now) (joined versions.old.chains) }
+    ensures stand { Apart (Precedes positions.now) (joined versions.new.chains) }
+    ensures chained { AreChains positions.now versions.new.chains }
+    ensures orders { HaveOrders positions.now indexes.now versions.new.spare versions.new.others (joined versions.new.chains) }
+    ensures current { other_at versions.new.others 1 ≡ current_of kept (joined versions.new.chains) }
     ensures room { versions.new.spare ≡ versions.old.spare }
 {
     for row in rows {
@@ -235,18 +237,20 @@ fn end_above(
     row: &Row,
     number: u64,
     minus: &mut Rows,
-    versions: &mut Shelf<RowVersion>,
+    versions: &mut ChainShelf<RowVersion>,
 )
-    requires stand { Apart (Precedes positions.now) versions.old.list }
-    requires ends { AllByRecursion (λ v. EndsAtMost number v.until) versions.old.list }
-    requires orders { HaveOrders positions.now indexes.now versions.old.spare versions.old.others versions.old.list }
-    requires current { other_at versions.old.others 1 ≡ current_of kept versions.old.list }
+    requires stand { Apart (Precedes positions.now) (joined versions.old.chains) }
+    requires chained { AreChains positions.now versions.old.chains }
+    requires ends { AllByRecursion (λ v. EndsAtMost number v.until) (joined versions.old.chains) }
+    requires orders { HaveOrders positions.now indexes.now versions.old.spare versions.old.others (joined versions.old.chains) }
+    requires current { other_at versions.old.others 1 ≡ current_of kept (joined versions.old.chains) }
     ensures left { ends_from positions.now row.now minus.new ≡ false }
-    ensures same { map (closed positions.now number minus.new) (map (closed positions.now number (row.now ∷ [])) versions.new.list) ≡ map (closed positions.now number minus.old) (map (closed positions.now number (row.now ∷ [])) versions.old.list) }
-    ensures stand { Apart (Precedes positions.now) versions.new.list }
-    ensures ends { AllByRecursion (λ v. EndsAtMost number v.until) versions.new.list }
-    ensures orders { HaveOrders positions.now indexes.now versions.new.spare versions.new.others versions.new.list }
-    ensures current { other_at versions.new.others 1 ≡ current_of kept versions.new.list }
+    ensures same { map (closed positions.now number minus.new) (map (closed positions.now number (row.now ∷ [])) (joined versions.new.chains)) ≡ map (closed positions.now number minus.old) (map (closed positions.now number (row.now ∷ [])) (joined versions.old.chains)) }
+    ensures stand { Apart (Precedes positions.now) (joined versions.new.chains) }
+    ensures chained { AreChains positions.now versions.new.chains }
+    ensures ends { AllByRecursion (λ v. EndsAtMost number v.until) (joined versions.new.chains) }
+    ensures orders { HaveOrders positions.now indexes.now versions.new.spare versions.new.others (joined versions.new.chains) }
+    ensures current { other_at versions.new.others 1 ≡ current_of kept (joined versions.new.chains) }
     ensures room { versions.new.spare ≡ versions.old.spare }
 {
     while let Some(lost) = pop_from(positions, row, minus) {
@@ -262,19 +266,18 @@ fn place_of_current(
     ended: Option<usize>,
     positions: &[u8],
     row: &Row,
-    number: u64,
-    versions: &Shelf<RowVersion>,
+    versions: &ChainShelf<RowVersion>,
 ) -> usize
     requires order { 1 < length versions.now.others }
-    requires stand { Apart (Precedes positions.now) versions.now.list }
-    requires current { other_at versions.now.others 1 ≡ filter is_open versions.now.list }
-    requires told { IfSome ended (λ place. IsCut (comes_before positions.now row.now number) place (other_at versions.now.others 1)) }
+    requires stand { Apart (Precedes positions.now) (joined versions.now.chains) }
+    requires current { other_at versions.now.others 1 ≡ filter is_open (joined versions.now.chains) }
+    requires told { IfSome ended (λ place. IsCut (upto positions.now row.now) place (other_at versions.now.others 1)) }
     ensures within { result ≤ length (other_at versions.now.others 1) }
-    ensures cut { IsCut (comes_before positions.now row.now number) result (other_at versions.now.others 1) }
+    ensures cut { IsCut (upto positions.now row.now) result (other_at versions.now.others 1) }
 {
     match ended {
         Some(place) => place,
-        None => place_among_current(positions, row, number, versions),
+        None => place_among_current(positions, row, versions),
     }
 }
 
@@ -289,66 +292,114 @@ fn version_of(row: Row, number: u64) -> RowVersion
     }
 }
 
-/// Puts a version of a row that a commit brings at a place, and into the order of those that have not ended, if that is
-/// kept. Cost: a move of small numbers, and where that is kept one more, with a binary search if none of its key ended.
+/// Whether the chain before a place is of a row's key.
+fn ends_on_key(positions: &[u8], row: &Row, place: usize, versions: &ChainShelf<RowVersion>) -> bool
+    requires { place ≤ length versions.now.chains }
+    ensures some { result ≡ true → 0 < place }
+    ensures here { 0 < place → 0 < length (chain_at versions.now.chains (place - 1)) }
+    ensures key { (v : RowVersion) → result ≡ true → newest_of (chain_at versions.now.chains (place - 1)) ≡ Some v → key_cmp positions.now v.row row.now ≡ Equal }
+    ensures other { (v : RowVersion) → result ≡ false → 0 < place → newest_of (chain_at versions.now.chains (place - 1)) ≡ Some v → key_cmp positions.now v.row row.now ≡ Equal → ⊥ }
+{
+    place > 0 && compare_keys(positions, &versions.newest(place - 1).row, row).is_eq()
+}
+
+/// Puts a version of a row that a commit brings behind the chain before a place, if that is of its key, or else begins a
+/// chain there; and answers which chain has it. Cost: constant, or a move of small numbers.
+fn put_version(
+    positions: &[u8],
+    row: Row,
+    number: u64,
+    place: usize,
+    versions: &mut ChainShelf<RowVersion>,
+) -> usize
+    requires chained { AreChains positions.now versions.old.chains }
+    requires within { place ≤ length versions.old.chains }
+    requires cut { IsCut (upto positions.now row) (before versions.old.chains place) (joined versions.old.chains) }
+    requires room { 0 < versions.old.spare }
+    ensures added { joined versions.new.chains ≡ insert (joined versions.old.chains) (before versions.old.chains place) (new_version number row) }
+    ensures chained { AreChains positions.now versions.new.chains }
+    ensures within { result < length versions.new.chains }
+    ensures newest { newest_of (chain_at versions.new.chains result) ≡ Some (new_version number row) }
+    ensures others { versions.new.others ≡ versions.old.others }
+    ensures room { versions.new.spare + 1 ≡ versions.old.spare }
+{
+    let rank = rank(positions, &row);
+    if ends_on_key(positions, &row, place, versions) {
+        versions.push(place - 1, version_of(row, number), rank);
+        place - 1
+    } else {
+        versions.insert(place, version_of(row, number), rank);
+        place
+    }
+}
+
+/// Puts a version of a row that a commit brings at its place, and into the order of those that have not ended, if that is
+/// kept, and answers which chain has it. Cost: as of `put_version`, and where that order is kept a move of small numbers more,
+/// with a binary search if none of its key ended.
 fn insert_row(
     positions: &[u8],
     kept: bool,
     ended: Option<usize>,
     row: Row,
     number: u64,
-    at: usize,
-    versions: &mut Shelf<RowVersion>,
-)
-    requires stand { Apart (Precedes positions.now) versions.old.list }
+    place: usize,
+    versions: &mut ChainShelf<RowVersion>,
+) -> usize
+    requires stand { Apart (Precedes positions.now) (joined versions.old.chains) }
+    requires chained { AreChains positions.now versions.old.chains }
     requires order { 1 < length versions.old.others }
-    requires current { other_at versions.old.others 1 ≡ current_of kept versions.old.list }
-    requires told { IfSome ended (λ place. kept ≡ true → IsCut (comes_before positions.now row number) place (other_at versions.old.others 1)) }
-    requires cut { IsCut (comes_before positions.now row number) at versions.old.list }
-    requires within { at ≤ length versions.old.list }
-    requires new { LacksItem (new_version number row) versions.old.list }
+    requires current { other_at versions.old.others 1 ≡ current_of kept (joined versions.old.chains) }
+    requires told { IfSome ended (λ at. kept ≡ true → IsCut (upto positions.now row) at (other_at versions.old.others 1)) }
+    requires cut { IsCut (upto positions.now row) (before versions.old.chains place) (joined versions.old.chains) }
+    requires within { place ≤ length versions.old.chains }
+    requires new { LacksItem (new_version number row) (joined versions.old.chains) }
     requires room { 0 < versions.old.spare }
-    ensures added { versions.new.list ≡ insert versions.old.list at (new_version number row) }
+    ensures added { joined versions.new.chains ≡ insert (joined versions.old.chains) (before versions.old.chains place) (new_version number row) }
+    ensures chained { AreChains positions.now versions.new.chains }
+    ensures within { result < length versions.new.chains }
+    ensures newest { newest_of (chain_at versions.new.chains result) ≡ Some (new_version number row) }
     ensures others { versions.new.others ≡ slice_set versions.old.others 1 (other_at versions.new.others 1) }
-    ensures current { other_at versions.new.others 1 ≡ current_of kept versions.new.list }
+    ensures current { other_at versions.new.others 1 ≡ current_of kept (joined versions.new.chains) }
     ensures room { versions.new.spare + 1 ≡ versions.old.spare }
 {
-    let rank = rank(positions, &row);
     if !kept {
-        versions.insert(at, version_of(row, number), rank);
-        return;
+        return put_version(positions, row, number, place, versions);
     }
-    let place = place_of_current(ended, positions, &row, number, versions);
-    versions.insert(at, version_of(row, number), rank);
-    versions.enter(CURRENT, place, at, rank);
+    let rank = rank(positions, &row);
+    let at = place_of_current(ended, positions, &row, versions);
+    let chain = put_version(positions, row, number, place, versions);
+    versions.enter(CURRENT, at, chain, rank);
+    chain
 }
 
 /// Puts a version of a row that a commit brings at its place, into the order of those that have not ended, if that is
 /// kept, and into each index, and ends the version that has its key and has not ended. Cost: a binary search, and a move
-/// of small numbers, for each of them.
+/// of small numbers for each of them, but none among the chains where there is one of its key.
 fn put_row(
     positions: &[u8],
     indexes: &[Positions],
     kept: bool,
     row: Row,
     number: u64,
-    versions: &mut Shelf<RowVersion>,
+    versions: &mut ChainShelf<RowVersion>,
 )
-    requires stand { Apart (Precedes positions.now) versions.old.list }
-    requires ends { AllByRecursion (λ v. EndsAtMost number v.until) versions.old.list }
-    requires older { AllByRecursion (IsOlder positions.now number row) versions.old.list }
-    requires orders { HaveOrders positions.now indexes.now versions.old.spare versions.old.others versions.old.list }
-    requires current { other_at versions.old.others 1 ≡ current_of kept versions.old.list }
+    requires stand { Apart (Precedes positions.now) (joined versions.old.chains) }
+    requires chained { AreChains positions.now versions.old.chains }
+    requires ends { AllByRecursion (λ v. EndsAtMost number v.until) (joined versions.old.chains) }
+    requires older { AllByRecursion (IsOlder positions.now number row) (joined versions.old.chains) }
+    requires orders { HaveOrders positions.now indexes.now versions.old.spare versions.old.others (joined versions.old.chains) }
+    requires current { other_at versions.old.others 1 ≡ current_of kept (joined versions.old.chains) }
     requires room { 0 < versions.old.spare }
-    ensures put { versions.new.list ≡ placed (version_cmp positions.now) (new_version number row) (map (closed positions.now number (row ∷ [])) versions.old.list) }
-    ensures orders { HaveOrders positions.now indexes.now versions.new.spare versions.new.others versions.new.list }
-    ensures current { other_at versions.new.others 1 ≡ current_of kept versions.new.list }
+    ensures put { joined versions.new.chains ≡ placed (version_cmp positions.now) (new_version number row) (map (closed positions.now number (row ∷ [])) (joined versions.old.chains)) }
+    ensures chained { AreChains positions.now versions.new.chains }
+    ensures orders { HaveOrders positions.now indexes.now versions.new.spare versions.new.others (joined versions.new.chains) }
+    ensures current { other_at versions.new.others 1 ≡ current_of kept (joined versions.new.chains) }
     ensures room { versions.new.spare + 1 ≡ versions.old.spare }
 {
-    let at = place_of(positions, &row, number, versions);
-    let ended = end_before(positions, indexes, kept, &row, number, at, versions);
-    insert_row(positions, kept, ended, row, number, at, versions);
-    enter_each(positions, indexes, at, versions);
+    let place = place_of(positions, &row, versions);
+    let ended = end_before(positions, indexes, kept, &row, number, place, versions);
+    let chain = insert_row(positions, kept, ended, row, number, place, versions);
+    enter_each(positions, indexes, chain, versions);
 }
 
 /// Puts versions of the rows that come at their places, and ends those that they replace. Of the rows that go, those
@@ -361,20 +412,22 @@ fn put_rows(
     minus: &mut Rows,
     mut plus: Rows,
     number: u64,
-    versions: &mut Shelf<RowVersion>,
+    versions: &mut ChainShelf<RowVersion>,
 )
-    requires stand { Apart (Precedes positions.now) versions.old.list }
-    requires ends { AllByRecursion (λ v. EndsAtMost number v.until) versions.old.list }
-    requires orders { HaveOrders positions.now indexes.now versions.old.spare versions.old.others versions.old.list }
-    requires current { other_at versions.old.others 1 ≡ current_of kept versions.old.list }
-    requires new { AreNew positions.now number plus (map (closed positions.now number plus) (map (closed positions.now number minus.old) versions.old.list)) }
+    requires stand { Apart (Precedes positions.now) (joined versions.old.chains) }
+    requires chained { AreChains positions.now versions.old.chains }
+    requires ends { AllByRecursion (λ v. EndsAtMost number v.until) (joined versions.old.chains) }
+    requires orders { HaveOrders positions.now indexes.now versions.old.spare versions.old.others (joined versions.old.chains) }
+    requires current { other_at versions.old.others 1 ≡ current_of kept (joined versions.old.chains) }
+    requires new { AreNew positions.now number plus (map (closed positions.now number plus) (map (closed positions.now number minus.old) (joined versions.old.chains))) }
     requires room { length plus ≤ versions.old.spare }
     ensures left { IfSome (slice_get plus 0) (λ row. ends_from positions.now row minus.new ≡ false) }
-    ensures put { map (closed positions.now number minus.new) versions.new.list ≡ with_versions positions.now number plus (map (closed positions.now number plus) (map (closed positions.now number minus.old) versions.old.list)) }
-    ensures stand { Apart (Precedes positions.now) versions.new.list }
-    ensures ends { AllByRecursion (λ v. EndsAtMost number v.until) versions.new.list }
-    ensures orders { HaveOrders positions.now indexes.now versions.new.spare versions.new.others versions.new.list }
-    ensures current { other_at versions.new.others 1 ≡ current_of kept versions.new.list }
+    ensures put { map (closed positions.now number minus.new) (joined versions.new.chains) ≡ with_versions positions.now number plus (map (closed positions.now number plus) (map (closed positions.now number minus.old) (joined versions.old.chains))) }
+    ensures stand { Apart (Precedes positions.now) (joined versions.new.chains) }
+    ensures chained { AreChains positions.now versions.new.chains }
+    ensures ends { AllByRecursion (λ v. EndsAtMost number v.until) (joined versions.new.chains) }
+    ensures orders { HaveOrders positions.now indexes.now versions.new.spare versions.new.others (joined versions.new.chains) }
+    ensures current { other_at versions.new.others 1 ≡ current_of kept (joined versions.new.chains) }
     ensures room { versions.new.spare + length plus ≡ versions.old.spare }
 {
     while let Some(row) = plus.pop() {
@@ -393,19 +446,21 @@ pub(crate) fn change(
     kept: bool,
     net: Net,
     number: u64,
-    versions: &mut Shelf<RowVersion>,
+    versions: &mut ChainShelf<RowVersion>,
 )
-    requires stand { Apart (Precedes positions.now) versions.old.list }
-    requires ends { AllByRecursion (λ v. EndsAtMost number v.until) versions.old.list }
-    requires orders { HaveOrders positions.now indexes.now versions.old.spare versions.old.others versions.old.list }
-    requires current { other_at versions.old.others 1 ≡ current_of kept versions.old.list }
-    requires keys { map (closed positions.now number net.plus) (map (closed positions.now number net.minus) versions.old.list) ≡ map (lost number net.minus) versions.old.list }
-    requires new { AreNew positions.now number net.plus (map (lost number net.minus) versions.old.list) }
+    requires stand { Apart (Precedes positions.now) (joined versions.old.chains) }
+    requires chained { AreChains positions.now versions.old.chains }
+    requires ends { AllByRecursion (λ v. EndsAtMost number v.until) (joined versions.old.chains) }
+    requires orders { HaveOrders positions.now indexes.now versions.old.spare versions.old.others (joined versions.old.chains) }
+    requires current { other_at versions.old.others 1 ≡ current_of kept (joined versions.old.chains) }
+    requires keys { map (closed positions.now number net.plus) (map (closed positions.now number net.minus) (joined versions.old.chains)) ≡ map (lost number net.minus) (joined versions.old.chains) }
+    requires new { AreNew positions.now number net.plus (map (lost number net.minus) (joined versions.old.chains)) }
     requires room { length net.plus ≤ versions.old.spare }
-    ensures changed { versions.new.list ≡ with_versions positions.now number net.plus (map (lost number net.minus) versions.old.list) }
-    ensures stand { Apart (Precedes positions.now) versions.new.list }
-    ensures orders { HaveOrders positions.now indexes.now versions.new.spare versions.new.others versions.new.list }
-    ensures current { other_at versions.new.others 1 ≡ current_of kept versions.new.list }
+    ensures changed { (joined versions.new.chains) ≡ with_versions positions.now number net.plus (map (lost number net.minus) (joined versions.old.chains)) }
+    ensures stand { Apart (Precedes positions.now) (joined versions.new.chains) }
+    ensures chained { AreChains positions.now versions.new.chains }
+    ensures orders { HaveOrders positions.now indexes.now versions.new.spare versions.new.others (joined versions.new.chains) }
+    ensures current { other_at versions.new.others 1 ≡ current_of kept (joined versions.new.chains) }
     ensures room { versions.new.spare + length net.plus ≡ versions.old.spare }
 {
     let Net { mut minus, plus } = net;

@@ -1,17 +1,21 @@
 //! The versions that a reader looks at.
-ghost use Rattle.std.specs.Prelude.{◌≡◌, ◌≤◌, ◌<◌, ◌+◌, length, slice_get, drop, take, Some, true, false};
+ghost use Rattle.std.specs.Prelude.{◌≡◌, ◌≤◌, ◌<◌, ◌+◌, length, drop, take, map, Some, true, option_map};
+ghost use Rattle.std.specs.List.{AllByRecursion};
 ghost use Rattle.lv_shelf.specs.Cuts.{Falls, IsCut};
 ghost use Rattle.lv_shelf.specs.Shelves.{other_at};
+ghost use Rattle.lv_shelf.specs.Chains.{AgreesOn, HasSome, all_newest, before, chain_at, joined, newest_of, newest_that};
+ghost use Rattle.lv_versions.specs.Versions.{alone, came_by};
 
+use crate::version::CameBy;
 use lv_schema::RowVersion;
-use lv_shelf::{Run, Shelf};
+use lv_shelf::{ChainShelf, Run};
 use lv_values::Test;
 use std::marker::Model;
 
-/// All versions of a table in their order, or those of a further order. Contracts see the versions.
+/// All chains of a table's versions, or the versions of a further order, each as a chain by itself. Contracts see the chains.
 #[derive(Drop)]
 pub(crate) struct Seen<'a> {
-    versions: &'a Shelf<RowVersion>,
+    versions: &'a ChainShelf<RowVersion>,
     order: Option<usize>,
 }
 
@@ -20,17 +24,17 @@ impl<'a> Model for Seen<'a> {
     ghost use Rattle.lv_schema.specs.declared.version.RowVersion.{RowVersion as ARowVersion};
     ghost use Rattle.lv_versions.specs.Versions.{IsSeen, seen_in};
 
-    ghost Value = { List ARowVersion };
+    ghost Value = { List (List ARowVersion) };
 
-    ghost view = { λ s. seen_in s.order s.versions.now.others s.versions.now.list };
+    ghost view = { λ s. seen_in s.order s.versions.now.others s.versions.now.chains };
 
     ghost invariant = { λ s. IsSeen s.order s.versions.now.others };
 }
 
 impl<'a> Seen<'a> {
-    /// All versions.
-    pub(crate) fn all(versions: &'a Shelf<RowVersion>) -> Self
-        ensures { result ≡ versions.now.list }
+    /// All chains.
+    pub(crate) fn all(versions: &'a ChainShelf<RowVersion>) -> Self
+        ensures { result ≡ versions.now.chains }
     {
         Seen {
             versions,
@@ -38,10 +42,10 @@ impl<'a> Seen<'a> {
         }
     }
 
-    /// Those of a further order.
-    pub(crate) fn of(versions: &'a Shelf<RowVersion>, order: usize) -> Self
+    /// The versions of a further order.
+    pub(crate) fn of(versions: &'a ChainShelf<RowVersion>, order: usize) -> Self
         requires { order < length versions.now.others }
-        ensures { result ≡ other_at versions.now.others order }
+        ensures { result ≡ map alone (other_at versions.now.others order) }
     {
         Seen {
             versions,
@@ -49,34 +53,36 @@ impl<'a> Seen<'a> {
         }
     }
 
-    /// The number of versions.
+    /// The number of chains.
     pub(crate) fn len(&self) -> usize
-        ensures { result ≡ length self.now }
+        ensures count { result ≡ length self.now }
+        ensures some { AllByRecursion HasSome self.now }
     {
         match self.order {
             Some(order) => self.versions.len_in(order),
-            None => self.versions.len(),
+            None => self.versions.chains(),
         }
     }
 
-    /// The version at a place.
-    pub(crate) fn get(&self, at: usize) -> &'a RowVersion
-        requires { at < length self.now }
-        ensures { slice_get self.now at ≡ Some result.now }
+    /// The newest version of a chain.
+    pub(crate) fn newest(&self, chain: usize) -> &'a RowVersion
+        requires { chain < length self.now }
+        ensures { newest_of (chain_at self.now chain) ≡ Some result.now }
     {
         match self.order {
-            Some(order) => self.versions.get_in(order, at),
-            None => self.versions.get(at),
+            Some(order) => self.versions.get_in(order, chain),
+            None => self.versions.newest(chain),
         }
     }
 
-    /// Versions from a place on that are looked up together: at least the one there, and none from `end` on.
+    /// The newest versions of chains from one on that are looked up together: at least that of this one, and none of those
+    /// from `end` on.
     pub(crate) fn run(&self, at: usize, end: usize) -> Run<'a, RowVersion>
         requires place { at < end }
         requires end { end ≤ length self.now }
         ensures some { 0 < length result }
         ensures within { at + length result ≤ end }
-        ensures run { result ≡ take (length result) (drop at self.now) }
+        ensures run { result ≡ take (length result) (drop at (all_newest self.now)) }
     {
         match self.order {
             Some(order) => self.versions.run_in(order, at, end),
@@ -84,11 +90,34 @@ impl<'a> Seen<'a> {
         }
     }
 
-    /// How many versions pass a test that no later one passes where an earlier one fails. Cost: as of `Shelf::cut_near`.
+    /// The newest version of a chain that came by commit n, where its newest one is known. Cost: a test of that one, and of each
+    /// newer one than what is given.
+    pub(crate) fn came_by(
+        &self,
+        chain: usize,
+        newest: &'a RowVersion,
+        n: u64,
+    ) -> Option<&'a RowVersion>
+        requires chain { chain < length self.now }
+        requires newest { newest_of (chain_at self.now chain) ≡ Some newest.now }
+        ensures { option_map (λ found. found.now) result ≡ newest_that (came_by n) (chain_at self.now chain) }
+    {
+        if newest.from <= n {
+            return Some(newest);
+        }
+        match self.order {
+            Some(_) => None,
+            None => self.versions.newest_that(chain, &CameBy { n }),
+        }
+    }
+
+    /// How many chains pass a test, which says the same of all versions of a chain, and which no later one passes where an
+    /// earlier one fails. Cost: as of `ChainShelf::cut_near`.
     pub(crate) fn cut_near<P: Test<RowVersion>>(&self, rank: i64, test: &P) -> usize
-        requires { Falls (P.passed test.now) self.now }
+        requires falls { Falls (P.passed test.now) (joined self.now) }
+        requires agrees { AllByRecursion (AgreesOn (P.passed test.now)) self.now }
         ensures within { result ≤ length self.now }
-        ensures cut { IsCut (P.passed test.now) result self.now }
+        ensures cut { IsCut (P.passed test.now) (before self.now result) (joined self.now) }
     {
         match self.order {
             Some(order) => self.versions.cut_in_near(order, rank, test),
@@ -96,27 +125,28 @@ impl<'a> Seen<'a> {
         }
     }
 
-    /// Whether the version at a place is the last one that passes. Cost: two looks at versions.
-    fn is_last<P: Test<RowVersion>>(&self, at: usize, test: &P) -> bool
-        requires falls { Falls (P.passed test.now) self.now }
-        requires within { at < length self.now }
-        ensures cut { result ≡ true → IsCut (P.passed test.now) (at + 1) self.now }
-        ensures other { result ≡ false → IsCut (P.passed test.now) (at + 1) self.now → ⊥ }
+    /// Whether a chain is the last one that passes. Cost: two looks at versions.
+    fn is_last<P: Test<RowVersion>>(&self, chain: usize, test: &P) -> bool
+        requires falls { Falls (P.passed test.now) (joined self.now) }
+        requires agrees { AllByRecursion (AgreesOn (P.passed test.now)) self.now }
+        requires within { chain < length self.now }
+        ensures cut { result ≡ true → IsCut (P.passed test.now) (before self.now (chain + 1)) (joined self.now) }
     {
         let len = self.len();
-        let next = at + 1;
-        test.passes(self.get(at)) && (next == len || !test.passes(self.get(next)))
+        let next = chain + 1;
+        test.passes(self.newest(chain)) && (next == len || !test.passes(self.newest(next)))
     }
 
-    /// What `cut_near` gives. Cost: two looks at versions where the one at a place is the last one that passes, or else
-    /// these and that of `cut_near`.
-    pub(crate) fn cut_behind<P: Test<RowVersion>>(&self, at: usize, rank: i64, test: &P) -> usize
-        requires { Falls (P.passed test.now) self.now }
+    /// What `cut_near` gives. Cost: two looks at versions where a chain is the last one that passes, or else these and that of
+    /// `cut_near`.
+    pub(crate) fn cut_behind<P: Test<RowVersion>>(&self, chain: usize, rank: i64, test: &P) -> usize
+        requires falls { Falls (P.passed test.now) (joined self.now) }
+        requires agrees { AllByRecursion (AgreesOn (P.passed test.now)) self.now }
         ensures within { result ≤ length self.now }
-        ensures cut { IsCut (P.passed test.now) result self.now }
+        ensures cut { IsCut (P.passed test.now) (before self.now result) (joined self.now) }
     {
-        if at < self.len() && self.is_last(at, test) {
-            at + 1
+        if chain < self.len() && self.is_last(chain, test) {
+            chain + 1
         } else {
             self.cut_near(rank, test)
         }

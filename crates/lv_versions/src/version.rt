@@ -143,34 +143,45 @@ impl<'a> Test<RowVersion> for IsUpTo<'a> {
     }
 }
 
-/// Tests whether a version's key is below a key, or is that key and came by a commit.
+/// Tests whether a version's key is not above that of a row.
 #[derive(Drop)]
-pub(crate) struct Reaches<'a> {
+pub(crate) struct HasKeyUpTo<'a> {
     pub(crate) positions: &'a [u8],
-    pub(crate) key: &'a Row,
-    pub(crate) n: u64,
+    pub(crate) row: &'a Row,
 }
 
-impl<'a> Model for Reaches<'a> {
+impl<'a> Model for HasKeyUpTo<'a> {
     ghost use Rattle.std.specs.Prelude.{ℕ, List};
     ghost use Rattle.lv_values.specs.declared.value.Value.{Value as AValue};
 
-    ghost Value = { List ℕ × List AValue × ℕ };
+    ghost Value = { List ℕ × List AValue };
 
-    ghost view = { λ t. (t.positions.now, t.key.now, t.n) };
+    ghost view = { λ t. (t.positions.now, t.row.now) };
 }
 
-impl<'a> Test<RowVersion> for Reaches<'a> {
-    ghost use Rattle.lv_versions.specs.Versions.{reaches};
+impl<'a> Test<RowVersion> for HasKeyUpTo<'a> {
+    ghost use Rattle.lv_versions.specs.Versions.{upto};
 
-    ghost passed = { λ t v. reaches t.0 t.1 t.2 v };
+    ghost passed = { λ t v. upto t.0 t.1 v };
 
     fn passes(&self, version: &RowVersion) -> bool {
-        match compare_to_key(self.positions, &version.row, self.key) {
-            Ordering::Less => true,
-            Ordering::Equal => version.from <= self.n,
-            Ordering::Greater => false,
-        }
+        !compare_keys(self.positions, &version.row, self.row).is_gt()
+    }
+}
+
+/// Tests whether a version came by a commit.
+#[derive(Drop)]
+pub(crate) struct CameBy {
+    pub(crate) n: u64,
+}
+
+impl Test<RowVersion> for CameBy {
+    ghost use Rattle.lv_versions.specs.Versions.{came_by};
+
+    ghost passed = { λ t v. came_by t.n v };
+
+    fn passes(&self, version: &RowVersion) -> bool {
+        version.from <= self.n
     }
 }
 

@@ -8,7 +8,8 @@ ghost use Rattle.lv_schema.specs.Nets.{with_net};
 ghost use Rattle.lv_schema.specs.Once.{Ascends};
 ghost use Rattle.lv_shelf.specs.Cuts.{Apart, Falls, IsCut};
 ghost use Rattle.lv_shelf.specs.Shelves.{other_at};
-ghost use Rattle.lv_versions.specs.Versions.{Applies, EndsFrom, HaveOrders, IsBy, IsHigh, IsLow, Precedes, ends_after, is_open, is_upto, lost, new_version, row_with, rows_hit, rows_with, rows_within, soonest_after, soonest_pruned, state_at, with_index};
+ghost use Rattle.lv_shelf.specs.Chains.{HasSome, all_newest, before, chain_at, joined, newest_of};
+ghost use Rattle.lv_versions.specs.Versions.{Applies, AreChains, AreHistories, EndsFrom, HaveOrders, IsBy, IsHigh, IsLow, Lived, Precedes, ends_after, is_open, is_upto, lost, new_version, row_with, rows_hit, rows_with, rows_within, soonest_after, soonest_pruned, state_at, with_index};
 
 use crate::changing::change;
 use crate::crowding::keep_current;
@@ -16,23 +17,24 @@ use crate::dropping::drop_over;
 use crate::indexes::{CURRENT, INDEXES, add_first, add_index, index_by};
 use crate::rank::rank_of_key;
 use crate::seen::Seen;
-use crate::version::{IsUpTo, Reaches, hits, is_at};
+use crate::version::{IsUpTo, hits, is_at};
 use lv_schema::{Net, Positions, RowVersion, TableDef};
-use lv_shelf::{Run, Shelf};
+use lv_shelf::{ChainShelf, Run};
 use lv_values::{Any, Copying, NoMemory, Room, Row, Rows, Steps, Test};
 use std::alloc::Global;
 use std::marker::Model;
 use std::sync::ledger::Ledger;
 
-/// A table's rows after each commit. It may have indexes, by columns of which `probe` is asked: they make it faster, and
-/// its answers are the same. From the first commit on that finds 1,024 ended versions or more, and four for each that has
-/// not ended, an order of those that have not is kept (`keep_current`). A search looks at ranks, which lie close together,
-/// and at few rows (`Shelf::cut_near`). A move of small numbers, in the costs below, is one of at most 512 numbers, and of
-/// one more for each 1,024 versions behind the place; of more than 65,536 versions, of at most 4,096, and one for each 8,192.
+/// A table's rows after each commit: for each key a chain of its versions, the newest of which are searched. It may have
+/// indexes, by columns of which `probe` is asked: they make it faster, and its answers are the same. From the first commit on
+/// that finds 1,024 chains or more whose newest version has ended, and four for each other one, an order of the versions that
+/// have not ended is kept (`keep_current`). A search looks at ranks, which lie close together, and at few rows
+/// (`ChainShelf::cut_near`). A move of small numbers, in the costs below, is one of at most 512 numbers, and of one more for each
+/// 1,024 keys behind the place, or versions in an index; of more than 65,536, of at most 4,096, and one for each 8,192.
 #[derive(Drop)]
 pub struct Versions {
     def: TableDef,
-    versions: Shelf<RowVersion>,
+    versions: ChainShelf<RowVersion>,
     indexes: Room<Positions>,
     last: u64,
     floor: u64,
@@ -42,13 +44,14 @@ pub struct Versions {
 }
 
 impl Model for Versions {
+    ghost use Rattle.lv_shelf.specs.Chains.{joined};
     ghost use Rattle.lv_versions.specs.Versions.{AreKept, Kept};
 
     ghost Value = { Kept };
 
-    ghost view = { λ v. record { def = v.def; versions = v.versions.list; spare = v.versions.spare; last = v.last; floor = v.floor; indexes = v.indexes.list; soonest = v.soonest } };
+    ghost view = { λ v. record { def = v.def; versions = joined v.versions.chains; spare = v.versions.spare; last = v.last; floor = v.floor; indexes = v.indexes.list; soonest = v.soonest } };
 
-    ghost invariant = { λ v. AreKept v.def.key v.last v.floor v.soonest v.indexes.list v.current v.versions.spare v.versions.others v.versions.list };
+    ghost invariant = { λ v. AreKept v.def.key v.last v.floor v.soonest v.indexes.list v.current v.versions.spare v.versions.others v.versions.chains };
 }
 
 impl Versions {
@@ -64,7 +67,7 @@ impl Versions {
     {
         Versions {
             def,
-            versions: Shelf::new(alloc),
+            versions: ChainShelf::new(alloc),
             indexes: Room::new(alloc),
             last: 0,
             floor: 0,
@@ -81,7 +84,7 @@ impl Versions {
         &self.def
     }
 
-    /// The row that has a key after commit n. Cost: a binary search.
+    /// The row that has a key after commit n. Cost: a binary search, and a look at each version of the key that came later.
     pub fn read<L: Ledger>(&self, n: u64, key: &Row, steps: &mut Steps<L>) -> Option<&Row>
         requires { self.now.floor ≤ n }
         ensures found { MatchOption result (row_with self.now.def.key key.now (state_at n self.now.versions) ≡ None) (λ row. row_with self.now.def.key key.now (state_at n self.now.versions) ≡ Some row.now) }
@@ -89,12 +92,12 @@ impl Versions {
         ensures cost { steps.new ≡ steps.old + length (option_to_list result) }
     {
         let positions = self.def.key.as_slice();
-        let seen = self.seen(n);
-        let at = seen.cut_near(rank_of_key(key), &Reaches { positions, key, n });
-        if at == 0 {
+        let seen = Seen::all(&self.versions);
+        let end = seen.cut_near(rank_of_key(key), &up_to_key(positions, key));
+        if end == 0 {
             return None;
         }
-        let version = seen.get(at - 1);
+        let version = seen.came_by(end - 1, seen.newest(end - 1), n)?;
         if hits(version, positions, key, n) {
             steps.tick();
             Some(&version.row)
@@ -103,8 +106,9 @@ impl Versions {
         }
     }
 
-    /// The rows after commit n, in the order of their keys. Cost: one pass over all versions, or, from the last commit on and
-    /// where the order of those that have not ended is kept, over those alone, and a copy of each row.
+    /// The rows after commit n, in the order of their keys. Cost: one pass over all chains, with a look at each version that
+    /// came later, or, from the last commit on and where the order of the versions that have not ended is kept, over those
+    /// alone, and a copy of each row.
     pub fn scan<L: Ledger>(
         &self,
         alloc: Global,
@@ -122,10 +126,9 @@ impl Versions {
     }
 
     /// Those rows of `scan` that pass. Where all that pass have first key values no less than some, or no greater than some,
-    /// those may be given. Cost: two binary searches, or one where one of the versions that `scan` goes over is between these
-    /// values, and one pass over those of them that are, with a copy of each row that passes. Only where the order of those
-    /// that have not ended is kept, and from the last commit on, are ended ones left out. A step is taken for each row between
-    /// these values, which is tested, and for no other.
+    /// those may be given. Cost: two binary searches, or one where one of the chains that `scan` goes over is between these
+    /// values, and one pass over those of them that are, as of `scan`, with a copy of each row that passes. A step is taken for
+    /// each row between these values, which is tested, and for no other.
     pub fn scan_between<L: Ledger, T: Test<Row>>(
         &self,
         alloc: Global,
@@ -173,7 +176,7 @@ impl Versions {
 
     /// References to the rows that `probe` copies, where they lie. Cost: with an index by these columns two binary
     /// searches, and for each version of any commit that has these values room for a reference, taken once, and a test of
-    /// its commits alone; or else one pass over the versions that `scan` goes over, and a reference to each row.
+    /// its commits alone; or else one pass over the chains that `scan` goes over, and a reference to each row.
     pub fn probe_in_place<'b, L: Ledger>(
         &'b self,
         alloc: Global,
@@ -243,9 +246,9 @@ impl Versions {
     }
 
     /// Commits a net change. It takes no memory. Cost: a binary search for each key of a row that goes or comes, where
-    /// these are in the order of their keys, and a move of small numbers for each that comes, with a search and a move
-    /// more in each index, and in the order of the versions that have not ended where it is kept. The commit from which on it
-    /// is kept begins with one pass over all versions.
+    /// these are in the order of their keys, and a move of small numbers for each that comes with a new key, with a search and
+    /// a move more in each index, and in the order of the versions that have not ended where it is kept. The commit from which
+    /// on it is kept begins with one pass over all chains.
     pub fn commit(&mut self, number: u64, net: Net)
         requires later { self.old.last < number }
         requires above { self.old.floor < number }
@@ -272,8 +275,9 @@ impl Versions {
     }
 
     /// Drops the versions that ended at or below a floor. It takes no memory. Cost: constant where none ended at or
-    /// below it, two binary searches and moves of small numbers for each where at most 64 did, and one more in each
-    /// index, or else two passes over small numbers, and one more over those of each index.
+    /// below it, a binary search for each where at most 64 did, and a search and a move of small numbers in each index, or
+    /// else a pass over the chains, and one over the small numbers of each index; and a move of small numbers for each chain that
+    /// goes.
     pub fn prune(&mut self, floor: u64)
         requires { self.old.floor ≤ floor }
         ensures kept { self.new.versions ≡ filter (λ v. ends_after floor v.until) self.old.versions }
@@ -306,11 +310,14 @@ impl Versions {
     }
 
     /// What shows the rows after commit n: from the last commit on the versions that have not ended, where an order of
-    /// these is kept, or else all. Cost: constant.
+    /// these is kept, or else all chains. Cost: constant.
     fn seen(&self, n: u64) -> Seen<'_>
-        ensures rows { state_at n result ≡ state_at n self.now.versions }
-        ensures stand { Apart (Precedes self.now.def.key) result }
+        ensures rows { state_at n (joined result) ≡ state_at n self.now.versions }
+        ensures stand { Apart (Precedes self.now.def.key) (joined result) }
+        ensures chained { AreChains self.now.def.key result }
+        ensures some { AllByRecursion HasSome result }
     {
+        let _chains = self.versions.chains();
         if self.current && self.last <= n && self.versions.orders() > CURRENT {
             Seen::of(&self.versions, CURRENT)
         } else {
@@ -342,21 +349,24 @@ fn soonest_after(soonest: u64, number: u64, minus: &Rows) -> u64
 fn drop_ended(
     positions: &[u8],
     indexes: &[Positions],
-    versions: &mut Shelf<RowVersion>,
+    versions: &mut ChainShelf<RowVersion>,
     soonest: u64,
     last: u64,
     floor: u64,
 ) -> u64
-    requires stand { Apart (Precedes positions.now) versions.old.list }
-    requires orders { HaveOrders positions.now indexes.now versions.old.spare versions.old.others versions.old.list }
+    requires stand { Apart (Precedes positions.now) (joined versions.old.chains) }
+    requires chained { AreChains positions.now versions.old.chains }
+    requires lived { AllByRecursion Lived (joined versions.old.chains) }
+    requires orders { HaveOrders positions.now indexes.now versions.old.spare versions.old.others (joined versions.old.chains) }
     requires unended { AllByRecursion (λ v. is_open v ≡ true) (other_at versions.old.others 1) }
-    requires ends { AllByRecursion (λ v. EndsFrom soonest v.until) versions.old.list }
-    requires each { AllByRecursion (IsBy last) versions.old.list }
-    ensures kept { versions.new.list ≡ filter (λ v. ends_after floor v.until) versions.old.list }
+    requires ends { AllByRecursion (λ v. EndsFrom soonest v.until) (joined versions.old.chains) }
+    requires each { AllByRecursion (IsBy last) (joined versions.old.chains) }
+    ensures kept { (joined versions.new.chains) ≡ filter (λ v. ends_after floor v.until) (joined versions.old.chains) }
+    ensures chained { AreChains positions.now versions.new.chains }
     ensures room { versions.old.spare ≤ versions.new.spare }
-    ensures orders { HaveOrders positions.now indexes.now versions.new.spare versions.new.others versions.new.list }
+    ensures orders { HaveOrders positions.now indexes.now versions.new.spare versions.new.others (joined versions.new.chains) }
     ensures current { other_at versions.new.others 1 ≡ other_at versions.old.others 1 }
-    ensures ends { AllByRecursion (λ v. EndsFrom result v.until) versions.new.list }
+    ensures ends { AllByRecursion (λ v. EndsFrom result v.until) (joined versions.new.chains) }
     ensures soonest { result ≡ soonest_pruned floor last soonest }
 {
     if floor < soonest {
@@ -388,6 +398,17 @@ fn push_alive<L: Ledger, T: Test<Row>>(
     Ok(())
 }
 
+/// Tests whether keys are not above this one.
+fn up_to_key<'a>(positions: &'a [u8], key: &'a Row) -> IsUpTo<'a>
+    ensures { result ≡ (positions.now, key.now, true) }
+{
+    IsUpTo {
+        columns: positions,
+        values: key,
+        themselves: true,
+    }
+}
+
 /// Tests whether first key values are below these, or, if these count too, are these.
 fn up_to<'a>(positions: &'a [u8], values: &'a Row, themselves: bool) -> IsUpTo<'a>
     requires { length values.now ≤ length positions.now }
@@ -400,12 +421,13 @@ fn up_to<'a>(positions: &'a [u8], values: &'a Row, themselves: bool) -> IsUpTo<'
     }
 }
 
-/// How many versions have first key values below these, none where none are given. Cost: a binary search.
+/// How many chains have first key values below these, none where none are given. Cost: a binary search.
 fn place_of_low(positions: &[u8], low: Option<&Row>, seen: &Seen<'_>) -> usize
-    requires stand { Apart (Precedes positions.now) seen.now }
+    requires stand { Apart (Precedes positions.now) (joined seen.now) }
+    requires chained { AreChains positions.now seen.now }
     requires fits { MatchOption low (Unit {0}) (λ values. length values.now ≤ length positions.now) }
     ensures within { result ≤ length seen.now }
-    ensures cut { MatchOption low.entry (result ≡ 0) (λ values. IsCut (is_upto (take (length values.now) positions.now) values.now false) result seen.now) }
+    ensures cut { MatchOption low.entry (result ≡ 0) (λ values. IsCut (is_upto (take (length values.now) positions.now) values.now false) (before seen.now result) (joined seen.now)) }
 {
     match low {
         Some(values) => seen.cut_near(rank_of_key(values), &up_to(positions, values, false)),
@@ -413,13 +435,14 @@ fn place_of_low(positions: &[u8], low: Option<&Row>, seen: &Seen<'_>) -> usize
     }
 }
 
-/// How many versions have first key values no greater than these, all where none are given. Cost: two looks at versions
+/// How many chains have first key values no greater than these, all where none are given. Cost: two looks at versions
 /// where these are one more than `first`, or else a binary search.
 fn place_of_high(positions: &[u8], high: Option<&Row>, first: usize, seen: &Seen<'_>) -> usize
-    requires stand { Apart (Precedes positions.now) seen.now }
+    requires stand { Apart (Precedes positions.now) (joined seen.now) }
+    requires chained { AreChains positions.now seen.now }
     requires fits { MatchOption high (Unit {0}) (λ values. length values.now ≤ length positions.now) }
     ensures within { result ≤ length seen.now }
-    ensures cut { MatchOption high.entry (result ≡ length seen.now) (λ values. IsCut (is_upto (take (length values.now) positions.now) values.now true) result seen.now) }
+    ensures cut { MatchOption high.entry (result ≡ length seen.now) (λ values. IsCut (is_upto (take (length values.now) positions.now) values.now true) (before seen.now result) (joined seen.now)) }
 {
     match high {
         Some(values) => seen.cut_behind(
@@ -431,28 +454,59 @@ fn place_of_high(positions: &[u8], high: Option<&Row>, first: usize, seen: &Seen
     }
 }
 
-/// Appends copies of the rows after commit n that pass, of these versions, and takes one step for each row after that
-/// commit that they have.
+/// Appends a copy of the row that a chain shows after commit n, if it passes, and takes one step, if it shows one.
+fn copy_chain<L: Ledger, T: Test<Row>>(
+    alloc: Global,
+    n: u64,
+    seen: &Seen<'_>,
+    chain: usize,
+    newest: &RowVersion,
+    test: &T,
+    rows: &mut Rows,
+    steps: &mut Steps<L>,
+) -> Result<(), NoMemory>
+    requires chain { chain < length seen.now }
+    requires newest { newest_of (chain_at seen.now chain) ≡ Some newest.now }
+    requires histories { AreHistories seen.now }
+    ensures pushed { OnOk result (rows.new ≡ rows.old ++ filter (T.passed test.now) (state_at n (chain_at seen.now chain))) }
+    ensures cost { OnOk result (steps.new ≡ steps.old + length (state_at n (chain_at seen.now chain))) }
+    ensures refused { OnErr result (steps.new ≡ steps.old) }
+{
+    match seen.came_by(chain, newest, n) {
+        Some(version) => push_alive(alloc, n, version, test, rows, steps),
+        None => Ok(()),
+    }
+}
+
+/// Appends copies of the rows that chains from one on show after commit n and that pass, where their newest versions are
+/// known, and takes one step for each row that they show.
 fn copy_run<L: Ledger, T: Test<Row>>(
     alloc: Global,
     n: u64,
+    seen: &Seen<'_>,
+    first: usize,
     run: &Run<'_, RowVersion>,
     test: &T,
     rows: &mut Rows,
     steps: &mut Steps<L>,
 ) -> Result<(), NoMemory>
-    ensures pushed { OnOk result (rows.new ≡ rows.old ++ filter (T.passed test.now) (state_at n run.now)) }
-    ensures cost { OnOk result (steps.new ≡ steps.old + length (state_at n run.now)) }
-    ensures refused { OnErr result (steps.new ≤ steps.old + length (state_at n run.now)) }
+    requires end { first + length run.now ≤ length seen.now }
+    requires run { run.now ≡ take (length run.now) (drop first (all_newest seen.now)) }
+    requires histories { AreHistories seen.now }
+    requires some { AllByRecursion HasSome seen.now }
+    ensures pushed { OnOk result (rows.new ≡ rows.old ++ filter (T.passed test.now) (state_at n (joined (take (length run.now) (drop first seen.now))))) }
+    ensures cost { OnOk result (steps.new ≡ steps.old + length (state_at n (joined (take (length run.now) (drop first seen.now))))) }
+    ensures refused { OnErr result (steps.new ≤ steps.old + length (state_at n (joined (take (length run.now) (drop first seen.now))))) }
 {
+    let _count = seen.len();
     for i in 0..run.len() {
-        push_alive(alloc, n, run.get(i), test, rows, steps)?;
+        copy_chain(alloc, n, seen, first + i, run.get(i), test, rows, steps)?;
     }
     Ok(())
 }
 
-/// Copies of the rows after commit n that pass, of the versions from a place up to another one, and one step for each row
-/// after that commit that these versions have.
+/// Copies of the rows after commit n that pass, of the chains from one up to another one, and one step for each row after
+/// that commit that these chains have.
 fn rows_in<L: Ledger, T: Test<Row>>(
     alloc: Global,
     n: u64,
@@ -463,15 +517,17 @@ fn rows_in<L: Ledger, T: Test<Row>>(
     steps: &mut Steps<L>,
 ) -> Result<Rows, NoMemory>
     requires end { end ≤ length seen.now }
-    ensures rows { IfOk result (λ rows. rows ≡ filter (T.passed test.now) (state_at n (drop first (take end seen.now)))) }
-    ensures cost { OnOk result (steps.new ≡ steps.old + length (state_at n (drop first (take end seen.now)))) }
-    ensures most { OnErr result (steps.new ≤ steps.old + length (state_at n (drop first (take end seen.now)))) }
+    requires histories { AreHistories seen.now }
+    requires some { AllByRecursion HasSome seen.now }
+    ensures rows { IfOk result (λ rows. rows ≡ filter (T.passed test.now) (state_at n (joined (drop first (take end seen.now))))) }
+    ensures cost { OnOk result (steps.new ≡ steps.old + length (state_at n (joined (drop first (take end seen.now))))) }
+    ensures most { OnErr result (steps.new ≤ steps.old + length (state_at n (joined (drop first (take end seen.now))))) }
 {
     let mut rows = Rows::new(alloc);
     let mut at = first;
     while at < end {
         let run = seen.run(at, end);
-        copy_run(alloc, n, &run, test, &mut rows, steps)?;
+        copy_run(alloc, n, seen, at, &run, test, &mut rows, steps)?;
         at += run.len();
     }
     Ok(rows)
@@ -508,6 +564,29 @@ fn push_hit<'b, L: Ledger>(
     Ok(())
 }
 
+/// Appends a reference to the row that a chain shows after commit n, and takes one step, if it shows one and that has these
+/// values.
+fn push_chain<'b, L: Ledger>(
+    n: u64,
+    columns: &[u8],
+    values: &Row,
+    seen: &Seen<'b>,
+    chain: usize,
+    rows: &mut Vec<&'b Row>,
+    steps: &mut Steps<L>,
+) -> Result<(), NoMemory>
+    requires chain { chain < length seen.now }
+    requires histories { AreHistories seen.now }
+    ensures pushed { OnOk result (map (λ row. row.now) rows.new.items ≡ map (λ row. row.now) rows.old.items ++ rows_hit columns.now values.now n (chain_at seen.now chain)) }
+    ensures cost { OnOk result (steps.new ≡ steps.old + length (rows_hit columns.now values.now n (chain_at seen.now chain))) }
+    ensures refused { OnErr result (steps.new ≡ steps.old) }
+{
+    match seen.came_by(chain, seen.newest(chain), n) {
+        Some(version) => push_hit(n, columns, values, version, rows, steps),
+        None => Ok(()),
+    }
+}
+
 /// References to the rows after commit n that have these values, and one step for each.
 fn rows_with<'b, L: Ledger>(
     alloc: Global,
@@ -517,13 +596,14 @@ fn rows_with<'b, L: Ledger>(
     seen: &Seen<'b>,
     steps: &mut Steps<L>,
 ) -> Result<Vec<&'b Row>, NoMemory>
-    ensures rows { IfOk result (λ rows. map (λ row. row.now) rows.items ≡ rows_with columns.now values.now (state_at n seen.now)) }
-    ensures cost { OnOk result (steps.new ≡ steps.old + length (rows_with columns.now values.now (state_at n seen.now))) }
-    ensures most { OnErr result (steps.new ≤ steps.old + length (rows_with columns.now values.now (state_at n seen.now))) }
+    requires { AreHistories seen.now }
+    ensures rows { IfOk result (λ rows. map (λ row. row.now) rows.items ≡ rows_with columns.now values.now (state_at n (joined seen.now))) }
+    ensures cost { OnOk result (steps.new ≡ steps.old + length (rows_with columns.now values.now (state_at n (joined seen.now)))) }
+    ensures most { OnErr result (steps.new ≤ steps.old + length (rows_with columns.now values.now (state_at n (joined seen.now)))) }
 {
     let mut rows = Vec::new(alloc);
-    for at in 0..seen.len() {
-        push_hit(n, columns, values, seen.get(at), &mut rows, steps)?;
+    for chain in 0..seen.len() {
+        push_chain(n, columns, values, seen, chain, &mut rows, steps)?;
     }
     Ok(rows)
 }
@@ -575,7 +655,7 @@ fn rows_between<'b, L: Ledger>(
     columns: &[u8],
     values: &Row,
     order: usize,
-    versions: &'b Shelf<RowVersion>,
+    versions: &'b ChainShelf<RowVersion>,
     steps: &mut Steps<L>,
 ) -> Result<Vec<&'b Row>, NoMemory>
     requires order { order < length versions.now.others }

@@ -8,6 +8,7 @@ use Rattle.lv_values.specs.declared.value.Value.{Value}
 use Rattle.lv_schema.specs.declared.version.RowVersion.{RowVersion}
 use Rattle.lv_values.specs.Ascending.{placed}
 use Rattle.lv_shelf.specs.Cuts.{Apart}
+use Rattle.lv_shelf.specs.Chains.{joined}
 use Rattle.lv_versions.specs.Versions.{AreNew, EndsAtMost, Precedes, closed, ends_from, new_version, version_cmp, with_versions}
 use Rattle.lv_versions.proofs.Bringing.{closed_placed, due_new, last_new, new_older, older_new, placed_order, put_last, rest_new}
 use Rattle.lv_versions.proofs.Cleaning.{closed_at_most}
@@ -22,10 +23,10 @@ put_row-requires-clause-older c =
     let row = c.in-Some.row in
     let rest = c.pop.new.self in
     let left = c.end_above.new.minus in
-    let mid = c.end_above.new.versions.list in
+    let mid = (joined c.end_above.new.versions.chains) in
     let due : List RowVersion = map (closed ps number rest) (map (closed ps number left) (map (closed ps number (row ∷ [])) mid)) in
     new_older ps number row rest left mid
-    (last_new ps number rest row due (due_new ps number c.loop-row.plus rest row c.loop-row.minus left c.loop-row.versions.list mid c.in-Some.ensures c.end_above.ensures.same c.loop-row.invariant.new))
+    (last_new ps number rest row due (due_new ps number c.loop-row.plus rest row c.loop-row.minus left (joined c.loop-row.versions.chains) mid c.in-Some.ensures c.end_above.ensures.same c.loop-row.invariant.new))
 
 -- the rows that came before, from the last one on
 since : (all plus rest : List (List Value)) (row : List Value) → all ≡ plus ++ drop (length plus) all → plus ≡ rest ++ row ∷ [] → all ≡ rest ++ row ∷ drop (length plus) all
@@ -41,6 +42,7 @@ loop-row-init c =
     record {
       stand = c.requires.stand;
       ends = c.requires.ends;
+      chained = c.requires.chained;
       orders = c.requires.orders;
       current = c.requires.current;
       new = c.requires.new;
@@ -59,16 +61,16 @@ loop-row-preserved c =
     let row = c.in-Some.row in
     let rest = c.pop.new.self in
     let minus = c.loop-row.minus in
-    let vs = c.loop-row.versions.list in
+    let vs = (joined c.loop-row.versions.chains) in
     let left = c.end_above.new.minus in
-    let mid = c.end_above.new.versions.list in
+    let mid = (joined c.end_above.new.versions.chains) in
     let own : List RowVersion = map (closed ps number (row ∷ [])) mid in
     let due : List RowVersion = map (closed ps number rest) (map (closed ps number left) own) in
     let popped : plus ≡ rest ++ row ∷ [] = c.in-Some.ensures in
     let is : map (closed ps number plus) (map (closed ps number minus) vs) ≡ due = closed_due ps number plus rest row minus left vs mid popped c.end_above.ensures.same in
     let new : AreNew ps number (rest ++ row ∷ []) due = due_new ps number plus rest row minus left vs mid popped c.end_above.ensures.same c.loop-row.invariant.new in
     let older = new_older ps number row rest left mid (last_new ps number rest row due new) in
-    let moved : map (closed ps number rest) (map (closed ps number left) c.put_row.new.versions.list) ≡ placed (version_cmp ps) (new_version number row) due =
+    let moved : map (closed ps number rest) (map (closed ps number left) (joined c.put_row.new.versions.chains)) ≡ placed (version_cmp ps) (new_version number row) due =
     ap (λ l. map (closed ps number rest) (map (closed ps number left) l)) c.put_row.ensures.put
     ∙ ap (map (closed ps number rest)) (closed_placed ps number left row own)
     ∙ closed_placed ps number rest row (map (closed ps number left) own) in
@@ -79,6 +81,7 @@ loop-row-preserved c =
       stand = subst (Apart (Precedes ps)) (sym c.put_row.ensures.put) (placed_order ps number row own (closed_order ps number (row ∷ []) mid c.end_above.ensures.stand) (older_new ps number row mid older c.end_above.ensures.ends));
       ends = subst (AllByRecursion (λ (v : RowVersion). EndsAtMost number v.until)) (sym c.put_row.ensures.put)
           (all_placed (version_cmp ps) (λ (v : RowVersion). EndsAtMost number v.until) (new_version number row) own tt (closed_at_most ps number (row ∷ []) mid c.end_above.ensures.ends));
+      chained = c.put_row.ensures.chained;
       orders = c.put_row.ensures.orders;
       current = c.put_row.ensures.current;
       new = subst (AreNew ps number rest) (sym moved) (rest_new ps number rest row due new);
@@ -97,5 +100,5 @@ pub returns-clause-put : goal.returns-clause-put
 returns-clause-put c =
     let ps = c.args.positions.now in
     let number = c.args.number in
-    let left : List RowVersion = map (closed ps number c.loop-row.minus) c.loop-row.versions.list in
+    let left : List RowVersion = map (closed ps number c.loop-row.minus) (joined c.loop-row.versions.chains) in
     sym (closed_none ps number left) ∙ ap (λ l. with_versions ps number l (map (closed ps number l) left)) (sym c.in_default.ensures.0) ∙ c.loop-row.invariant.put

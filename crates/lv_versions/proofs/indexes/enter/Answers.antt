@@ -1,7 +1,12 @@
-use Rattle.std.proofs.Common.{set, sym, ap, ◌∙◌}
+use Rattle.std.proofs.Common.{◌≡◌, ◌-◌, length, set, sym, ap, subst, ◌∙◌}
+use Rattle.std.specs.Ordering.{is_lt}
+use Rattle.lv_schema.specs.declared.version.RowVersion.{RowVersion}
+use Rattle.lv_shelf.specs.Cuts.{IsCut}
 use Rattle.lv_shelf.specs.Shelves.{other_at}
+use Rattle.lv_shelf.specs.Chains.{chain_at}
 use Rattle.lv_versions.specs.Versions.{index_cmp}
 use Rattle.lv_versions.proofs.Indexing.{index_total}
+use Rattle.lv_versions.proofs.Keeping.{same_item}
 use Rattle.lv_versions.proofs.Standing.{placed_there}
 use Rattle.lv_versions.proofs.indexes.enter.Goals as goal
 
@@ -11,4 +16,8 @@ returns-clause-entered c = λ v e.
     let ps = c.args.positions.now in
     let others = c.args.versions.now.others in
     let j = c.args.order in
-    c.enter.ensures.entered v e ∙ sym (ap (set others j) (placed_there (index_cmp cs ps) (index_total cs ps) v (other_at others j) c.place_in-place.result (c.place_in-place.ensures.cut v e)))
+    let place = c.place_in-place.result in
+    let chain = chain_at c.args.versions.now.chains c.args.chain in
+    let same : c.newest-version.result.now ≡ v = same_item chain (length chain - 1) c.newest-version.result.now v c.newest-version.ensures e in
+    let cut = subst (λ (x : RowVersion). IsCut (λ y. is_lt (index_cmp cs ps y x)) place (other_at others j)) same c.place_in-place.ensures.cut in
+    c.enter.ensures.entered v e ∙ sym (ap (set others j) (placed_there (index_cmp cs ps) (index_total cs ps) v (other_at others j) place cut))

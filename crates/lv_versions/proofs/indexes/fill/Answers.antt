@@ -1,36 +1,24 @@
-use Rattle.std.proofs.Common.{◌≡◌, ◌+◌, List, [], length, set, take, sym, ap, subst, ◌∙◌, arith}
-use Rattle.std.proofs.lemmas.List.{get_or-set_other, get_or-set_same, length-set}
-use Rattle.lv_values.specs.Ascending.{placed}
+use Rattle.std.proofs.Common.{◌≡◌, ◌++◌, List, filter, take, sym, subst, arith}
+use Rattle.std.proofs.lemmas.List.{take_all}
 use Rattle.lv_schema.specs.declared.version.RowVersion.{RowVersion}
-use Rattle.lv_shelf.specs.Cuts.{Apart}
 use Rattle.lv_shelf.specs.Shelves.{other_at}
-use Rattle.lv_versions.specs.Versions.{AreIndexed, Precedes, index_cmp}
-use Rattle.lv_versions.proofs.Indexing.{indexed_lacks, indexed_more}
-use Rattle.lv_versions.proofs.Keeping.{item_there}
+use Rattle.lv_shelf.specs.Chains.{joined}
+use Rattle.lv_versions.specs.Versions.{AreEnded, AreIndexed, is_open}
+use Rattle.lv_versions.proofs.DroppingChains.{filled_all}
 use Rattle.lv_versions.proofs.indexes.fill.Goals as goal
 
-pub enter-requires-clause-absent : goal.enter-requires-clause-absent
-enter-requires-clause-absent c = λ v e.
-    let s = c.loop-at.versions in
-    indexed_lacks c.args.columns.now c.args.positions.now (other_at s.others c.args.order) s.list c.loop-at.at v (subst (Apart (Precedes c.args.positions.now)) (sym c.loop-at.invariant.same) c.requires.stand) e c.loop-at.invariant.filled
-
-pub loop-at-preserved : goal.loop-at-preserved
-loop-at-preserved c =
+pub returns-clause-filled : goal.returns-clause-filled
+returns-clause-filled c =
     let cs = c.args.columns.now in
     let ps = c.args.positions.now in
-    let s = c.loop-at.versions in
-    let now = c.enter.new.versions in
-    let at = c.loop-at.at in
-    let j = c.args.order in
-    let stand = subst (Apart (Precedes ps)) (sym c.loop-at.invariant.same) c.requires.stand in
-    let there = item_there s.list at (omega (arith, c.loop-at-test.true, c.len-at-end.ensures, ap length c.loop-at.invariant.same)) in
-    let put : List RowVersion = placed (index_cmp cs ps) there.0 (other_at s.others j) in
-    let entered : now.others ≡ set s.others j put = c.enter.ensures.entered there.0 there.1 in
-    record {
-      same = c.enter.ensures.same ∙ c.loop-at.invariant.same;
-      room = c.enter.ensures.room ∙ c.loop-at.invariant.room;
-      count = ap length entered ∙ length-set s.others j put ∙ c.loop-at.invariant.count;
-      others = λ k ne. ap (λ l. other_at l k) entered ∙ get_or-set_other s.others j k put [] ne ∙ c.loop-at.invariant.others k ne;
-      filled = subst (λ l. AreIndexed cs ps l (take (at + 1) now.list)) (sym (ap (λ l. other_at l j) entered ∙ get_or-set_same s.others j put [] (omega (arith, c.loop-at.invariant.count, c.requires.order))))
-          (subst (λ l. AreIndexed cs ps put (take (at + 1) l)) (sym c.enter.ensures.same) (indexed_more cs ps (other_at s.others j) s.list at there.0 stand there.1 c.loop-at.invariant.filled));
-    }
+    let old = c.args.versions.now in
+    let first = c.fill_ended.new.versions in
+    let now = c.loop-chain.versions in
+    let order = other_at now.others c.args.order in
+    let ended = other_at first.others 0 in
+    let start : ended ≡ other_at old.others 0 = c.fill_ended.ensures.others 0 (λ e. absurd (omega (arith, e, c.requires.order))) in
+    let are : AreEnded ended (joined first.chains) =
+    subst (λ (l : List (List RowVersion)). AreEnded ended (joined l)) (sym c.fill_ended.ensures.same) (subst (λ l. AreEnded l (joined old.chains)) (sym start) c.requires.ended) in
+    let whole : take c.loop-chain.chain first.chains ≡ first.chains = take_all c.loop-chain.chain first.chains (omega (arith, c.loop-chain-test.false, c.chains-chain-end.ensures.count)) in
+    subst (λ (l : List (List RowVersion)). AreIndexed cs ps order (joined l)) (sym c.loop-chain.invariant.same)
+    (filled_all cs ps order ended (joined first.chains) are (subst (λ (l : List (List RowVersion)). AreIndexed cs ps order (ended ++ filter is_open (joined l))) whole c.loop-chain.invariant.filled))

@@ -1,13 +1,14 @@
-use Rattle.std.proofs.Common.{◌≡◌, ℕ, take, length}
+use Rattle.std.proofs.Common.{◌≡◌, ℕ, length}
 use Rattle.lv_shelf.specs.Shelves.{other_at}
 use Rattle.lv_versions.specs.Versions.{AreIndexed}
+use Rattle.lv_versions.proofs.DroppingChains.{filled_to}
 use Rattle.lv_versions.proofs.indexes.fill.Given as goal
 
-abbrev pub invariant-loop-at : goal.invariant-loop-at
-invariant-loop-at l = record {
-  same : l.versions.list ≡ l.initial.versions.list;
+abbrev pub invariant-loop-chain : goal.invariant-loop-chain
+invariant-loop-chain l = record {
+  same : l.versions.chains ≡ l.initial.versions.chains;
   room : l.versions.spare ≡ l.initial.versions.spare;
   count : length l.versions.others ≡ length l.initial.versions.others;
   others : (k : ℕ) → (k ≡ l.order → ⊥) → other_at l.versions.others k ≡ other_at l.initial.versions.others k;
-  filled : AreIndexed l.columns l.positions (other_at l.versions.others l.order) (take l.at l.versions.list);
+  filled : AreIndexed l.columns l.positions (other_at l.versions.others l.order) (filled_to (other_at l.initial.versions.others 0) l.initial.versions.chains l.chain);
 }

@@ -2,16 +2,17 @@ use Rattle.std.proofs.Common.{◌≡◌, ℕ, ◌+◌, ◌<◌, ◌≤◌, lengt
 use Rattle.std.specs.Prelude.{slice_get}
 use Rattle.lv_schema.specs.declared.version.RowVersion.{RowVersion}
 use Rattle.lv_shelf.specs.Shelves.{other_at}
+use Rattle.lv_shelf.specs.Chains.{chain_at, joined}
 use Rattle.lv_versions.specs.Versions.{AreIndexedBut, columns_at}
 use Rattle.lv_versions.proofs.indexes.leave_each.Given as goal
 
 abbrev pub invariant-loop-j : goal.invariant-loop-j
 invariant-loop-j l = record {
-  same : l.versions.list ≡ l.initial.versions.list;
+  same : l.versions.chains ≡ l.initial.versions.chains;
   room : l.versions.spare ≡ l.initial.versions.spare;
   count : length l.versions.others ≡ length l.initial.versions.others;
   ended : other_at l.versions.others 0 ≡ other_at l.initial.versions.others 0;
   current : other_at l.versions.others 1 ≡ other_at l.initial.versions.others 1;
-  done : (v : RowVersion) (k : ℕ) → slice_get l.versions.list l.at ≡ Some v → k < l.j → AreIndexedBut (columns_at l.indexes k) l.positions v (other_at l.versions.others (k + 2)) l.versions.list;
+  done : (v : RowVersion) (k : ℕ) → slice_get (chain_at l.versions.chains l.chain) 0 ≡ Some v → k < l.j → AreIndexedBut (columns_at l.indexes k) l.positions v (other_at l.versions.others (k + 2)) (joined l.versions.chains);
   rest : (k : ℕ) → l.j ≤ k → other_at l.versions.others (k + 2) ≡ other_at l.initial.versions.others (k + 2);
 }

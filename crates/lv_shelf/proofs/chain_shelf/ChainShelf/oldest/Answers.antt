@@ -1,0 +1,18 @@
+use Rattle.std.proofs.Common.{◌∙◌, sym, ap}
+use Rattle.lv_shelf.specs.Shelves.{slot_of}
+use Rattle.lv_shelf.proofs.ChainShelves.{oldest_is}
+use Rattle.lv_shelf.proofs.chain_shelf.ChainShelf.oldest.Goals as goal
+
+pub in_slot-requires : goal.in_slot-requires
+in_slot-requires g c =
+    let s = c.self.inside in
+    let slots = s.slots.items in
+    let slot = oldest_is slots s.chains.chains c.args.self.now.chains c.args.chain c.oldest_in.result c.self.invariant.own.held c.self.invariant.some (ap (λ r. r.chains) c.self.view_is) c.requires c.oldest_in.ensures in
+    rw c.as_slice.ensures.value slot.held
+
+pub returns : goal.returns
+returns g c =
+    let s = c.self.inside in
+    let slots = s.slots.items in
+    let slot = oldest_is slots s.chains.chains c.args.self.now.chains c.args.chain c.oldest_in.result c.self.invariant.own.held c.self.invariant.some (ap (λ r. r.chains) c.self.view_is) c.requires c.oldest_in.ensures in
+    slot.seen ∙ sym slot.there ∙ ap (λ l. slot_of l c.oldest_in.result) (sym c.as_slice.ensures.value) ∙ c.in_slot.ensures
