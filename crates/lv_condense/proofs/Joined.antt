@@ -1,8 +1,8 @@
 -- A touch that ends with a later action on its key comes to what it and the touch by that action come to.
-use Rattle.std.proofs.Common.{◌≡◌, ℕ, zero, suc, Bool, true, false, cond, ◌||◌, ◌-◌, ◌<◌, List, [], ◌∷◌, ◌++◌, map, drop, length, get_or, Option, refl, sym, ap, ◌∙◌, subst, arith}
+use Rattle.std.proofs.Common.{◌≡◌, ℕ, zero, suc, Bool, true, false, cond, ◌||◌, ◌-◌, ◌<◌, ◌≤◌, List, [], ◌∷◌, ◌++◌, map, take, drop, length, get_or, Option, refl, sym, ap, ◌∙◌, subst, arith}
 use Rattle.std.specs.Prelude.{◌==◌, slice_set}
-use Rattle.std.specs.List.{AllByRecursion, list_any}
-use Rattle.std.specs.Ordering.{is_eq, is_lt}
+use Rattle.std.specs.List.{AllByRecursion, insert, list_any}
+use Rattle.std.specs.Ordering.{is_lt}
 use Rattle.std.specs.declared.cmp.Ordering.{Ordering}
 use Rattle.std.specs.declared.cmp.Ordering.TheVariants.{Less, Equal, Greater}
 use Rattle.lv_values.specs.declared.value.Value.{Value}
@@ -11,7 +11,8 @@ use Rattle.lv_values.specs.OrderLaws.{row_exact, row_total}
 use Rattle.lv_schema.specs.declared.action.Action.{Action}
 use Rattle.lv_schema.specs.Keys.{left_by}
 use Rattle.lv_schema.specs.Once.{Ascends}
-use Rattle.lv_condense.specs.Touches.{Alike, ATouch, HasNoneBehind, IsLastOf, key_of, touch_cmp, found_in, left_in, of_key, then_by}
+use Rattle.lv_condense.specs.Touches.{Alike, ATouch, key_of, touch_cmp, found_in, left_in, of_key, then_by}
+use Rattle.lv_condense.proofs.Runs.{equal_from, less_from, none_above, not_gt}
 
 abbrev Key : Type 0
 Key = List Value
@@ -61,11 +62,6 @@ is_less Greater h = cc
 pub last_at : (n : ℕ) → (n == 0) ≡ false → suc (n - 1) ≡ n
 last_at zero f = cc
 last_at (suc n) f = omega arith
-
-equal_from : (r : Ordering) → is_eq r ≡ true → r ≡ Equal
-equal_from Less h = cc
-equal_from Equal h = refl
-equal_from Greater h = cc
 
 alike_along : (xs ys zs : List ATouch) → Alike xs ys → Alike ys zs → Alike xs zs
 alike_along xs ys zs a b = record {
@@ -132,49 +128,39 @@ alike_at (y ∷ ys) zero t x rest n at same none =
     (alike_behind y (x ∷ (ys ++ rest)) (ys ++ x ∷ rest) (alike_past x ys rest none))
 alike_at (y ∷ ys) (suc i) t x rest n at same none = alike_behind y (slice_set ys i (then_by t x.last) ++ rest) (ys ++ x ∷ rest) (alike_at ys i t x rest (omega arith) at same none)
 
--- ---- the last touch of a key
-one_there : (xs : List ATouch) (i : ℕ) (t u : ATouch) → i < length xs → t ≡ get_or xs i t → u ≡ get_or xs i u → u ≡ t
+-- one touch stands at a place
+pub one_there : (xs : List ATouch) (i : ℕ) (t u : ATouch) → i < length xs → t ≡ get_or xs i t → u ≡ get_or xs i u → u ≡ t
 one_there [] i t u n at there = absurd (omega arith)
 one_there (y ∷ ys) zero t u n at there = there ∙ sym at
 one_there (y ∷ ys) (suc i) t u n at there = one_there ys i t u (omega arith) at there
 
-pub last_here : (k : Key) (xs : List ATouch) (i : ℕ) (t : ATouch) → i < length xs → t ≡ get_or xs i t → row_eq k (key_of t) ≡ true → of_key k (drop (suc i) xs) ≡ [] → IsLastOf k xs i
-last_here k xs i t n at on none = record {
-  within = n;
-  here = λ u there. ap key_of (one_there xs i t u n at there) ∙ sym (row_exact k (key_of t) (equal_from _ on));
-  behind = none;
-}
+-- a touch behind which there are greater ones ends with a later action on its key, and so does the last one of all
+pub alike_ended : (xs : List ATouch) (i : ℕ) (t x : ATouch) (rest : List ATouch) → i < length xs → t ≡ get_or xs i t → row_eq (key_of t) (key_of x) ≡ true → AllByRecursion (λ y. touch_cmp x y ≡ Less) (drop (suc i) xs)
+    → Alike (slice_set xs i (then_by t x.last) ++ rest) (xs ++ x ∷ rest)
+alike_ended xs i t x rest n at same above =
+    alike_at xs i t x rest n at (sym (row_exact (key_of t) (key_of x) (equal_from _ same))) (none_above (key_of x) (drop (suc i) xs) above)
 
-pub none_from : (k : Key) (xs : List ATouch) (i : ℕ) (t : ATouch) → i < length xs → t ≡ get_or xs i t → row_eq k (key_of t) ≡ false → of_key k (drop (suc i) xs) ≡ [] → of_key k (drop i xs) ≡ []
-none_from k [] i t n at off none = absurd (omega arith)
-none_from k (y ∷ ys) zero t n at off none = ap (λ b. cond b (y ∷ of_key k ys) (of_key k ys)) (ap (λ (u : ATouch). row_eq k (key_of u)) (sym at) ∙ off) ∙ none
-none_from k (y ∷ ys) (suc i) t n at off none = none_from k ys i t (omega arith) at off none
+pub alike_latest : (xs : List ATouch) (t x : ATouch) (rest : List ATouch) → row_eq (key_of t) (key_of x) ≡ true → Alike ((xs ++ then_by t x.last ∷ []) ++ rest) ((xs ++ t ∷ []) ++ x ∷ rest)
+alike_latest [] t x rest same = alike_then_by t x rest (sym (row_exact (key_of t) (key_of x) (equal_from _ same)))
+alike_latest (y ∷ ys) t x rest same = alike_behind y ((ys ++ then_by t x.last ∷ []) ++ rest) ((ys ++ t ∷ []) ++ x ∷ rest) (alike_latest ys t x rest same)
 
--- the last touch of a key ends with a later action on it
-pub alike_lengthened : (xs : List ATouch) (i : ℕ) (t x : ATouch) (rest : List ATouch) → t ≡ get_or xs i t → IsLastOf (key_of x) xs i → Alike (slice_set xs i (then_by t x.last) ++ rest) (xs ++ x ∷ rest)
-alike_lengthened xs i t x rest at last = alike_at xs i t x rest last.within at (sym (last.here t at)) last.behind
+-- a touch may be put in front of some that are not of its key
+alike_in : (xs : List ATouch) (at : ℕ) (x : ATouch) (rest : List ATouch) → of_key (key_of x) (drop at xs) ≡ [] → Alike (insert xs at x ++ rest) (xs ++ x ∷ rest)
+alike_in xs zero x rest none = alike_past x xs rest none
+alike_in [] (suc at) x rest none = alike_past x [] rest refl
+alike_in (y ∷ ys) (suc at) x rest none = alike_behind y (insert ys at x ++ rest) (ys ++ x ∷ rest) (alike_in ys at x rest none)
 
--- the touch that the latest action ends has none of its key behind it
-pub latest_ended : (k : Key) (xs : List ATouch) (i : ℕ) (t : ATouch) (a : Action) → t ≡ get_or xs i t → IsLastOf k xs i → HasNoneBehind (slice_set xs i (then_by t a)) i
-latest_ended k [] i t a at last = absurd (let within = last.within in omega (arith, within))
-latest_ended k (y ∷ ys) zero t a at last = λ x is. ap (λ (q : Key). of_key q ys) (ap key_of is ∙ last.here t at) ∙ last.behind
-latest_ended k (y ∷ ys) (suc i) t a at last =
-    let within = last.within in
-    latest_ended k ys i t a at (record { within = omega (arith, within); here = last.here; behind = last.behind })
-
-pub latest_here : (k : Key) (xs : List ATouch) (i : ℕ) (t : ATouch) → i < length xs → t ≡ get_or xs i t → row_eq k (key_of t) ≡ true → HasNoneBehind xs i → IsLastOf k xs i
-latest_here k xs i t n at on none =
-    last_here k xs i t n at on (ap (λ (q : Key). of_key q (drop (suc i) xs)) (row_exact k (key_of t) (equal_from _ on)) ∙ none t at)
+pub alike_inserted : (xs : List ATouch) (at : ℕ) (x : ATouch) (rest : List ATouch) → AllByRecursion (λ y. touch_cmp x y ≡ Less) (drop at xs) → Alike (insert xs at x ++ rest) (xs ++ x ∷ rest)
+alike_inserted xs at x rest above = alike_in xs at x rest (none_above (key_of x) (drop at xs) above)
 
 -- ---- touches each of a lower key than the next one
-abbrev Below : ATouch → List ATouch → Type 0
+abbrev pub Below : ATouch → List ATouch → Type 0
 Below y xs = AllByRecursion (λ x. touch_cmp y x ≡ Less) xs
 
-below_at : (y : ATouch) (xs : List ATouch) (i : ℕ) (t : ATouch) → suc i ≡ length xs → t ≡ get_or xs i t → Below y xs → touch_cmp y t ≡ Less
+below_at : (y : ATouch) (xs : List ATouch) (i : ℕ) (t : ATouch) → i < length xs → t ≡ get_or xs i t → Below y xs → touch_cmp y t ≡ Less
 below_at y [] i t n at b = absurd (omega arith)
 below_at y (x ∷ xs) zero t n at b = ap (touch_cmp y) at ∙ b.0
-below_at y (x ∷ []) (suc i) t n at b = absurd (omega arith)
-below_at y (x ∷ z ∷ xs) (suc i) t n at b = below_at y (z ∷ xs) i t (omega arith) at b.1
+below_at y (x ∷ xs) (suc i) t n at b = below_at y xs i t (omega arith) at b.1
 
 below_one_more : (y : ATouch) (xs : List ATouch) (x : ATouch) → Below y xs → touch_cmp y x ≡ Less → Below y (xs ++ x ∷ [])
 below_one_more y [] x b l = (l, tt)
@@ -199,3 +185,31 @@ pub ascends_at : (xs : List ATouch) (i : ℕ) (t : ATouch) (a : Action) → i < 
 ascends_at [] i t a n at up = absurd (omega arith)
 ascends_at (y ∷ xs) zero t a n at up = (subst (λ (u : ATouch). Below u xs) (sym at) up.0, up.1)
 ascends_at (y ∷ xs) (suc i) t a n at up = (below_set y xs i t a (omega arith) at up.0, ascends_at xs i t a (omega arith) at up.1)
+
+-- so does a touch that is put in its place
+abbrev pub Under : ATouch → List ATouch → Type 0
+Under x xs = AllByRecursion (λ y. touch_cmp y x ≡ Less) xs
+
+lower : (x t : ATouch) → is_lt (touch_cmp x t) ≡ false → row_eq (key_of t) (key_of x) ≡ false → touch_cmp t x ≡ Less
+lower x t least apart = less_from (touch_cmp t x) (not_gt t x least) apart
+
+below_up_to : (xs : List ATouch) (i : ℕ) (t x : ATouch) → i < length xs → t ≡ get_or xs i t → touch_cmp t x ≡ Less → Ascends touch_cmp xs → Under x (take (suc i) xs)
+below_up_to [] i t x n at l up = absurd (omega arith)
+below_up_to (y ∷ ys) zero t x n at l up = (ap (λ (u : ATouch). touch_cmp u x) (sym at) ∙ l, tt)
+below_up_to (y ∷ ys) (suc i) t x n at l up =
+    let below : touch_cmp y t ≡ Less = below_at y ys i t (omega arith) at up.0 in
+    (row_total.trans (key_of y) (key_of t) (key_of x) below l, below_up_to ys i t x (omega arith) at l up.1)
+
+below_in : (y : ATouch) (xs : List ATouch) (at : ℕ) (x : ATouch) → Below y xs → touch_cmp y x ≡ Less → Below y (insert xs at x)
+below_in y xs zero x b l = (l, b)
+below_in y [] (suc at) x b l = (l, tt)
+below_in y (z ∷ xs) (suc at) x b l = (b.0, below_in y xs at x b.1 l)
+
+pub ascends_in : (xs : List ATouch) (at : ℕ) (x : ATouch) → at ≤ length xs → Under x (take at xs) → Below x (drop at xs) → Ascends touch_cmp xs → Ascends touch_cmp (insert xs at x)
+ascends_in xs zero x n under above up = (above, up)
+ascends_in [] (suc at) x n under above up = absurd (omega arith)
+ascends_in (y ∷ ys) (suc at) x n under above up = (below_in y ys at x up.0 under.0, ascends_in ys at x (omega arith) under.1 above up.1)
+
+-- what stands before a place up to which no touch is greater, where the last one is of another key
+pub under_place : (xs : List ATouch) (i : ℕ) (t x : ATouch) → i < length xs → t ≡ get_or xs i t → is_lt (touch_cmp x t) ≡ false → row_eq (key_of t) (key_of x) ≡ false → Ascends touch_cmp xs → Under x (take (suc i) xs)
+under_place xs i t x n at least apart up = below_up_to xs i t x n at (lower x t least apart) up

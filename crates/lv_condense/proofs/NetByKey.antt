@@ -1,6 +1,6 @@
 -- What touches come to, key by key, is what actions condense to.
-use Rattle.std.proofs.Common.{◌≡◌, ℕ, Bool, true, false, cond, not, ◌&&◌, List, [], ◌∷◌, map, Option, None, refl, sym, ap, ap₂, ◌∙◌, arith}
-use Rattle.std.specs.Prelude.{◌==◌, IfOk, OnOk, Result, Ok, Err}
+use Rattle.std.proofs.Common.{◌≡◌, ℕ, Bool, true, false, cond, not, ◌&&◌, List, [], ◌∷◌, map, Option, None, refl, sym, ap, ap₂, ◌∙◌, ◌<◌, length, arith}
+use Rattle.std.specs.Prelude.{◌==◌, IfOk, Result, Ok, Err}
 use Rattle.std.specs.List.{AllByRecursion, cons_option, filter, filter_map}
 use Rattle.std.specs.List.Sorted.{IsPermutation, IsStable, ties}
 use Rattle.std.specs.Ordering.{is_eq, is_lt, ordering_reverse}
@@ -16,6 +16,11 @@ use Rattle.lv_values.specs.Rows.{values_at}
 use Rattle.lv_schema.specs.declared.action.Action.{Action}
 use Rattle.lv_schema.specs.declared.net.Net.{Net}
 use Rattle.lv_schema.specs.declared.table.TableDef.{TableDef}
+use Rattle.lv_schema.proofs.Condenses.{condenses}
+use Rattle.lv_schema.specs.Databases.{Db, rows_of, IsDatabase}
+use Rattle.lv_schema.specs.Effects.{acted_all}
+use Rattle.lv_schema.specs.Nets.{net_of}
+use Rattle.lv_schema.specs.SoundWorld.{CanAct}
 use Rattle.lv_schema.specs.Commits.{same_place, written_place}
 use Rattle.lv_schema.specs.Condensed.{condensed, first_found, found_by, last_left, unless, written_keys}
 use Rattle.lv_schema.specs.Keys.{carried, left_by}
@@ -179,10 +184,25 @@ condensed_is tables def actions touches net is alike minus plus = λ i. record {
     gained = plus ∙ gained_alike touches (touched def.key def.no actions) alike ∙ ap (by_key gained_in) (sym keyed) ∙ gained_is tables def.no actions
 
 -- ---- what an answer says twice
-pub on_ok : {T E : Type 0} (r : Result T E) (P : Type 0) → P → OnOk r P
-on_ok (Ok a) P p = p
-on_ok (Err e) P p = tt
-
 pub ok_both : {T E : Type 0} (r : Result T E) (P Q R : T → Type 0) → ((a : T) → P a → Q a → R a) → IfOk r P → IfOk r Q → IfOk r R
 ok_both (Ok a) P Q R f p q = f a p q
 ok_both (Err e) P Q R f p q = tt
+
+-- what is gathered of touches that come to the same as the table's
+module _ {X E : Type 0} (as_net : X → Net) (r : Result X E) (def : TableDef) (touches : List ATouch) where
+  pub whole : (gathered : List ATouch) → by_key lost_in gathered ≡ by_key lost_in touches → by_key gained_in gathered ≡ by_key gained_in touches
+      → IfOk r (λ x. (as_net x).minus ≡ by_key lost_in gathered) → IfOk r (λ x. (as_net x).plus ≡ by_key gained_in gathered)
+      → IfOk r (λ x. (tables : List TableDef) (actions : List Action) → Alike touches (touched def.key def.no actions) → table_at tables def.no ≡ def → as_net x ≡ condensed tables actions def.no)
+  whole gathered lost gained =
+      ok_both r (λ x. (as_net x).minus ≡ by_key lost_in gathered) (λ x. (as_net x).plus ≡ by_key gained_in gathered)
+      (λ x. (tables : List TableDef) (actions : List Action) → Alike touches (touched def.key def.no actions) → table_at tables def.no ≡ def → as_net x ≡ condensed tables actions def.no)
+      (λ x minus plus tables actions alike is. condensed_is tables def actions touches (as_net x) is alike (minus ∙ lost) (plus ∙ gained))
+
+  pub whole_net : IfOk r (λ x. (tables : List TableDef) (actions : List Action) → Alike touches (touched def.key def.no actions) → table_at tables def.no ≡ def → as_net x ≡ condensed tables actions def.no)
+      → IfOk r (λ x. (tables : List TableDef) (db : Db) (actions : List Action) → Alike touches (touched def.key def.no actions) → IsDatabase tables db → CanAct tables db actions → def.no < length tables → table_at tables def.no ≡ def
+      → as_net x ≡ net_of (rows_of db def.no) (rows_of (acted_all tables db actions) def.no))
+  whole_net p =
+      ok_both r _ _
+      (λ x. (tables : List TableDef) (db : Db) (actions : List Action) → Alike touches (touched def.key def.no actions) → IsDatabase tables db → CanAct tables db actions → def.no < length tables → table_at tables def.no ≡ def
+      → as_net x ≡ net_of (rows_of db def.no) (rows_of (acted_all tables db actions) def.no))
+      (λ x is again tables db actions alike fits may lt at. is tables actions alike at ∙ condenses tables db actions def.no fits may lt) p p

@@ -28,12 +28,12 @@ less_along x y z l b = by (row_cmp y z) refl b
     by Equal e g = subst (λ (w : Key). row_cmp x w ≡ Less) (row_exact y z e) l
     by Greater e g = cc
 
-less_from : (r : Ordering) → is_gt r ≡ false → is_eq r ≡ false → r ≡ Less
+pub less_from : (r : Ordering) → is_gt r ≡ false → is_eq r ≡ false → r ≡ Less
 less_from Less g e = refl
 less_from Equal g e = cc
 less_from Greater g e = cc
 
-equal_from : (r : Ordering) → is_eq r ≡ true → r ≡ Equal
+pub equal_from : (r : Ordering) → is_eq r ≡ true → r ≡ Equal
 equal_from Less h = cc
 equal_from Equal h = refl
 equal_from Greater h = cc
@@ -112,7 +112,7 @@ all_own k (x ∷ xs) s =
     ∙ (λ i. cond (is_eq (tied_itself row_total k i)) (x ∷ of_key k xs) (of_key k xs))
     ∙ ap (λ l. x ∷ l) (all_own k xs s.1)
 
-none_above : (k : Key) (xs : List ATouch) → Above k xs → of_key k xs ≡ []
+pub none_above : (k : Key) (xs : List ATouch) → Above k xs → of_key k xs ≡ []
 none_above k [] a = refl
 none_above k (x ∷ xs) a = (λ i. cond (is_eq (a.0 i)) (x ∷ of_key k xs) (of_key k xs)) ∙ none_above k xs a.1
 
@@ -181,7 +181,7 @@ falls [] some r = absurd (omega arith)
 falls (x ∷ xs) some r = subst (λ (m : ℕ). Falls m (x ∷ xs)) (sym (one_more (run (key_of x) xs))) (falls_at x xs r)
 
 -- what a sort leaves rises
-not_gt : (x y : ATouch) → is_lt (touch_cmp y x) ≡ false → is_gt (touch_cmp x y) ≡ false
+pub not_gt : (x y : ATouch) → is_lt (touch_cmp y x) ≡ false → is_gt (touch_cmp x y) ≡ false
 not_gt x y g = by (row_cmp (key_of x) (key_of y)) refl
   where
     by : (r : Ordering) → row_cmp (key_of x) (key_of y) ≡ r → is_gt r ≡ false

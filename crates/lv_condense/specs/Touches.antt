@@ -1,8 +1,8 @@
 -- Touches of one table, each the first and the last of some actions on one key, with the positions of the table's key, and
 -- what those of each key come to.
-use Rattle.std.specs.Prelude.{◌≡◌, ℕ, suc, ◌+◌, ◌<◌, ℤ, false, ◌==◌, List, [], ◌∷◌, length, drop, map, filter, slice_index_or, Option, None, MatchOption, FitsSigned}
+use Rattle.std.specs.Prelude.{◌≡◌, ℕ, ◌+◌, ℤ, false, ◌==◌, List, [], ◌∷◌, ◌++◌, map, filter, Option, None, MatchOption, FitsSigned}
 use Rattle.std.specs.Int.{w64}
-use Rattle.std.specs.List.{AllByRecursion, filter_map, list_any, prefix_len}
+use Rattle.std.specs.List.{AllByRecursion, cons_option, filter_map, list_any, prefix_len}
 use Rattle.std.specs.Ordering.{is_eq, is_gt, on}
 use Rattle.std.specs.declared.cmp.Ordering.{Ordering}
 use Rattle.std.specs.Cmp.{IsTotalOrder}
@@ -73,15 +73,9 @@ of_key k xs = filter (λ x. row_eq k (key_of x)) xs
 abbrev pub by_key : (List ATouch → Option (List Value)) → List ATouch → List (List Value)
 by_key f xs = filter_map (λ k. f (of_key k xs)) (once row_cmp (map key_of xs))
 
--- the touch at i is the last one of a key
-pub record IsLastOf (k : List Value) (xs : List ATouch) (i : ℕ) : Type 0 where
-  pub within : i < length xs
-  pub here : (x : ATouch) → x ≡ slice_index_or xs i x → key_of x ≡ k
-  pub behind : of_key k (drop (suc i) xs) ≡ []
-
--- no touch behind the one at i is of its key
-abbrev pub HasNoneBehind : List ATouch → ℕ → Type 0
-HasNoneBehind xs i = (x : ATouch) → x ≡ slice_index_or xs i x → of_key (key_of x) (drop (suc i) xs) ≡ []
+-- touches and the latest one behind them, if there is one
+abbrev pub collected : List ATouch → Option ATouch → List ATouch
+collected list latest = list ++ cons_option latest []
 
 -- touches that come to the same at each key
 pub record Alike (xs ys : List ATouch) : Type 0 where

@@ -1,72 +1,64 @@
 //! Collecting the touches of a table.
-ghost use Rattle.std.specs.Prelude.{◌≡◌, ℕ, ◌<◌, ◌≤◌, true, ◌++◌, [], ◌∷◌, List, drop, length, map, IfOk, IfSome, OnOk};
-ghost use Rattle.lv_values.specs.declared.value.Value.TheVariants.{Num};
+ghost use Rattle.std.specs.Prelude.{◌≡◌, ◌-◌, ◌<◌, ◌≤◌, true, false, ◌++◌, [], ◌∷◌, List, None, drop, length, map, slice_index_or, IfOk, OnOk};
+ghost use Rattle.std.specs.List.{AllByRecursion};
+ghost use Rattle.std.specs.Ordering.{is_lt};
+ghost use Rattle.std.specs.declared.cmp.Ordering.TheVariants.{Less};
 ghost use Rattle.lv_schema.specs.declared.action.DeltaEntry.{DeltaEntry};
 ghost use Rattle.lv_schema.specs.Once.{Ascends};
-ghost use Rattle.lv_condense.specs.Touches.{Alike, ATouch, HasNoneBehind, IsLastOf, key_of, touch_cmp, touched};
+ghost use Rattle.lv_condense.specs.Touches.{Alike, ATouch, collected, touch_cmp, touched};
 
 use crate::touch::Touch;
 use lv_schema::{Action, DeltaEntry, TableDef};
 use lv_values::NoMemory;
 use std::alloc::Global;
 
-/// The longest list of touches that is searched for an action's key.
+/// The longest list of touches that is searched for an action's key, and the length up to which touches are put in place.
 const SHORT: usize = 16;
 
-/// The touches of a table in the order of its actions, the place of the one that the latest action ends, and whether each
-/// is of a lower key than the next one.
+/// The touches of a table by its actions: the latest one, which the next action may end, and the others, with what is known
+/// of their order. Actions on one key in a row, as those of an update, are one touch, which is not looked up.
 #[derive(Drop)]
 pub(crate) struct Touches<'a> {
+    /// The touches but for the latest one.
     pub list: Vec<Touch<'a>>,
+    /// Whether each of these is of a lower key than the next one.
     pub ascend: bool,
-    latest: usize,
+    pub latest: Option<Touch<'a>>,
+    room: usize,
 }
 
 impl<'a> Touches<'a> {
-    /// No touches, with room for so many, which is taken once.
-    fn with_room(alloc: Global, room: usize) -> Result<Touches<'a>, NoMemory>
-        ensures list { IfOk result (λ touches. touches.list.items ≡ []) }
-        ensures ascend { IfOk result (λ touches. touches.ascend ≡ true) }
+    /// No touches, with room for so many, which is taken once, with the first that is not the latest one.
+    fn with_room(alloc: Global, room: usize) -> Touches<'a>
+        ensures list { result.list.items ≡ [] }
+        ensures latest { result.latest ≡ None }
+        ensures ascend { result.ascend ≡ true }
     {
-        Ok(Touches {
-            list: Vec::with_capacity(alloc, room)?,
+        Touches {
+            list: Vec::new(alloc),
             ascend: true,
-            latest: 0,
-        })
-    }
-
-    /// Ends a touch of a key with a later touch of it.
-    fn lengthen(&mut self, at: usize, later: &Touch<'a>)
-        requires { at < length self.old.list.items }
-        ensures alike { IsLastOf (key_of later.now) self.old.list.items at
-            → (rest : List ATouch) → Alike (self.new.list.items ++ rest) (self.old.list.items ++ later.now ∷ rest) }
-        ensures ascend { (self.old.ascend ≡ true → Ascends touch_cmp self.old.list.items) → self.new.ascend ≡ true → Ascends touch_cmp self.new.list.items }
-        ensures latest { IsLastOf (key_of later.now) self.old.list.items at → HasNoneBehind self.new.list.items self.new.latest }
-    {
-        self.list[at].end_with(later);
-        self.latest = at;
-    }
-
-    /// The place of the touch that the latest action ends, if it is of a touch's key.
-    fn end_on(&self, touch: &Touch<'a>) -> Option<usize>
-        requires { HasNoneBehind self.now.list.items self.now.latest }
-        ensures { IfSome result (λ at. IsLastOf (key_of touch.now) self.now.list.items at) }
-    {
-        let list: &[Touch<'a>] = &self.list;
-        if self.latest < list.len() && *touch == list[self.latest] {
-            return Some(self.latest);
+            latest: None,
+            room,
         }
-        None
     }
 
-    /// Where the last touch of a touch's key is, if they are few. Cost: a test of the key of each.
-    fn search(&self, touch: &Touch<'a>) -> Option<usize>
-        ensures { IfSome result (λ at. IsLastOf (key_of touch.now) self.now.list.items at) }
+    /// Adds the touch by an action: the latest one ends with it, if it is of its key; else it is the latest one. Cost: a test of
+    /// that one's key, and that of `put` for a touch of another key.
+    fn add(&mut self, touch: Touch<'a>) -> Result<(), NoMemory>
+        requires { self.old.ascend ≡ true → Ascends touch_cmp self.old.list.items }
+        ensures alike { OnOk result ((rest : List ATouch) → Alike (collected self.new.list.items self.new.latest ++ rest) (collected self.old.list.items self.old.latest ++ touch.entry ∷ rest)) }
+        ensures ascend { OnOk result (self.new.ascend ≡ true → Ascends touch_cmp self.new.list.items) }
     {
-        if self.list.len() > SHORT {
-            return None;
+        let Some(latest) = &mut self.latest else {
+            self.latest = Some(touch);
+            return Ok(());
+        };
+        if latest.is_of_key(&touch) {
+            latest.end_with(&touch);
+            return Ok(());
         }
-        last_of(&self.list, touch)
+        let done = std::mem::replace(latest, touch);
+        self.put(done)
     }
 
     /// Whether the last touch, if there is one, is of a lower key than a touch.
@@ -77,40 +69,44 @@ impl<'a> Touches<'a> {
         if list.is_empty() {
             return true;
         }
-        list[list.len() - 1].cmp(touch).is_lt()
+        list[list.len() - 1].is_below(touch)
     }
 
     /// Puts a touch behind the others.
     fn push(&mut self, touch: Touch<'a>) -> Result<(), NoMemory>
         ensures list { OnOk result (self.new.list.items ≡ self.old.list.items ++ touch.entry ∷ []) }
-        ensures ascend { OnOk result (self.new.ascend ≡ self.old.ascend) }
-        ensures latest { OnOk result (HasNoneBehind self.new.list.items self.new.latest) }
+        ensures ascend { self.new.ascend ≡ self.old.ascend }
+        ensures latest { self.new.latest ≡ self.old.latest }
     {
-        self.latest = self.list.len();
+        if self.list.is_empty() {
+            self.list.reserve(self.room)?;
+        }
         self.list.push(touch)?;
         Ok(())
     }
 
-    /// Adds the touch by an action: the last touch of its key ends with it, where that is the latest or is found; else it is
-    /// one more. Cost: a test of the latest one's key, a comparison of the last one's while the keys ascend, and that of
-    /// `search` where the touch's key is not above it.
-    fn add(&mut self, touch: Touch<'a>) -> Result<(), NoMemory>
-        requires { HasNoneBehind self.old.list.items self.old.latest }
+    /// Puts a touch to the others: while these ascend and are few, the one of its key ends with it, or it goes to its place;
+    /// else it goes behind them. Cost: a comparison where it is of a key above all; else, of up to sixteen, one for each of a
+    /// greater key, and a move of as many.
+    pub(crate) fn put(&mut self, touch: Touch<'a>) -> Result<(), NoMemory>
+        requires { self.old.ascend ≡ true → Ascends touch_cmp self.old.list.items }
         ensures alike { OnOk result ((rest : List ATouch) → Alike (self.new.list.items ++ rest) (self.old.list.items ++ touch.entry ∷ rest)) }
-        ensures ascend { OnOk result ((self.old.ascend ≡ true → Ascends touch_cmp self.old.list.items) → self.new.ascend ≡ true → Ascends touch_cmp self.new.list.items) }
-        ensures latest { OnOk result (HasNoneBehind self.new.list.items self.new.latest) }
+        ensures ascend { OnOk result (self.new.ascend ≡ true → Ascends touch_cmp self.new.list.items) }
+        ensures latest { self.new.latest ≡ self.old.latest }
     {
-        if let Some(at) = self.end_on(&touch) {
-            self.lengthen(at, &touch);
-            return Ok(());
+        if !self.ascend || self.ends_below(&touch) {
+            return self.push(touch);
         }
-        if self.ascend && self.ends_below(&touch) {
-            self.push(touch)?;
-            return Ok(());
-        }
-        if let Some(at) = self.search(&touch) {
-            self.lengthen(at, &touch);
-            return Ok(());
+        if self.list.len() <= SHORT {
+            let at = place_behind(&self.list, &touch);
+            if at > 0 && self.list[at - 1].is_of_key(&touch) {
+                self.list[at - 1].end_with(&touch);
+                return Ok(());
+            }
+            if self.list.len() < SHORT {
+                self.list.insert(at, touch)?;
+                return Ok(());
+            }
         }
         self.push(touch)?;
         self.ascend = false;
@@ -118,43 +114,17 @@ impl<'a> Touches<'a> {
     }
 }
 
-/// Where the last touch of a key of one number is. Cost: a test of the touches from there on.
-fn last_of_number(touches: &[Touch<'_>], number: i64) -> Option<usize>
-    ensures { IfSome result (λ at. IsLastOf (Num number ∷ []) touches.now at) }
+/// How many of the touches there are up to the last one that is of no greater key than a touch. Cost: a comparison for each behind it.
+fn place_behind<'a>(touches: &[Touch<'a>], touch: &Touch<'a>) -> usize
+    ensures within { result ≤ length touches.now }
+    ensures above { AllByRecursion (λ x. touch_cmp touch.now x ≡ Less) (drop result touches.now) }
+    ensures last { (x : ATouch) → 0 < result → x ≡ slice_index_or touches.now (result - 1) x → is_lt (touch_cmp touch.now x) ≡ false }
 {
     let mut at = touches.len();
-    while at > 0 {
-        if touches[at - 1].is_number(number) {
-            return Some(at - 1);
-        }
+    while at > 0 && touch.is_below(&touches[at - 1]) {
         at -= 1;
     }
-    None
-}
-
-/// Where the last touch of a touch's key is. Cost: a test of the keys of the touches from there on.
-fn last_of_key<'a>(touches: &[Touch<'a>], touch: &Touch<'a>) -> Option<usize>
-    ensures { IfSome result (λ at. IsLastOf (key_of touch.now) touches.now at) }
-{
-    let mut at = touches.len();
-    while at > 0 {
-        if *touch == touches[at - 1] {
-            return Some(at - 1);
-        }
-        at -= 1;
-    }
-    None
-}
-
-/// Where the last touch of a touch's key is. Cost: a test of the touches from there on, by their numbers where the key is
-/// one.
-fn last_of<'a>(touches: &[Touch<'a>], touch: &Touch<'a>) -> Option<usize>
-    ensures { IfSome result (λ at. IsLastOf (key_of touch.now) touches.now at) }
-{
-    match touch.number() {
-        Some(number) => last_of_number(touches, number),
-        None => last_of_key(touches, touch),
-    }
+    at
 }
 
 /// How many of the entries are of actions on a table: so many touches there are at most.
@@ -179,11 +149,11 @@ pub(crate) fn touches_of<'a>(
     table: &'a TableDef,
     entries: &'a [DeltaEntry],
 ) -> Result<Touches<'a>, NoMemory>
-    ensures alike { IfOk result (λ touches. Alike touches.list.items (touched table.now.key table.now.no (map (λ (e : DeltaEntry). e.action) entries.now))) }
+    ensures alike { IfOk result (λ touches. Alike (collected touches.list.items touches.latest) (touched table.now.key table.now.no (map (λ (e : DeltaEntry). e.action) entries.now))) }
     ensures ascend { IfOk result (λ touches. touches.ascend ≡ true → Ascends touch_cmp touches.list.items) }
 {
     let room = count_of(table.no, entries);
-    let mut touches = Touches::with_room(alloc, room)?;
+    let mut touches = Touches::with_room(alloc, room);
     for entry in entries {
         if table.no == entry.action.table {
             touches.add(Touch::by(table.key.as_slice(), &entry.action))?;
@@ -198,11 +168,11 @@ pub(crate) fn touches_in<'a>(
     table: &'a TableDef,
     actions: &'a [Action],
 ) -> Result<Touches<'a>, NoMemory>
-    ensures alike { IfOk result (λ touches. Alike touches.list.items (touched table.now.key table.now.no actions.now)) }
+    ensures alike { IfOk result (λ touches. Alike (collected touches.list.items touches.latest) (touched table.now.key table.now.no actions.now)) }
     ensures ascend { IfOk result (λ touches. touches.ascend ≡ true → Ascends touch_cmp touches.list.items) }
 {
     let room = count_in(table.no, actions);
-    let mut touches = Touches::with_room(alloc, room)?;
+    let mut touches = Touches::with_room(alloc, room);
     for action in actions {
         if table.no == action.table {
             touches.add(Touch::by(table.key.as_slice(), action))?;

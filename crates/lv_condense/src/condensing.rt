@@ -1,5 +1,5 @@
 //! Condensing.
-ghost use Rattle.std.specs.Prelude.{◌≡◌, true, ◌<◌, ◌≤◌, ◌++◌, List, [], length, map, IfOk, OnOk};
+ghost use Rattle.std.specs.Prelude.{◌≡◌, true, ◌<◌, ◌≤◌, ◌++◌, List, [], ◌∷◌, length, map, IfOk, OnOk};
 ghost use Rattle.std.specs.List.{cons_option, prefix_len};
 ghost use Rattle.std.specs.Ordering.{is_eq};
 ghost use Rattle.lv_schema.specs.declared.action.DeltaEntry.{DeltaEntry};
@@ -12,7 +12,7 @@ ghost use Rattle.lv_schema.specs.Nets.{net_of};
 ghost use Rattle.lv_schema.specs.Once.{Ascends};
 ghost use Rattle.lv_schema.specs.SoundWorld.{CanAct};
 ghost use Rattle.lv_schema.specs.World.{table_at};
-ghost use Rattle.lv_condense.specs.Touches.{Alike, by_key, gained_in, lost_in, Rises, run_of, touch_cmp, touched};
+ghost use Rattle.lv_condense.specs.Touches.{Alike, by_key, collected, gained_in, lost_in, Rises, run_of, touch_cmp, touched};
 
 use crate::collecting::{Touches, touches_in, touches_of};
 use crate::net_rows::{Gathers, NetRows};
@@ -46,45 +46,25 @@ fn first_run(touches: &[Touch<'_>], ascend: bool) -> usize
     1 + run_len(&touches[0], touches.split_at(1).1)
 }
 
-/// Adds the row that a key has lost, by the first action on it and the last one.
-fn push_lost<'a, G: Gathers<'a>>(
+/// Adds the row that a key has lost and the one that it has gained, by the first action on it and the last one.
+fn push_ends<'a, G: Gathers<'a>>(
     alloc: Global,
     first: &'a Action,
-    last: &Action,
+    last: &'a Action,
     net: &mut G,
 ) -> Result<(), NoMemory>
     ensures lost { OnOk result ((G.net net.new).minus ≡ (G.net net.old).minus ++ cons_option (unless (found_by first.now.kind first.now.row) (left_by last.now.kind last.now.row)) []) }
-    ensures gained { (G.net net.new).plus ≡ (G.net net.old).plus }
+    ensures gained { OnOk result ((G.net net.new).plus ≡ (G.net net.old).plus ++ cons_option (unless (left_by last.now.kind last.now.row) (found_by first.now.kind first.now.row)) []) }
 {
     match (first.kind, last.kind) {
-        (ActionKind::Insert, _) => Ok(()),
+        (ActionKind::Insert, ActionKind::Delete) => Ok(()),
+        (ActionKind::Insert, ActionKind::Insert) => net.gain(alloc, last),
         (ActionKind::Delete, ActionKind::Delete) => net.lose(alloc, first),
         (ActionKind::Delete, ActionKind::Insert) => {
             if first.row.cmp(&last.row).is_eq() {
                 return Ok(());
             }
-            net.lose(alloc, first)
-        }
-    }
-}
-
-/// Adds the row that a key has gained, by the first action on it and the last one.
-fn push_gained<'a, G: Gathers<'a>>(
-    alloc: Global,
-    first: &Action,
-    last: &'a Action,
-    net: &mut G,
-) -> Result<(), NoMemory>
-    ensures lost { (G.net net.new).minus ≡ (G.net net.old).minus }
-    ensures gained { OnOk result ((G.net net.new).plus ≡ (G.net net.old).plus ++ cons_option (unless (left_by last.now.kind last.now.row) (found_by first.now.kind first.now.row)) []) }
-{
-    match (last.kind, first.kind) {
-        (ActionKind::Delete, _) => Ok(()),
-        (ActionKind::Insert, ActionKind::Insert) => net.gain(alloc, last),
-        (ActionKind::Insert, ActionKind::Delete) => {
-            if last.row.cmp(&first.row).is_eq() {
-                return Ok(());
-            }
+            net.lose(alloc, first)?;
             net.gain(alloc, last)
         }
     }
@@ -102,8 +82,7 @@ fn push_run<'a, G: Gathers<'a>>(
 {
     let first = &run[0];
     let last = &run[run.len() - 1];
-    push_lost(alloc, first.first, last.last, net)?;
-    push_gained(alloc, first.first, last.last, net)
+    push_ends(alloc, first.first, last.last, net)
 }
 
 /// How many rows the touches may lose: as many as begin with a row that goes.
@@ -145,23 +124,59 @@ fn gather<'a, G: Gathers<'a>>(
     Ok(net)
 }
 
-/// The net change of the actions on a table from which these touches come.
+/// The net change of the actions on a table from which a list of touches comes.
+fn condense_list<'a, G: Gathers<'a>>(
+    alloc: Global,
+    table: &TableDef,
+    mut list: Vec<Touch<'a>>,
+    ascend: bool,
+) -> Result<G, NoMemory>
+    requires { ascend ≡ true → Ascends touch_cmp list.items }
+    ensures condensed { IfOk result (λ net. (tables : List TableDef) (actions : List Action) → Alike list.entry.items (touched table.now.key table.now.no actions) → table_at tables table.now.no ≡ table.now
+        → G.net net ≡ condensed tables actions table.now.no) }
+    ensures net { IfOk result (λ net. (tables : List TableDef) (db : Db) (actions : List Action) → Alike list.entry.items (touched table.now.key table.now.no actions) → IsDatabase tables db → CanAct tables db actions → table.now.no < length tables → table_at tables table.now.no ≡ table.now
+        → G.net net ≡ net_of (rows_of db table.now.no) (rows_of (acted_all tables db actions) table.now.no)) }
+{
+    if ascend {
+        return gather(alloc, &list, true);
+    }
+    list.sort()?;
+    gather(alloc, &list, false)
+}
+
+/// The net change of the actions on a table from which one touch comes.
+fn condense_one<'a, G: Gathers<'a>>(
+    alloc: Global,
+    table: &TableDef,
+    touch: &Touch<'a>,
+) -> Result<G, NoMemory>
+    ensures condensed { IfOk result (λ net. (tables : List TableDef) (actions : List Action) → Alike (touch.now ∷ []) (touched table.now.key table.now.no actions) → table_at tables table.now.no ≡ table.now
+        → G.net net ≡ condensed tables actions table.now.no) }
+    ensures net { IfOk result (λ net. (tables : List TableDef) (db : Db) (actions : List Action) → Alike (touch.now ∷ []) (touched table.now.key table.now.no actions) → IsDatabase tables db → CanAct tables db actions → table.now.no < length tables → table_at tables table.now.no ≡ table.now
+        → G.net net ≡ net_of (rows_of db table.now.no) (rows_of (acted_all tables db actions) table.now.no)) }
+{
+    gather(alloc, std::slice::from_ref(touch), true)
+}
+
+/// The net change of the actions on a table from which these touches come. One touch alone needs no list.
 fn condense_touches<'a, G: Gathers<'a>>(
     alloc: Global,
     table: &TableDef,
     mut touches: Touches<'a>,
 ) -> Result<G, NoMemory>
     requires { touches.ascend ≡ true → Ascends touch_cmp touches.list.items }
-    ensures condensed { IfOk result (λ net. (tables : List TableDef) (actions : List Action) → Alike touches.entry.list.items (touched table.now.key table.now.no actions) → table_at tables table.now.no ≡ table.now
+    ensures condensed { IfOk result (λ net. (tables : List TableDef) (actions : List Action) → Alike (collected touches.entry.list.items touches.entry.latest) (touched table.now.key table.now.no actions) → table_at tables table.now.no ≡ table.now
         → G.net net ≡ condensed tables actions table.now.no) }
-    ensures net { IfOk result (λ net. (tables : List TableDef) (db : Db) (actions : List Action) → Alike touches.entry.list.items (touched table.now.key table.now.no actions) → IsDatabase tables db → CanAct tables db actions → table.now.no < length tables → table_at tables table.now.no ≡ table.now
+    ensures net { IfOk result (λ net. (tables : List TableDef) (db : Db) (actions : List Action) → Alike (collected touches.entry.list.items touches.entry.latest) (touched table.now.key table.now.no actions) → IsDatabase tables db → CanAct tables db actions → table.now.no < length tables → table_at tables table.now.no ≡ table.now
         → G.net net ≡ net_of (rows_of db table.now.no) (rows_of (acted_all tables db actions) table.now.no)) }
 {
-    if touches.ascend {
-        return gather(alloc, &touches.list, true);
+    if let Some(latest) = touches.latest.take() {
+        if touches.list.is_empty() {
+            return condense_one(alloc, table, &latest);
+        }
+        touches.put(latest)?;
     }
-    touches.list.sort()?;
-    gather(alloc, &touches.list, false)
+    condense_list(alloc, table, touches.list, touches.ascend)
 }
 
 /// The net change that actions make of a table: for each key that they write, in the order of the keys, the row that the
@@ -169,10 +184,12 @@ fn condense_touches<'a, G: Gathers<'a>>(
 /// state on which they can be taken to the one to which they lead.
 ///
 /// Cost: for each action on the table a test whether its key is the last action's, and copies of the rows of the net
-/// change. Keys of one number that 64 bits hold are tested and compared as numbers, each read from its row once. A key
-/// above all before it costs one comparison more. Up to sixteen keys are found again in any order, by a test for each of
-/// them at most: so however many actions are on a few keys, what is sorted and gathered is one entry a key. Where there
-/// are more keys and they do not ascend, also n log n comparisons, where n counts actions in a row on one key once.
+/// change. Keys of one number that 64 bits hold are tested and compared as numbers, each read from its row once. Where all
+/// actions are on one key, no list is made of them. Else, for actions in a row on one key: a key above all before it costs
+/// one comparison more. Up to sixteen keys are found again, or put in their place, in any order, by a comparison for each
+/// of a greater key: so however many actions are on a few keys, what is gathered is one entry a key, and nothing is sorted.
+/// Where there are more keys and they do not ascend, also n log n comparisons, where n counts actions in a row on one key
+/// once.
 pub fn condense_actions(
     alloc: Global,
     table: &TableDef,

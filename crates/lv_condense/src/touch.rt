@@ -1,9 +1,8 @@
 //! Actions on one table.
-ghost use Rattle.std.specs.Prelude.{◌≡◌, [], ◌∷◌, refl};
+ghost use Rattle.std.specs.Prelude.{◌≡◌, refl};
 ghost use Rattle.std.specs.Cmp.{partial_equiv_from_equiv, partial_order_from_total};
 ghost use Rattle.std.specs.Ordering.{as_partial_cmp, eq_by_cmp, is_lt};
 ghost use Rattle.std.proofs.lemmas.Cmp.{eq_by_cmp_equiv};
-ghost use Rattle.lv_values.specs.declared.value.Value.TheVariants.{Num};
 ghost use Rattle.lv_values.specs.Order.{row_cmp, row_eq, value_cmp, value_eq};
 ghost use Rattle.lv_values.specs.Rows.{value_in, values_at};
 ghost use Rattle.lv_condense.specs.Touches.{IsNumberOf, key_of, then_by, touch_by, touch_cmp, touch_total};
@@ -48,20 +47,23 @@ impl<'a> Touch<'a> {
         }
     }
 
-    /// The number that the touch's key is, if it is one number and 64 bits hold it.
-    pub fn number(&self) -> Option<i64>
-        ensures { IsNumberOf (key_of self.now) result }
+    /// Whether the touch's key is below another's. Cost: a comparison of two numbers where both keys are one.
+    pub fn is_below(&self, other: &Touch<'a>) -> bool
+        ensures { result ≡ is_lt (touch_cmp self.now other.now) }
     {
-        self.number
+        match (self.number, other.number) {
+            (Some(a), Some(b)) => a < b,
+            _ => self.cmp(other).is_lt(),
+        }
     }
 
-    /// Whether the touch's key is this number.
-    pub fn is_number(&self, number: i64) -> bool
-        ensures { result ≡ row_eq (Num number ∷ []) (key_of self.now) }
+    /// Whether the touch is of another's key. Cost: a test of two numbers where both keys are one.
+    pub fn is_of_key(&self, other: &Touch<'a>) -> bool
+        ensures { result ≡ row_eq (key_of self.now) (key_of other.now) }
     {
-        match self.number {
-            Some(own) => own == number,
-            None => false,
+        match (self.number, other.number) {
+            (Some(a), Some(b)) => a == b,
+            _ => *self == *other,
         }
     }
 

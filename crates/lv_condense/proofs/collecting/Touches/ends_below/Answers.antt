@@ -1,4 +1,4 @@
-use Rattle.std.proofs.Common.{◌≡◌, ◌-◌, true, suc, ◌++◌, ◌∷◌, [], List, length, sym, ap, ◌∙◌, subst}
+use Rattle.std.proofs.Common.{◌≡◌, ◌-◌, true, suc, ◌++◌, ◌∷◌, [], List, length, sym, ◌∙◌, subst}
 use Rattle.std.specs.Ordering.{is_lt}
 use Rattle.lv_schema.specs.Once.{Ascends}
 use Rattle.lv_condense.specs.Touches.{ATouch, touch_cmp}
@@ -12,6 +12,6 @@ returns c = λ below up.
     let t = c.index-list-list.result in
     let x = c.args.touch.now in
     let last : suc at ≡ length list = last_at (length list) (sym c.is_empty.ensures ∙ c.if-is_empty.false) in
-    let less : is_lt (touch_cmp t x) ≡ true = sym (ap is_lt c.cmp.ensures) ∙ sym c.is_lt.ensures ∙ below in
+    let less : is_lt (touch_cmp t x) ≡ true = sym c.is_below.ensures ∙ below in
     subst (λ (xs : List ATouch). Ascends touch_cmp (xs ++ x ∷ [])) c.deref-list.ensures.value
     (ascends_one_more list at t x last c.index-list-list.is (is_less (touch_cmp t x) less) (subst (Ascends touch_cmp) (sym c.deref-list.ensures.value) up))
