@@ -21,7 +21,7 @@ use Rattle.lv_schema.proofs.PlannedSteps.{planned_is}
 use Rattle.lv_schema.proofs.ServedReaders.{query_served}
 use Rattle.lv_schema.proofs.SteadyUpkeep.{planned_step}
 use Rattle.lv_stands.specs.Kept.{EngineKept, view_kept, rows_shown}
-use Rattle.lv_stands.specs.Moves.{ViewInstalls, engine_stepped, StepsRun, StepsFollow}
+use Rattle.lv_stands.specs.Moves.{ViewInstalls, engine_stepped, least_read, StepsRun, StepsFollow}
 use Rattle.lv_stands.specs.Stands.{StandsFor}
 use Rattle.lv_stands.proofs.Steps.{step_stands}
 
@@ -30,7 +30,7 @@ steps_stand [] w e e' is follow run = subst (StandsFor w) (sym run) is
 steps_stand (f ∷ fs) w e e' is follow run =
     steps_stand fs (record { visible = w.visible; upkeep = with_steps (f ∷ []) w.upkeep }) (engine_stepped f run.0 e) e'
     (step_stands w e f run.0 is follow.0 follow.1
-    (subst (λ vs. ViewInstalls (view_at vs f.view) f.hi (view_difference (view_at vs f.view) (snap w.visible f.lo) (snap w.visible f.hi)) (view_kept e.rows f.view) run.0) is.views_are run.1))
+    (subst (λ vs. ViewInstalls (least_read e) (view_at vs f.view) f.hi (view_difference (view_at vs f.view) (snap w.visible f.lo) (snap w.visible f.hi)) (view_kept e.rows f.view) run.0) is.views_are run.1))
     follow.2 run.2
 
 -- ---- forced steps follow one another

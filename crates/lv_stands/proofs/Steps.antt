@@ -8,6 +8,7 @@ use Rattle.lv_values.specs.declared.value.Value.{Value}
 use Rattle.lv_schema.specs.declared.forced.Forced.{Forced}
 use Rattle.lv_schema.specs.declared.view.ViewDef.{ViewDef}
 use Rattle.lv_schema.specs.Differences.{view_difference, groups_of}
+use Rattle.lv_schema.specs.Greatest.{IsLive}
 use Rattle.lv_schema.specs.Groups.{view_rows}
 use Rattle.lv_schema.specs.Served.{IsServed, with_install}
 use Rattle.lv_schema.specs.SoundWorld.{IsSound}
@@ -23,9 +24,10 @@ use Rattle.lv_upkeep.specs.Stands.{UpkeepStands, task_of}
 use Rattle.lv_viewrows.specs.Changed.{groups_with}
 use Rattle.lv_viewrows.specs.Kept.{groups_at, rows_listed}
 use Rattle.lv_stands.specs.Kept.{ViewKept, EngineKept, view_kept, rows_shown, no_view_kept}
-use Rattle.lv_stands.specs.Moves.{ViewInstalls, engine_stepped}
+use Rattle.lv_stands.specs.Moves.{ViewInstalls, engine_stepped, least_read}
 use Rattle.lv_stands.specs.Stands.{ViewStands, ViewsStand, StandsFor}
 use Rattle.lv_stands.proofs.Carried.{step_steady}
+use Rattle.lv_stands.proofs.Cleans.{least_read_is}
 use Rattle.lv_stands.proofs.Tasks.{tasks_left}
 use Rattle.lv_stands.proofs.ViewGroups.{groups_lead_on, groups_list_rows}
 
@@ -33,38 +35,40 @@ eq_cases : (a b : ℕ) → (a ≡ b) ⊎ (a ≡ b → ⊥)
 eq_cases a b = grind arith
 
 -- ---- the view's rows
-module _ (s : Visible) (sound : IsSound s) (v : ℕ) (lt : v < length s.views) (lo hi : ℕ) (upto : hi ≤ last s) (old new : ViewKept) where
-  groups_now : ViewInstalls (view_at s.views v) hi (view_difference (view_at s.views v) (snap s lo) (snap s hi)) old new → ViewStands s (view_at s.views v) lo old
+module _ (s : Visible) (sound : IsSound s) (floor v : ℕ) (lt : v < length s.views) (lo hi : ℕ) (upto : hi ≤ last s) (old new : ViewKept) where
+  groups_now : ViewInstalls floor (view_at s.views v) hi (view_difference (view_at s.views v) (snap s lo) (snap s hi)) old new → ViewStands s (view_at s.views v) lo old
       → (n : ℕ) → hi ≤ n → groups_at n new.versions ≡ groups_of (view_at s.views v) (snap s hi)
   groups_now i is n le =
       i.from n le
       ∙ ap (groups_with (view_difference (view_at s.views v) (snap s lo) (snap s hi))) (is.groups_are old.at (omega (arith, is.at_is)))
       ∙ groups_lead_on s sound v lt lo hi upto
 
-  rows_now : ViewInstalls (view_at s.views v) hi (view_difference (view_at s.views v) (snap s lo) (snap s hi)) old new → ViewStands s (view_at s.views v) lo old
+  rows_now : ViewInstalls floor (view_at s.views v) hi (view_difference (view_at s.views v) (snap s lo) (snap s hi)) old new → ViewStands s (view_at s.views v) lo old
       → (n : ℕ) → hi ≤ n → rows_shown (view_at s.views v) n new ≡ view_rows (view_at s.views v) (snap s hi)
   rows_now i is n le = ap (rows_listed (view_at s.views v)) (groups_now i is n le) ∙ groups_list_rows s sound v lt hi upto
 
-served_alike : (s : Visible) (def : ViewDef) (p : ℕ) (f g : ℕ → List (List Value)) → ((k : ℕ) → g k ≡ f k) → IsServed s def p f → IsServed s def p g
-served_alike s def p f g same is = record { now = λ k le. same k ∙ is.now k le; before = λ k l lt. same k ∙ is.before k l lt }
+-- where two show the same to each live reader, and from the point on
+served_alike : (s : Visible) (def : ViewDef) (p : ℕ) (f g : ℕ → List (List Value)) → ((k : ℕ) → IsLive s k ⊎ (p ≤ k) → g k ≡ f k) → IsServed s def p f → IsServed s def p g
+served_alike s def p f g same is = record { now = λ k le. same k (inr le) ∙ is.now k le; before = λ k l lt. same k (inl l) ∙ is.before k l lt }
 
-pub view_stepped : (s : Visible) (f : Forced) (old new : ViewKept) → IsSound s → IsStep s f → ViewStands s (view_at s.views f.view) f.lo old
-    → ViewInstalls (view_at s.views f.view) f.hi (view_difference (view_at s.views f.view) (snap s f.lo) (snap s f.hi)) old new → ViewStands s (view_at s.views f.view) f.hi new
-view_stepped s f old new sound step is i =
+pub view_stepped : (s : Visible) (floor : ℕ) (f : Forced) (old new : ViewKept) → ((k : ℕ) → IsLive s k → floor ≤ k) → IsSound s → IsStep s f → ViewStands s (view_at s.views f.view) f.lo old
+    → ViewInstalls floor (view_at s.views f.view) f.hi (view_difference (view_at s.views f.view) (snap s f.lo) (snap s f.hi)) old new → ViewStands s (view_at s.views f.view) f.hi new
+view_stepped s floor f old new lives sound step is i =
     record {
       at_is = i.at_is;
       served = served_alike s (view_at s.views f.view) f.hi (with_install f.hi (view_rows (view_at s.views f.view) (snap s f.hi)) (λ n. rows_shown (view_at s.views f.view) n old)) (λ n. rows_shown (view_at s.views f.view) n new)
-          (λ k. by k (cases k f.hi))
+          (λ k from. by k from (cases k f.hi))
           (step_served s f (λ n. rows_shown (view_at s.views f.view) n old) sound step is.served);
-      groups_are = groups_now s sound f.view step.in_use f.lo f.hi step.within old new i is;
+      groups_are = groups_now s sound floor f.view step.in_use f.lo f.hi step.within old new i is;
     }
   where
     cases : (k t : ℕ) → (k < t) ⊎ (t ≤ k)
     cases k t = grind arith
 
-    by : (k : ℕ) → (k < f.hi) ⊎ (f.hi ≤ k) → rows_shown (view_at s.views f.view) k new ≡ with_install f.hi (view_rows (view_at s.views f.view) (snap s f.hi)) (λ n. rows_shown (view_at s.views f.view) n old) k
-    by k (inl lt) = let test : nat_lt k f.hi ≡ true = grind (arith, nat_tests) in rw test (ap (rows_listed (view_at s.views f.view)) (i.before k lt))
-    by k (inr le) = let test : nat_lt k f.hi ≡ false = grind (arith, nat_tests) in rw test (rows_now s sound f.view step.in_use f.lo f.hi step.within old new i is k le)
+    by : (k : ℕ) → IsLive s k ⊎ (f.hi ≤ k) → (k < f.hi) ⊎ (f.hi ≤ k) → rows_shown (view_at s.views f.view) k new ≡ with_install f.hi (view_rows (view_at s.views f.view) (snap s f.hi)) (λ n. rows_shown (view_at s.views f.view) n old) k
+    by k (inl l) (inl lt) = let test : nat_lt k f.hi ≡ true = grind (arith, nat_tests) in rw test (ap (rows_listed (view_at s.views f.view)) (i.before k (lives k l) lt))
+    by k (inr le) (inl lt) = absurd (omega arith)
+    by k from (inr le) = let test : nat_lt k f.hi ≡ false = grind (arith, nat_tests) in rw test (rows_now s sound floor f.view step.in_use f.lo f.hi step.within old new i is k le)
 
 -- ---- the points and tasks
 module _ (w : World) (f : Forced) (steady : IsSteady w) (step : IsStep w.visible f) (at : point w.upkeep f.view ≡ f.lo) where
@@ -98,10 +102,10 @@ module _ (w : World) (f : Forced) (steady : IsSteady w) (step : IsStep w.visible
           ∙ is.each v lt
           ∙ ap (λ p. map (task_of w.visible (view_at w.visible.views v)) (pending w.visible (view_at w.visible.views v) p (last w.visible))) (sym (point_there v ne))
 
-  views_step : (rows : List ViewKept) (new : ViewKept) → ViewsStand w rows
-      → ViewInstalls (view_at w.visible.views f.view) f.hi (view_difference (view_at w.visible.views f.view) (snap w.visible f.lo) (snap w.visible f.hi)) (view_kept rows f.view) new
+  views_step : (floor : ℕ) (rows : List ViewKept) (new : ViewKept) → ((k : ℕ) → IsLive w.visible k → floor ≤ k) → ViewsStand w rows
+      → ViewInstalls floor (view_at w.visible.views f.view) f.hi (view_difference (view_at w.visible.views f.view) (snap w.visible f.lo) (snap w.visible f.hi)) (view_kept rows f.view) new
       → ViewsStand (record { visible = w.visible; upkeep = with_steps (f ∷ []) w.upkeep }) (slice_set rows f.view new)
-  views_step rows new is i = record {
+  views_step floor rows new lives is i = record {
     all = length-set rows f.view new ∙ is.all;
     each = λ v lt. each v lt (eq_cases v f.view);
   }
@@ -113,7 +117,7 @@ module _ (w : World) (f : Forced) (steady : IsSteady w) (step : IsStep w.visible
       here =
           subst (λ p. ViewStands w.visible (view_at w.visible.views f.view) p (get_or (slice_set rows f.view new) f.view no_view_kept)) (sym point_here)
           (subst (λ k. ViewStands w.visible (view_at w.visible.views f.view) f.hi k) (sym (get_or-set_same rows f.view new no_view_kept (omega (arith, step.in_use, is.all))))
-          (view_stepped w.visible f (view_kept rows f.view) new steady.sound step was i))
+          (view_stepped w.visible floor f (view_kept rows f.view) new lives steady.sound step was i))
 
       each : (v : ℕ) → v < length w.visible.views → (v ≡ f.view) ⊎ (v ≡ f.view → ⊥) → ViewStands w.visible (view_at w.visible.views v) (point (with_steps (f ∷ []) w.upkeep) v) (get_or (slice_set rows f.view new) v no_view_kept)
       each v lt (inl e) = subst (λ x. ViewStands w.visible (view_at w.visible.views x) (point (with_steps (f ∷ []) w.upkeep) x) (get_or (slice_set rows f.view new) x no_view_kept)) (sym e) here
@@ -122,7 +126,7 @@ module _ (w : World) (f : Forced) (steady : IsSteady w) (step : IsStep w.visible
           (subst (λ k. ViewStands w.visible (view_at w.visible.views v) (point w.upkeep v) k) (sym (get_or-set_other rows f.view v new no_view_kept ne)) (is.each v lt))
 
 pub step_stands : (w : World) (e : EngineKept) (f : Forced) (new : ViewKept) → StandsFor w e → IsStep w.visible f → point w.upkeep f.view ≡ f.lo
-    → ViewInstalls (view_at w.visible.views f.view) f.hi (view_difference (view_at w.visible.views f.view) (snap w.visible f.lo) (snap w.visible f.hi)) (view_kept e.rows f.view) new
+    → ViewInstalls (least_read e) (view_at w.visible.views f.view) f.hi (view_difference (view_at w.visible.views f.view) (snap w.visible f.lo) (snap w.visible f.hi)) (view_kept e.rows f.view) new
     → StandsFor (record { visible = w.visible; upkeep = with_steps (f ∷ []) w.upkeep }) (engine_stepped f new e)
 step_stands w e f new is step at i = record {
   steady = step_steady w f is.steady step at;
@@ -130,7 +134,7 @@ step_stands w e f new is step at i = record {
   views_are = is.views_are;
   base_stands = is.base_stands;
   upkeep_stands = upkeep_steps w f is.steady step at e.upkeep is.upkeep_stands;
-  views_stand = views_step w f is.steady step at e.rows new is.views_stand i;
+  views_stand = views_step w f is.steady step at (least_read e) e.rows new (least_read_is w e is) is.views_stand i;
   sessions_stand = is.sessions_stand;
   journal_is = is.journal_is;
 }

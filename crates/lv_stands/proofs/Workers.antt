@@ -16,7 +16,7 @@ use Rattle.lv_tasks.specs.declared.task.Task.{Task}
 use Rattle.lv_upkeep.specs.Kept.{unclaimed_in}
 use Rattle.lv_upkeep.specs.Stands.{UpkeepStands, task_of}
 use Rattle.lv_stands.specs.Kept.{ViewKept, EngineKept, view_kept}
-use Rattle.lv_stands.specs.Moves.{ViewInstalls, engine_stepped, engine_claimed}
+use Rattle.lv_stands.specs.Moves.{ViewInstalls, engine_stepped, engine_claimed, least_read}
 use Rattle.lv_stands.specs.Stands.{StandsFor}
 use Rattle.lv_stands.proofs.Lists.{sum-map}
 use Rattle.lv_stands.proofs.Steps.{step_stands}
@@ -46,7 +46,7 @@ released_stands w e worker is = claimed_stands w e worker None is (released_stea
 
 -- a worker's step is installed where its view is still where the step begins
 pub installed_stands : (w : World) (e : EngineKept) (worker : ℕ) (f : Forced) (new : ViewKept) → StandsFor w e → claim_of w.upkeep worker ≡ Some f → point w.upkeep f.view ≡ f.lo
-    → ViewInstalls (view_at w.visible.views f.view) f.hi (view_difference (view_at w.visible.views f.view) (snap w.visible f.lo) (snap w.visible f.hi)) (view_kept e.rows f.view) new
+    → ViewInstalls (least_read e) (view_at w.visible.views f.view) f.hi (view_difference (view_at w.visible.views f.view) (snap w.visible f.lo) (snap w.visible f.hi)) (view_kept e.rows f.view) new
     → StandsFor (record { visible = w.visible; upkeep = with_claim worker None (with_steps (f ∷ []) w.upkeep) }) (engine_claimed worker None (engine_stepped f new e))
 installed_stands w e worker f new is claim at i =
     released_stands (record { visible = w.visible; upkeep = with_steps (f ∷ []) w.upkeep }) (engine_stepped f new e) worker (step_stands w e f new is (is.steady.claims worker f claim).step at i)

@@ -94,11 +94,11 @@ with_tasks number actions [] tasks = tasks
 with_tasks number actions (view ∷ views) [] = []
 with_tasks number actions (view ∷ views) (first ∷ tasks) = with_task number (actions_on view actions) first ∷ with_tasks number actions views tasks
 
--- a view's rows take a difference: below its end they stay, and from there on its rows or groups are those before with
--- the difference
-pub record ViewInstalls (view : ViewDef) (hi : ℕ) (changes : List SignedRow) (old new : ViewKept) : Type 0 where
+-- a view's rows take a difference: below its end they stay, as far down as a number, the floor; and from its end on its
+-- rows or groups are those before with the difference
+pub record ViewInstalls (floor : ℕ) (view : ViewDef) (hi : ℕ) (changes : List SignedRow) (old new : ViewKept) : Type 0 where
   pub at_is : new.at ≡ hi
-  pub before : (n : ℕ) → n < hi → groups_at n new.versions ≡ groups_at n old.versions
+  pub before : (n : ℕ) → floor ≤ n → n < hi → groups_at n new.versions ≡ groups_at n old.versions
   pub from : (n : ℕ) → hi ≤ n → groups_at n new.versions ≡ groups_with changes (groups_at old.at old.versions)
   pub rows : view.grouped ≡ false → (n : ℕ) → hi ≤ n → rows_shown view n new ≡ with_changes changes (rows_shown view old.at old)
 
@@ -160,7 +160,7 @@ abbrev pub StepsRun : Visible → List Forced → EngineKept → EngineKept → 
 StepsRun s [] e last = last ≡ e
 StepsRun s (f ∷ fs) e last =
     (new : ViewKept)
-    × ViewInstalls (view_at e.views f.view) f.hi (view_difference (view_at e.views f.view) (snap s f.lo) (snap s f.hi)) (view_kept e.rows f.view) new
+    × ViewInstalls (least_read e) (view_at e.views f.view) f.hi (view_difference (view_at e.views f.view) (snap s f.lo) (snap s f.hi)) (view_kept e.rows f.view) new
     × StepsRun s fs (engine_stepped f new e) last
 
 -- steps of which each begins where its view stands then

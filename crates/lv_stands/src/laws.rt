@@ -102,7 +102,7 @@ pub fn untouched_tables_may_stay()
 /// that a query forces are such steps; after them it reads of its views what they are at its snapshot.
 pub fn steps_keep_what_stands()
     ensures step { (w : World) (e : EngineKept) (f : Forced) (new : ViewKept) → StandsFor w e → IsStep w.visible f → point w.upkeep f.view ≡ f.lo
-        → ViewInstalls (view_at w.visible.views f.view) f.hi (view_difference (view_at w.visible.views f.view) (snap w.visible f.lo) (snap w.visible f.hi)) (view_kept e.rows f.view) new
+        → ViewInstalls (least_read e) (view_at w.visible.views f.view) f.hi (view_difference (view_at w.visible.views f.view) (snap w.visible f.lo) (snap w.visible f.hi)) (view_kept e.rows f.view) new
         → StandsFor (record { visible = w.visible; upkeep = with_steps (f ∷ []) w.upkeep }) (engine_stepped f new e) }
     ensures steps { (fs : List Forced) (w : World) (e e' : EngineKept) → StandsFor w e → StepsFollow w fs → StepsRun w.visible fs e e' → StandsFor (record { visible = w.visible; upkeep = with_steps fs w.upkeep }) e' }
     ensures forced { (settings : Settings) (w : World) (views : List ℕ) (m : ℕ) → IsSteady w → Ascends nat_cmp views → AllByRecursion (λ v. v < length w.visible.views) views → StepsFollow w (forced settings w views m) }
@@ -174,7 +174,7 @@ pub fn workers_keep_what_stands()
         → StandsFor (record { visible = w.visible; upkeep = with_claim worker claim w.upkeep }) (engine_claimed worker claim e) }
     ensures release { (w : World) (e : EngineKept) (worker : ℕ) → StandsFor w e → StandsFor (record { visible = w.visible; upkeep = released worker w.upkeep }) (engine_claimed worker None e) }
     ensures install { (w : World) (e : EngineKept) (worker : ℕ) (f : Forced) (new : ViewKept) → StandsFor w e → claim_of w.upkeep worker ≡ Some f → point w.upkeep f.view ≡ f.lo
-        → ViewInstalls (view_at w.visible.views f.view) f.hi (view_difference (view_at w.visible.views f.view) (snap w.visible f.lo) (snap w.visible f.hi)) (view_kept e.rows f.view) new
+        → ViewInstalls (least_read e) (view_at w.visible.views f.view) f.hi (view_difference (view_at w.visible.views f.view) (snap w.visible f.lo) (snap w.visible f.hi)) (view_kept e.rows f.view) new
         → StandsFor (record { visible = w.visible; upkeep = with_claim worker None (with_steps (f ∷ []) w.upkeep) }) (engine_claimed worker None (engine_stepped f new e)) }
     ensures unclaimed { (w : World) (e : EngineKept) → StandsFor w e → unclaimed_in e.upkeep ≡ unclaimed w }
     ensures mark { (outcome : Rec → Outcome) (v : ℕ) (w : World) (e : EngineKept) → StandsFor w e → (slice_index w.upkeep.marks v == point w.upkeep v) ≡ false → outcome (mark_record v w.upkeep) ≡ good

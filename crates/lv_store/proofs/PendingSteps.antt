@@ -52,20 +52,20 @@ module _ (p : Store) where
       (subst (λ l. ArePending p l (with_difference (get_or fs i d).view (difference_in p (get_or fs i d)) pending)) (sym (take_more fs i d lt)) (one_more (take i fs) (get_or fs i d) pending inside are))
 
   -- ---- what steps do where each view takes its own
-  steps_install_each : (fs : List Forced) (rows last : List ViewKept) → length last ≡ length rows → AllByRecursion (λ f. f.view < length rows) fs
-      → ((v : ℕ) → v < length rows → TakesEach (map (difference_in p) (on_view v fs)) (rows_in rows v) (rows_in last v)) → StepsInstall (changes_in p) fs rows last
-  steps_install_each [] rows last long lts each = record { all = long; each = each }
-  steps_install_each (f ∷ fs) rows last long lts each =
-      let here : TakesEach (difference_in p f ∷ map (difference_in p) (on_view f.view fs)) (rows_in rows f.view) (rows_in last f.view) =
-      subst (λ l. TakesEach (map (difference_in p) l) (rows_in rows f.view) (rows_in last f.view)) (on_same f.view f fs refl) (each f.view lts.0) in
+  steps_install_each : (floor : ℕ) (fs : List Forced) (rows last : List ViewKept) → length last ≡ length rows → AllByRecursion (λ f. f.view < length rows) fs
+      → ((v : ℕ) → v < length rows → TakesEach floor (map (difference_in p) (on_view v fs)) (rows_in rows v) (rows_in last v)) → StepsInstall floor (changes_in p) fs rows last
+  steps_install_each floor [] rows last long lts each = record { all = long; each = each }
+  steps_install_each floor (f ∷ fs) rows last long lts each =
+      let here : TakesEach floor (difference_in p f ∷ map (difference_in p) (on_view f.view fs)) (rows_in rows f.view) (rows_in last f.view) =
+      subst (λ l. TakesEach floor (map (difference_in p) l) (rows_in rows f.view) (rows_in last f.view)) (on_same f.view f fs refl) (each f.view lts.0) in
       let same_length = length-set rows f.view here.0 in (
         here.0,
         here.1,
-        steps_install_each fs (slice_set rows f.view here.0) last (long ∙ sym same_length)
+        steps_install_each floor fs (slice_set rows f.view here.0) last (long ∙ sym same_length)
             (all_weaker (λ (g : Forced). g.view < length rows) (λ (g : Forced). g.view < length (slice_set rows f.view here.0)) (λ g l. omega (arith, l, same_length)) fs lts.1)
             (λ v lt.
-            set_each (λ n k. TakesEach (map (difference_in p) (on_view n fs)) k (rows_in last n)) rows f.view here.0 lts.0 here.2
-            (λ n ln ne. subst (λ l. TakesEach (map (difference_in p) l) (rows_in rows n) (rows_in last n)) (on_other n f fs (not_same n ne)) (each n ln))
+            set_each (λ n k. TakesEach floor (map (difference_in p) (on_view n fs)) k (rows_in last n)) rows f.view here.0 lts.0 here.2
+            (λ n ln ne. subst (λ l. TakesEach floor (map (difference_in p) l) (rows_in rows n) (rows_in last n)) (on_other n f fs (not_same n ne)) (each n ln))
             v (omega (arith, lt, same_length))),
       )
     where
@@ -76,18 +76,18 @@ module _ (p : Store) where
           by true e = absurd (ne (sym (is_same f.view n e)))
           by false e = e
 
-  pub steps_install : (fs : List Forced) (pending : List (List Difference)) (last : List ViewKept) → ArePending p fs pending → AllByRecursion (λ f. f.view < length p.rows.list) fs
-      → AllTake pending p.rows.list last → StepsInstall (changes_in p) fs p.rows.list last
-  steps_install fs pending last are lts take =
-      steps_install_each fs p.rows.list last take.all lts (λ v lt. subst (λ l. TakesEach l (rows_in p.rows.list v) (rows_in last v)) (are.each v lt) (take.each v lt))
+  pub steps_install : (floor : ℕ) (fs : List Forced) (pending : List (List Difference)) (last : List ViewKept) → ArePending p fs pending → AllByRecursion (λ f. f.view < length p.rows.list) fs
+      → AllTake floor pending p.rows.list last → StepsInstall floor (changes_in p) fs p.rows.list last
+  steps_install floor fs pending last are lts take =
+      steps_install_each floor fs p.rows.list last take.all lts (λ v lt. subst (λ l. TakesEach floor l (rows_in p.rows.list v) (rows_in last v)) (are.each v lt) (take.each v lt))
 
   -- steps of one view that can be installed
-  pub can_take : (v : ℕ) (fs : List Forced) (rows : List ViewKept) → v < length rows → AllByRecursion (λ f. f.view ≡ v) fs → CanInstallAll (changes_in p) fs rows → CanTakeEach (map (difference_in p) fs) (rows_in rows v)
-  can_take v [] rows lt all h = tt
-  can_take v (f ∷ fs) rows lt all h = (
+  pub can_take : (floor v : ℕ) (fs : List Forced) (rows : List ViewKept) → v < length rows → AllByRecursion (λ f. f.view ≡ v) fs → CanInstallAll floor (changes_in p) fs rows → CanTakeEach floor (map (difference_in p) fs) (rows_in rows v)
+  can_take floor v [] rows lt all h = tt
+  can_take floor v (f ∷ fs) rows lt all h = (
     subst (λ n. CanInstall (rows_in rows n) f.hi (changes_in p f)) all.0 h.1,
     λ next install.
-        subst (CanTakeEach (map (difference_in p) fs)) (get_or-set_same rows v next no_rows lt)
-        (can_take v fs (slice_set rows v next) (omega (arith, lt, length-set rows v next)) all.1
-        (subst (λ n. CanInstallAll (changes_in p) fs (slice_set rows n next)) all.0 (h.2 next (subst (λ n. RowsInstall f.hi (changes_in p f) (rows_in rows n) next) (sym all.0) install)))),
+        subst (CanTakeEach floor (map (difference_in p) fs)) (get_or-set_same rows v next no_rows lt)
+        (can_take floor v fs (slice_set rows v next) (omega (arith, lt, length-set rows v next)) all.1
+        (subst (λ n. CanInstallAll floor (changes_in p) fs (slice_set rows n next)) all.0 (h.2 next (subst (λ n. RowsInstall floor f.hi (changes_in p f) (rows_in rows n) next) (sym all.0) install)))),
   )

@@ -19,7 +19,7 @@ use Rattle.lv_overlay.specs.Puts.{StandUnder}
 use Rattle.lv_txn.specs.Kept.{IsLive, transaction_of}
 use Rattle.lv_viewrows.specs.Kept.{ViewKept, groups_at, rows_listed}
 use Rattle.lv_stands.specs.Kept as stands
-use Rattle.lv_stands.specs.Moves.{StepsFollow}
+use Rattle.lv_stands.specs.Moves.{StepsFollow, least_read}
 use Rattle.lv_stands.specs.Stands.{StandsFor}
 use Rattle.lv_stands.proofs.Runs.{forced_reads, steps_stand}
 use Rattle.lv_store.specs.declared.answer.Answer.{Answer}
@@ -34,6 +34,7 @@ use Rattle.lv_store.proofs.Forcing.{changes_all_told, costs_all_told, fresh_forc
 use Rattle.lv_store.proofs.JoinedSteps.{costs_stand}
 use Rattle.lv_store.proofs.OneView.{all_on_view, follow_on_view, of_view}
 use Rattle.lv_store.proofs.OwnReads.{rows_long, snapshot_below, transaction_stands}
+use Rattle.lv_store.proofs.PendingRows.{can_copy}
 use Rattle.lv_store.proofs.PendingSteps.{can_take}
 use Rattle.lv_store.proofs.Rels.{Shows, answer_is, reads_kept_all}
 use Rattle.lv_store.proofs.StepEnds.{EndBy, forced_end, taken_end}
@@ -100,7 +101,7 @@ module _ (p : Store) (session : ℕ) (query : Query) (bound : IsBoundQuery p.sch
   pub steps_below : (w : World) → Stands w (store_of p) → (taken : List Forced) → StepsFollow w taken → (n : ℕ) → length p.schema.views ≤ n → AllByRecursion (λ f. f.view < n) taken
   steps_below w is taken follow n le = steps_in_use p w is taken follow n le
 
-  pub installs_all : (whole : IsStore p) (taken : List Forced) → StepsFollow whole.world taken → CanInstallAll (changes_in p) taken p.rows.list
+  pub installs_all : (whole : IsStore p) (taken : List Forced) → StepsFollow whole.world taken → CanInstallAll (least_read (kept 0 (store_of p))) (changes_in p) taken p.rows.list
   installs_all whole taken follow =
       let w = whole.world in
       let is = whole.stands in
@@ -108,20 +109,20 @@ module _ (p : Store) (session : ℕ) (query : Query) (bound : IsBoundQuery p.sch
       (subst (λ (vs : List ViewDef). Know vs p.rows.list) is.views_are whole.defs) follow (changes_all_told p w is taken follow)
 
   -- the differences of those that are taken can be installed, and read
-  pub can_take_pending : (whole : IsStore p) (taken : List Forced) → StepsFollow whole.world taken → (pending : List (List Difference)) → ArePending p taken pending → CanAllTake pending p.rows.list
+  pub can_take_pending : (whole : IsStore p) (taken : List Forced) → StepsFollow whole.world taken → (pending : List (List Difference)) → ArePending p taken pending → CanAllTake (least_read (kept 0 (store_of p))) pending p.rows.list
   can_take_pending whole taken follow pending are = record {
     all = are.all;
     each = λ v lt.
         let w = whole.world in
         let is = whole.stands in
         let there : v < length w.upkeep.points = omega (arith, lt, rows_long p w is, ap length is.views_are, is.steady.points) in
-        subst (λ l. CanTakeEach l (rows_in p.rows.list v)) (sym (are.each v lt))
-        (can_take p v (on_view v taken) p.rows.list lt (of_view v taken) (installs_all whole (on_view v taken) (follow_on_view v taken w.visible w.upkeep w.upkeep there there refl follow)));
+        subst (λ l. CanTakeEach (least_read (kept 0 (store_of p))) l (rows_in p.rows.list v)) (sym (are.each v lt))
+        (can_take p (least_read (kept 0 (store_of p))) v (on_view v taken) p.rows.list lt (of_view v taken) (installs_all whole (on_view v taken) (follow_on_view v taken w.visible w.upkeep w.upkeep there there refl follow)));
   }
 
   pub can_read : (whole : IsStore p) → IsLive p.txns session → (taken : List Forced) → InPlaceOf whole.world (steps_in p session query) taken → (pending : List (List Difference)) → ArePending p taken pending → CanRead p session pending
   can_read whole live taken place pending are = record {
-    can = can_take_pending whole taken place.follow pending are;
+    can = can_copy (least_read (kept 0 (store_of p))) pending p.rows.list (can_take_pending whole taken place.follow pending are);
     upto = λ v lt.
         let w = whole.world in
         let is = whole.stands in
@@ -135,7 +136,7 @@ module _ (p : Store) (session : ℕ) (query : Query) (bound : IsBoundQuery p.sch
   }
 
   module _ (taken : List Forced) (place : (w : World) → Stands w (store_of p) → InPlaceOf w (steps_in p session query) taken)
-      (live : IsLive p.txns session) (know : Know p.schema.views p.rows.list) (last : List ViewKept) (install : StepsInstall (changes_in p) taken p.rows.list last) where
+      (live : IsLive p.txns session) (know : Know p.schema.views p.rows.list) (last : List ViewKept) (install : StepsInstall (least_read (kept 0 (store_of p))) (changes_in p) taken p.rows.list last) where
     abbrev pub after : StoreKept
     after = record (store_of p) { upkeep = upkeep_after taken p.upkeep.kept; rows = map rows_of last }
 
@@ -147,7 +148,7 @@ module _ (p : Store) (session : ℕ) (query : Query) (bound : IsBoundQuery p.sch
     in_rows w is = steps_below w is taken (place w is).follow (length p.rows.list) (omega (arith, rows_long p w is))
 
     pub still_known : (w : World) → Stands w (store_of p) → Know p.schema.views last × (length last ≡ length p.rows.list)
-    still_known w is = still_know (changes_in p) taken p.rows.list last p.schema.views know (in_rows w is) install
+    still_known w is = still_know (changes_in p) (least_read (kept 0 (store_of p))) taken p.rows.list last p.schema.views know (in_rows w is) install
 
     pub stands_after : (w : World) → Stands w (store_of p) → Stands (record { visible = w.visible; upkeep = with_steps (steps_in p session query) w.upkeep }) after
     stands_after w is =

@@ -15,7 +15,7 @@ use Rattle.lv_schema.proofs.Apart.{all_weaker}
 use Rattle.lv_viewrows.specs.Changed.{CanInstall}
 use Rattle.lv_viewrows.specs.Kept.{ViewKept, groups_at, rows_listed}
 use Rattle.lv_stands.specs.Kept as stands
-use Rattle.lv_stands.specs.Moves.{StepsFollow, StepsRun, ViewInstalls, engine_stepped, step_changes, with_room}
+use Rattle.lv_stands.specs.Moves.{StepsFollow, StepsRun, ViewInstalls, engine_stepped, least_read, step_changes, with_room}
 use Rattle.lv_stands.specs.Stands.{StandsFor}
 use Rattle.lv_stands.proofs.Installs.{step_installs}
 use Rattle.lv_stands.proofs.Steps.{step_stands}
@@ -37,14 +37,14 @@ at_any (x ∷ xs) (suc i) d e lt = at_any xs i d e (omega (arith, lt))
 pub any_room : (a b : ViewKept) (hi : ℕ) (list : List SignedRow) → b ≡ record a { spare = b.spare } → CanInstall a hi list → CanInstall b hi list
 any_room a b hi list is h = subst (λ (k : ViewKept). CanInstall k hi list) (sym is) (record { later = h.later; netted = h.netted; rows = h.rows; groups = h.groups })
 
-pub any_room_installs : (a b new : ViewKept) (hi : ℕ) (list : List SignedRow) → b ≡ record a { spare = b.spare } → RowsInstall hi list b new → RowsInstall hi list a new
-any_room_installs a b new hi list is h =
-    let k : RowsInstall hi list (record a { spare = b.spare }) new = subst (λ (k : ViewKept). RowsInstall hi list k new) is h in
+pub any_room_installs : (floor : ℕ) (a b new : ViewKept) (hi : ℕ) (list : List SignedRow) → b ≡ record a { spare = b.spare } → RowsInstall floor hi list b new → RowsInstall floor hi list a new
+any_room_installs floor a b new hi list is h =
+    let k : RowsInstall floor hi list (record a { spare = b.spare }) new = subst (λ (k : ViewKept). RowsInstall floor hi list k new) is h in
     record { def_stays = k.def_stays; at_is = k.at_is; before = k.before; from = k.from; rows = k.rows }
 
 -- ---- a step in the words of what stands
-pub to_installs : (view : ViewDef) (hi : ℕ) (changes : List SignedRow) (old new : ViewKept) → old.def ≡ view → RowsInstall hi changes old new → ViewInstalls view hi changes (rows_of old) (rows_of new)
-to_installs view hi changes old new is h = record {
+pub to_installs : (floor : ℕ) (view : ViewDef) (hi : ℕ) (changes : List SignedRow) (old new : ViewKept) → old.def ≡ view → RowsInstall floor hi changes old new → ViewInstalls floor view hi changes (rows_of old) (rows_of new)
+to_installs floor view hi changes old new is h = record {
   at_is = h.at_is;
   before = h.before;
   from = h.from;
@@ -86,7 +86,7 @@ only_room_know views old new h know = λ v lt. let here : v < length old = omega
 module _ (changes : Forced → List SignedRow) where
   -- steps that follow each other in a world that the rows stand for can be installed
   pub can_install_all : (fs : List Forced) (rows : List ViewKept) (w : World) (e : stands.EngineKept) → StandsFor w e → e.rows ≡ map rows_of rows → Know w.visible.views rows
-      → StepsFollow w fs → AllByRecursion (λ f. changes f ≡ step_changes w.visible f) fs → CanInstallAll changes fs rows
+      → StepsFollow w fs → AllByRecursion (λ f. changes f ≡ step_changes w.visible f) fs → CanInstallAll (least_read e) changes fs rows
   can_install_all [] rows w e is are know follow each = tt
   can_install_all (f ∷ fs) rows w e is are know follow each =
       let step = follow.0 in
@@ -104,9 +104,9 @@ module _ (changes : Forced → List SignedRow) where
         λ new h.
             can_install_all fs (slice_set rows f.view new) (record { visible = w.visible; upkeep = with_steps (f ∷ []) w.upkeep }) (engine_stepped f (rows_of new) e)
             (step_stands w e f (rows_of new) is step follow.1
-            (subst (λ (k : stands.ViewKept). ViewInstalls (view_at w.visible.views f.view) f.hi (step_changes w.visible f) k (rows_of new)) (sym old)
-            (subst (λ list. ViewInstalls (view_at w.visible.views f.view) f.hi list (rows_of (rows_in rows f.view)) (rows_of new)) each.0
-            (to_installs (view_at w.visible.views f.view) f.hi (changes f) (rows_in rows f.view) new def_is h))))
+            (subst (λ (k : stands.ViewKept). ViewInstalls (least_read e) (view_at w.visible.views f.view) f.hi (step_changes w.visible f) k (rows_of new)) (sym old)
+            (subst (λ list. ViewInstalls (least_read e) (view_at w.visible.views f.view) f.hi list (rows_of (rows_in rows f.view)) (rows_of new)) each.0
+            (to_installs (least_read e) (view_at w.visible.views f.view) f.hi (changes f) (rows_in rows f.view) new def_is h))))
             (ap (λ l. slice_set l f.view (rows_of new)) are ∙ sym (map-set rows_of rows f.view new))
             (each_set (λ v k. k.def ≡ view_at w.visible.views v) rows f.view new (h.def_stays ∙ def_is) know)
             follow.2 each.1,
@@ -114,19 +114,19 @@ module _ (changes : Forced → List SignedRow) where
 
   -- steps that were installed are those of a run
   pub steps_run : (fs : List Forced) (rows last : List ViewKept) (s : Visible) (e : stands.EngineKept) → e.views ≡ s.views → e.rows ≡ map rows_of rows → Know s.views rows
-      → AllByRecursion (λ f. f.view < length rows) fs → AllByRecursion (λ f. changes f ≡ step_changes s f) fs → StepsInstall changes fs rows last
+      → AllByRecursion (λ f. f.view < length rows) fs → AllByRecursion (λ f. changes f ≡ step_changes s f) fs → StepsInstall (least_read e) changes fs rows last
       → StepsRun s fs e (record e { upkeep = upkeep_after fs e.upkeep; rows = map rows_of last })
   steps_run [] rows last s e views are know lts each h = λ i. record e { rows = (only_room_same rows last h ∙ sym are) i }
   steps_run (f ∷ fs) rows last s e views are know lts each h =
       let new = h.0 in
       let def_is = know f.view lts.0 in
       let old : stands.view_kept e.rows f.view ≡ rows_of (rows_in rows f.view) = ap (λ l. stands.view_kept l f.view) are ∙ rows_at rows f.view in
-      let install : ViewInstalls (view_at s.views f.view) f.hi (step_changes s f) (stands.view_kept e.rows f.view) (rows_of new) =
-      subst (λ (k : stands.ViewKept). ViewInstalls (view_at s.views f.view) f.hi (step_changes s f) k (rows_of new)) (sym old)
-      (subst (λ list. ViewInstalls (view_at s.views f.view) f.hi list (rows_of (rows_in rows f.view)) (rows_of new)) each.0
-      (to_installs (view_at s.views f.view) f.hi (changes f) (rows_in rows f.view) new def_is h.1)) in (
+      let install : ViewInstalls (least_read e) (view_at s.views f.view) f.hi (step_changes s f) (stands.view_kept e.rows f.view) (rows_of new) =
+      subst (λ (k : stands.ViewKept). ViewInstalls (least_read e) (view_at s.views f.view) f.hi (step_changes s f) k (rows_of new)) (sym old)
+      (subst (λ list. ViewInstalls (least_read e) (view_at s.views f.view) f.hi list (rows_of (rows_in rows f.view)) (rows_of new)) each.0
+      (to_installs (least_read e) (view_at s.views f.view) f.hi (changes f) (rows_in rows f.view) new def_is h.1)) in (
         rows_of new,
-        subst (λ (vs : List ViewDef). ViewInstalls (view_at vs f.view) f.hi (view_difference (view_at vs f.view) (snap s f.lo) (snap s f.hi)) (stands.view_kept e.rows f.view) (rows_of new)) (sym views) install,
+        subst (λ (vs : List ViewDef). ViewInstalls (least_read e) (view_at vs f.view) f.hi (view_difference (view_at vs f.view) (snap s f.lo) (snap s f.hi)) (stands.view_kept e.rows f.view) (rows_of new)) (sym views) install,
         steps_run fs (slice_set rows f.view new) last s (engine_stepped f (rows_of new) e) views
             (ap (λ l. slice_set l f.view (rows_of new)) are ∙ sym (map-set rows_of rows f.view new))
             (each_set (λ v k. k.def ≡ view_at s.views v) rows f.view new (h.1.def_stays ∙ def_is) know)
@@ -135,11 +135,11 @@ module _ (changes : Forced → List SignedRow) where
       )
 
   -- the rows of each view still know the view, and no view is lost
-  pub still_know : (fs : List Forced) (rows last : List ViewKept) (views : List ViewDef) → Know views rows → AllByRecursion (λ f. f.view < length rows) fs → StepsInstall changes fs rows last
+  pub still_know : (floor : ℕ) (fs : List Forced) (rows last : List ViewKept) (views : List ViewDef) → Know views rows → AllByRecursion (λ f. f.view < length rows) fs → StepsInstall floor changes fs rows last
       → Know views last × (length last ≡ length rows)
-  still_know [] rows last views know lts h = (only_room_know views rows last h know, h.all)
-  still_know (f ∷ fs) rows last views know lts h =
-      let more = still_know fs (slice_set rows f.view h.0) last views
+  still_know floor [] rows last views know lts h = (only_room_know views rows last h know, h.all)
+  still_know floor (f ∷ fs) rows last views know lts h =
+      let more = still_know floor fs (slice_set rows f.view h.0) last views
       (each_set (λ v k. k.def ≡ view_at views v) rows f.view h.0 (h.1.def_stays ∙ know f.view lts.0) know)
       (all_weaker (λ (g : Forced). g.view < length rows) (λ (g : Forced). g.view < length (slice_set rows f.view h.0)) (λ g l. omega (arith, l, length-set rows f.view h.0)) fs lts.1)
       h.2 in

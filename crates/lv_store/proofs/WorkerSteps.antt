@@ -31,7 +31,7 @@ use Rattle.lv_upkeep.specs.Moves.{upkeep_claimed, upkeep_stepped}
 use Rattle.lv_viewrows.specs.Changed.{CanInstall}
 use Rattle.lv_viewrows.specs.Kept.{ViewKept}
 use Rattle.lv_stands.specs.Kept as stands
-use Rattle.lv_stands.specs.Moves.{ViewInstalls, engine_fetching, inside_kept, kept_among, kept_by, kept_fetched, step_changes, view_chosen}
+use Rattle.lv_stands.specs.Moves.{ViewInstalls, engine_fetching, inside_kept, kept_among, kept_by, kept_fetched, least_read, step_changes, view_chosen}
 use Rattle.lv_stands.specs.Stands.{StandsFor}
 use Rattle.lv_stands.proofs.Fetches.{fetch_stands}
 use Rattle.lv_stands.proofs.Upkeeps.{planned_is}
@@ -126,15 +126,15 @@ module _ (p : Store) (w : World) (is : Stands w (store_of p)) (worker : ℕ) (f 
           (claimed.step, begins, tt) (changes_told p w is f claim_kept_step, tt) in
           (all.0, all.1)
 
-      module _ (changes : List SignedRow) (told : changes ≡ changes_in p f) (rows : List ViewKept) (new : ViewInstalled f.hi changes f.view p.rows.list rows) (u : UpkeepKept) (set : u ≡ upkeep_claimed worker None (upkeep_stepped f p.upkeep.kept)) where
+      module _ (changes : List SignedRow) (told : changes ≡ changes_in p f) (rows : List ViewKept) (new : ViewInstalled (least_read (kept 0 (store_of p))) f.hi changes f.view p.rows.list rows) (u : UpkeepKept) (set : u ≡ upkeep_claimed worker None (upkeep_stepped f p.upkeep.kept)) where
         def_is : (rows_in p.rows.list f.view).def ≡ view_at p.schema.views f.view
         def_is = know f.view (omega (arith, claim_in_use, rows_long p w is))
 
-        installs : ViewInstalls (view_at w.visible.views f.view) f.hi (step_changes w.visible f) (stands.view_kept (map rows_of p.rows.list) f.view) (rows_of new.0)
+        installs : ViewInstalls (least_read (kept 0 (store_of p))) (view_at w.visible.views f.view) f.hi (step_changes w.visible f) (stands.view_kept (map rows_of p.rows.list) f.view) (rows_of new.0)
         installs =
-            subst (λ (k : stands.ViewKept). ViewInstalls (view_at w.visible.views f.view) f.hi (step_changes w.visible f) k (rows_of new.0)) (sym (rows_at p.rows.list f.view))
-            (subst (λ list. ViewInstalls (view_at w.visible.views f.view) f.hi list (rows_of (rows_in p.rows.list f.view)) (rows_of new.0)) (told ∙ changes_told p w is f claim_kept_step)
-            (to_installs (view_at w.visible.views f.view) f.hi changes (rows_in p.rows.list f.view) new.0 (def_is ∙ ap (λ (vs : List ViewDef). view_at vs f.view) is.views_are) new.1))
+            subst (λ (k : stands.ViewKept). ViewInstalls (least_read (kept 0 (store_of p))) (view_at w.visible.views f.view) f.hi (step_changes w.visible f) k (rows_of new.0)) (sym (rows_at p.rows.list f.view))
+            (subst (λ list. ViewInstalls (least_read (kept 0 (store_of p))) (view_at w.visible.views f.view) f.hi list (rows_of (rows_in p.rows.list f.view)) (rows_of new.0)) (told ∙ changes_told p w is f claim_kept_step)
+            (to_installs (least_read (kept 0 (store_of p))) (view_at w.visible.views f.view) f.hi changes (rows_in p.rows.list f.view) new.0 (def_is ∙ ap (λ (vs : List ViewDef). view_at vs f.view) is.views_are) new.1))
 
         pub gives_installed : GivesInstall (maintained (installing worker w.upkeep) w) (answer.Done f.view f.lo f.hi) (record (store_of p) { upkeep = u; rows = map rows_of rows })
         gives_installed =
@@ -156,10 +156,10 @@ module _ (p : Store) (w : World) (is : Stands w (store_of p)) (worker : ℕ) (f 
             (each_set (λ v k. k.def ≡ view_at p.schema.views v) p.rows.list f.view new.0 (new.1.def_stays ∙ def_is) know)
 
 -- a difference is installed in one of the views
-pub placed_installs : (result : Result (Unit {0}) NoMemory) (hi : ℕ) (changes : List SignedRow) (view : ℕ) (rows : List ViewKept) (old new : ViewKept) → view < length rows
-    → OnOk result (RowsInstall hi changes (slice_index_or rows view old) new) → OnOk result (ViewInstalled hi changes view rows (slice_set rows view new))
-placed_installs (Ok u) hi changes view rows old new lt h = (new, subst (λ (k : ViewKept). RowsInstall hi changes k new) (get_or_default rows view old no_rows lt) h, refl)
-placed_installs (Err e) hi changes view rows old new lt h = tt
+pub placed_installs : (result : Result (Unit {0}) NoMemory) (floor hi : ℕ) (changes : List SignedRow) (view : ℕ) (rows : List ViewKept) (old new : ViewKept) → view < length rows
+    → OnOk result (RowsInstall floor hi changes (slice_index_or rows view old) new) → OnOk result (ViewInstalled floor hi changes view rows (slice_set rows view new))
+placed_installs (Ok u) floor hi changes view rows old new lt h = (new, subst (λ (k : ViewKept). RowsInstall floor hi changes k new) (get_or_default rows view old no_rows lt) h, refl)
+placed_installs (Err e) floor hi changes view rows old new lt h = tt
 
 -- other room changes nothing that is kept
 pub same_rows : (view : ℕ) (rows last : List ViewKept) → RoomChanges view rows last → map rows_of last ≡ map rows_of rows

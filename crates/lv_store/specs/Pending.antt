@@ -31,24 +31,25 @@ pub record ArePending (p : Store) (fs : List Forced) (pending : List (List Diffe
   pub each : (v : ℕ) → v < length p.rows.list → pending_at pending v ≡ map (difference_in p) (on_view v fs)
 
 -- ---- what they make of the rows of views
--- the rows of a view take differences, one after another; of the room nothing is said
-abbrev pub TakesEach : List Difference → ViewKept → ViewKept → Type 0
-TakesEach [] old new = new ≡ record old { spare = new.spare }
-TakesEach (d ∷ ds) old new = (next : ViewKept) × RowsInstall d.hi d.changes old next × TakesEach ds next new
+-- the rows of a view take differences, one after another, and stay below each as far down as the floor; of the room
+-- nothing is said
+abbrev pub TakesEach : ℕ → List Difference → ViewKept → ViewKept → Type 0
+TakesEach floor [] old new = new ≡ record old { spare = new.spare }
+TakesEach floor (d ∷ ds) old new = (next : ViewKept) × RowsInstall floor d.hi d.changes old next × TakesEach floor ds next new
 
 -- and each can be installed where those before it are
-abbrev pub CanTakeEach : List Difference → ViewKept → Type 0
-CanTakeEach [] old = Unit {0}
-CanTakeEach (d ∷ ds) old = CanInstall old d.hi d.changes × ((next : ViewKept) → RowsInstall d.hi d.changes old next → CanTakeEach ds next)
+abbrev pub CanTakeEach : ℕ → List Difference → ViewKept → Type 0
+CanTakeEach floor [] old = Unit {0}
+CanTakeEach floor (d ∷ ds) old = CanInstall old d.hi d.changes × ((next : ViewKept) → RowsInstall floor d.hi d.changes old next → CanTakeEach floor ds next)
 
 -- the same of each view
-pub record AllTake (pending : List (List Difference)) (old new : List ViewKept) : Type 0 where
+pub record AllTake (floor : ℕ) (pending : List (List Difference)) (old new : List ViewKept) : Type 0 where
   pub all : length new ≡ length old
-  pub each : (v : ℕ) → v < length old → TakesEach (pending_at pending v) (rows_in old v) (rows_in new v)
+  pub each : (v : ℕ) → v < length old → TakesEach floor (pending_at pending v) (rows_in old v) (rows_in new v)
 
-pub record CanAllTake (pending : List (List Difference)) (old : List ViewKept) : Type 0 where
+pub record CanAllTake (floor : ℕ) (pending : List (List Difference)) (old : List ViewKept) : Type 0 where
   pub all : length pending ≡ length old
-  pub each : (v : ℕ) → v < length old → CanTakeEach (pending_at pending v) (rows_in old v)
+  pub each : (v : ℕ) → v < length old → CanTakeEach floor (pending_at pending v) (rows_in old v)
 
 -- how many rows differences have, and room for those of each view
 abbrev pub changed_rows : List Difference → ℕ
@@ -63,7 +64,8 @@ HaveRoom pending rows = (v : ℕ) → v < length rows → changed_rows (pending_
 abbrev pub AreUpTo : ℕ → List Difference → Type 0
 AreUpTo n ds = AllByRecursion (λ d. d.hi ≤ n) ds
 
--- differences that can be installed, and that end at or below the session's snapshot
+-- differences that can be installed in copies of what is kept, where every read below them stays, and that end at or
+-- below the session's snapshot
 pub record CanRead (p : Store) (session : ℕ) (pending : List (List Difference)) : Type 0 where
-  pub can : CanAllTake pending p.rows.list
+  pub can : CanAllTake 0 pending p.rows.list
   pub upto : (v : ℕ) → v < length p.rows.list → AreUpTo (transaction_of p.txns session).snapshot (pending_at pending v)

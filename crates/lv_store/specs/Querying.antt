@@ -104,11 +104,11 @@ pub record CanCompute (p : Store) (f : Forced) : Type 0 where
   pub tables_are : defs_of p.base ≡ p.schema.tables
 
 -- ---- what steps make of the rows of views
--- the rows of a view take a difference
-pub record RowsInstall (hi : ℕ) (changes : List SignedRow) (old new : ViewKept) : Type 0 where
+-- the rows of a view take a difference; below its end they stay as far down as the floor
+pub record RowsInstall (floor hi : ℕ) (changes : List SignedRow) (old new : ViewKept) : Type 0 where
   pub def_stays : new.def ≡ old.def
   pub at_is : new.at ≡ hi
-  pub before : (n : ℕ) → n < hi → groups_at n new.versions ≡ groups_at n old.versions
+  pub before : (n : ℕ) → floor ≤ n → n < hi → groups_at n new.versions ≡ groups_at n old.versions
   pub from : (n : ℕ) → hi ≤ n → groups_at n new.versions ≡ groups_with changes (groups_at old.at old.versions)
   pub rows : old.def.grouped ≡ false → (n : ℕ) → hi ≤ n → shown n new ≡ with_changes changes (shown old.at old)
 
@@ -118,14 +118,14 @@ pub record OnlyRoom (old new : List ViewKept) : Type 0 where
   pub each : (v : ℕ) → v < length old → rows_in new v ≡ record (rows_in old v) { spare = (rows_in new v).spare }
 
 -- one of the views takes a difference
-abbrev pub ViewInstalled : ℕ → List SignedRow → ℕ → List ViewKept → List ViewKept → Type 0
-ViewInstalled hi changes view rows last = (new : ViewKept) × RowsInstall hi changes (rows_in rows view) new × (last ≡ slice_set rows view new)
+abbrev pub ViewInstalled : ℕ → ℕ → List SignedRow → ℕ → List ViewKept → List ViewKept → Type 0
+ViewInstalled floor hi changes view rows last = (new : ViewKept) × RowsInstall floor hi changes (rows_in rows view) new × (last ≡ slice_set rows view new)
 
 -- steps with their differences, one after another; of the room nothing is said
-module _ (changes : Forced → List SignedRow) where
+module _ (floor : ℕ) (changes : Forced → List SignedRow) where
   abbrev pub StepsInstall : List Forced → List ViewKept → List ViewKept → Type 0
   StepsInstall [] rows last = OnlyRoom rows last
-  StepsInstall (f ∷ fs) rows last = (new : ViewKept) × RowsInstall f.hi (changes f) (rows_in rows f.view) new × StepsInstall fs (slice_set rows f.view new) last
+  StepsInstall (f ∷ fs) rows last = (new : ViewKept) × RowsInstall floor f.hi (changes f) (rows_in rows f.view) new × StepsInstall fs (slice_set rows f.view new) last
 
   -- and each can be installed where the steps before it are
   abbrev pub CanInstallAll : List Forced → List ViewKept → Type 0
@@ -133,7 +133,7 @@ module _ (changes : Forced → List SignedRow) where
   CanInstallAll (f ∷ fs) rows =
       (f.view < length rows)
       × CanInstall (rows_in rows f.view) f.hi (changes f)
-      × ((new : ViewKept) → RowsInstall f.hi (changes f) (rows_in rows f.view) new → CanInstallAll fs (slice_set rows f.view new))
+      × ((new : ViewKept) → RowsInstall floor f.hi (changes f) (rows_in rows f.view) new → CanInstallAll fs (slice_set rows f.view new))
 
 -- the points and tasks after steps
 abbrev pub upkeep_after : List Forced → UpkeepKept → UpkeepKept

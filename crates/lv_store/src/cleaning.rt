@@ -54,7 +54,7 @@ impl Store {
     }
 
     /// The number below which nobody reads the views.
-    fn least_read(&self) -> u64
+    pub(crate) fn least_read(&self) -> u64
         ensures { result ≡ least_read (kept 0 (store_of self.now)) }
     {
         lesser(self.base.last(), self.txns.least())

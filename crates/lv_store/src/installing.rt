@@ -26,15 +26,21 @@ fn changes_of(alloc: Global, input: JobInput, offer: JobResult) -> Result<Signed
     Ok(compute(alloc, input)?.into_inner().1)
 }
 
-/// Installs a difference in what is kept of one of the views.
-fn install_at(views: &mut [ViewRows], view: u32, hi: u64, changes: Signed) -> Result<(), NoMemory>
+/// Installs a difference in what is kept of one of the views; reads below `floor` need not stay.
+fn install_at(
+    views: &mut [ViewRows],
+    view: u32,
+    hi: u64,
+    changes: Signed,
+    floor: u64,
+) -> Result<(), NoMemory>
     requires view { view < length views.old }
     requires can { CanInstall (rows_in views.old view) hi changes }
     ensures all { length views.new ≡ length views.old }
-    ensures done { OnOk result (ViewInstalled hi changes view views.old views.new) }
+    ensures done { OnOk result (ViewInstalled floor hi changes view views.old views.new) }
     ensures refused { OnErr result (RoomChanges view views.old views.new) }
 {
-    install(hi, changes, &mut views[view as usize])
+    install(hi, changes, floor, &mut views[view as usize])
 }
 
 /// The same where the views are kept.
@@ -43,15 +49,16 @@ pub(crate) fn install_in(
     view: u32,
     hi: u64,
     changes: Signed,
+    floor: u64,
     rows: &mut Room<ViewRows>,
 ) -> Result<(), NoMemory>
     requires view { view < length rows.old.list }
     requires can { CanInstall (rows_in rows.old.list view) hi changes }
-    ensures done { OnOk result (ViewInstalled hi changes view rows.old.list rows.new.list) }
+    ensures done { OnOk result (ViewInstalled floor hi changes view rows.old.list rows.new.list) }
     ensures refused { OnErr result (RoomChanges view rows.old.list rows.new.list) }
 {
     let mut views = std::mem::replace(rows, Room::new(alloc)).into_vec();
-    let installed = install_at(&mut views, view, hi, changes);
+    let installed = install_at(&mut views, view, hi, changes, floor);
     *rows = Room::from_vec(views);
     installed
 }

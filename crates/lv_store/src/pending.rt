@@ -1,6 +1,6 @@
 //! Differences of views that are computed and not installed yet: what a view shows with them, and their install, which
 //! takes no memory once there is room.
-ghost use Rattle.std.specs.Prelude.{◌≡◌, ◌<◌, ◌≤◌, ◌∷◌, ◌++◌, [], filter, length, replicate, IfOk, OnErr, OnOk};
+ghost use Rattle.std.specs.Prelude.{◌≡◌, ◌<◌, ◌≤◌, ℕ, ◌∷◌, ◌++◌, [], filter, length, replicate, IfOk, OnErr, OnOk};
 ghost use Rattle.lv_viewrows.specs.Beginning.{AllFrom, AllUpTo};
 ghost use Rattle.lv_viewrows.specs.Changed.{CanInstall};
 ghost use Rattle.lv_viewrows.specs.Kept.{ViewKept, shown};
@@ -49,28 +49,34 @@ pub(crate) fn add_difference(
     Ok(())
 }
 
-/// Installs a difference in what is kept of a view. Want of memory changes nothing but the room.
-pub(crate) fn install(hi: u64, changes: Signed, rows: &mut ViewRows) -> Result<(), NoMemory>
+/// Installs a difference in what is kept of a view; reads below `floor` need not stay. Want of memory changes nothing but
+/// the room.
+pub(crate) fn install(
+    hi: u64,
+    changes: Signed,
+    floor: u64,
+    rows: &mut ViewRows,
+) -> Result<(), NoMemory>
     requires { CanInstall rows.old hi changes }
-    ensures done { OnOk result (RowsInstall hi changes rows.old rows.new) }
+    ensures done { OnOk result (RowsInstall floor hi changes rows.old rows.new) }
     ensures refused { OnErr result (rows.new ≡ record rows.old { spare = rows.new.spare }) }
 {
     rows.reserve(changes.len() as u64)?;
-    rows.install(hi, changes);
+    rows.install(hi, changes, floor);
     Ok(())
 }
 
-/// Installs copies of differences in what is kept of a view, one after another.
+/// Installs copies of differences in what is kept of a view, one after another. Every read below them stays.
 fn install_copies(
     alloc: Global,
     differences: &[Difference],
     rows: &mut ViewRows,
 ) -> Result<(), NoMemory>
-    requires { CanTakeEach differences.now rows.old }
-    ensures { OnOk result (TakesEach differences.now rows.old rows.new) }
+    requires { CanTakeEach 0 differences.now rows.old }
+    ensures { OnOk result (TakesEach 0 differences.now rows.old rows.new) }
 {
     for difference in differences {
-        install(difference.hi, difference.changes.copy(alloc)?, rows)?;
+        install(difference.hi, difference.changes.copy(alloc)?, 0, rows)?;
     }
     Ok(())
 }
@@ -81,8 +87,8 @@ fn copy_with(
     rows: &ViewRows,
     differences: &[Difference],
 ) -> Result<ViewRows, NoMemory>
-    requires { CanTakeEach differences.now rows.now }
-    ensures { IfOk result (λ copy. TakesEach differences.now rows.now copy) }
+    requires { CanTakeEach 0 differences.now rows.now }
+    ensures { IfOk result (λ copy. TakesEach 0 differences.now rows.now copy) }
 {
     let mut copy = rows.copy(alloc)?;
     install_copies(alloc, differences, &mut copy)?;
@@ -102,9 +108,9 @@ pub(crate) fn rows_with<T: Seek>(
 ) -> Result<Rows, NoMemory>
     requires low { AllFrom rows.now.def (T.passed test.now) (T.lowest test.now) }
     requires high { AllUpTo rows.now.def (T.passed test.now) (T.highest test.now) }
-    requires can { CanTakeEach differences.now rows.now }
+    requires can { CanTakeEach 0 differences.now rows.now }
     requires upto { AreUpTo n differences.now }
-    ensures { (new : ViewKept) → TakesEach differences.now rows.now new → IfOk result (λ list. list ≡ filter (T.passed test.now) (shown n new)) }
+    ensures { (floor : ℕ) (new : ViewKept) → TakesEach floor differences.now rows.now new → IfOk result (λ list. list ≡ filter (T.passed test.now) (shown n new)) }
 {
     match differences {
         [] => rows.read_passing(alloc, n, test),
@@ -141,37 +147,38 @@ fn reserve_each(pending: &[Items<Difference>], views: &mut [ViewRows]) -> Result
     Ok(())
 }
 
-/// Installs differences of a view, one after another. It takes no memory.
-fn install_all(differences: Items<Difference>, rows: &mut ViewRows)
-    requires can { CanTakeEach differences rows.old }
+/// Installs differences of a view, one after another; reads below `floor` need not stay. It takes no memory.
+fn install_all(differences: Items<Difference>, floor: u64, rows: &mut ViewRows)
+    requires can { CanTakeEach floor differences rows.old }
     requires room { changed_rows differences ≤ rows.old.spare }
-    ensures { TakesEach differences rows.old rows.new }
+    ensures { TakesEach floor differences rows.old rows.new }
 {
     for difference in differences.into_vec() {
-        rows.install(difference.hi, difference.changes);
+        rows.install(difference.hi, difference.changes, floor);
     }
 }
 
-/// Installs the differences of each view. It takes no memory.
-fn install_each(mut pending: Pending, views: &mut [ViewRows])
-    requires can { CanAllTake pending views.old }
+/// Installs the differences of each view; reads below `floor` need not stay. It takes no memory.
+fn install_each(mut pending: Pending, floor: u64, views: &mut [ViewRows])
+    requires can { CanAllTake floor pending views.old }
     requires room { HaveRoom pending views.old }
-    ensures { AllTake pending views.old views.new }
+    ensures { AllTake floor pending views.old views.new }
 {
     while let Some(differences) = pending.pop() {
-        install_all(differences, &mut views[pending.len()]);
+        install_all(differences, floor, &mut views[pending.len()]);
     }
 }
 
-/// Takes room for the differences of all views, and then installs them. Want of memory changes nothing but the room.
-fn take_each(pending: Pending, views: &mut [ViewRows]) -> Result<(), NoMemory>
-    requires { CanAllTake pending views.old }
+/// Takes room for the differences of all views, and then installs them; reads below `floor` need not stay. Want of memory
+/// changes nothing but the room.
+fn take_each(pending: Pending, floor: u64, views: &mut [ViewRows]) -> Result<(), NoMemory>
+    requires { CanAllTake floor pending views.old }
     ensures all { length views.new ≡ length views.old }
-    ensures done { OnOk result (AllTake pending views.old views.new) }
+    ensures done { OnOk result (AllTake floor pending views.old views.new) }
     ensures refused { OnErr result (OnlyRoom views.old views.new) }
 {
     reserve_each(pending.as_slice(), views)?;
-    install_each(pending, views);
+    install_each(pending, floor, views);
     Ok(())
 }
 
@@ -179,14 +186,15 @@ fn take_each(pending: Pending, views: &mut [ViewRows]) -> Result<(), NoMemory>
 pub(crate) fn take_pending(
     alloc: Global,
     pending: Pending,
+    floor: u64,
     rows: &mut Room<ViewRows>,
 ) -> Result<(), NoMemory>
-    requires { CanAllTake pending rows.old.list }
-    ensures done { OnOk result (AllTake pending rows.old.list rows.new.list) }
+    requires { CanAllTake floor pending rows.old.list }
+    ensures done { OnOk result (AllTake floor pending rows.old.list rows.new.list) }
     ensures refused { OnErr result (OnlyRoom rows.old.list rows.new.list) }
 {
     let mut views = std::mem::replace(rows, Room::new(alloc)).into_vec();
-    let taken = take_each(pending, &mut views);
+    let taken = take_each(pending, floor, &mut views);
     *rows = Room::from_vec(views);
     taken
 }

@@ -8,13 +8,14 @@ ghost use Rattle.lv_schema.specs.UpkeepCases.{forced_by};
 ghost use Rattle.lv_schema.specs.WholeWorld.{querying};
 ghost use Rattle.lv_schema.specs.World.{World};
 ghost use Rattle.lv_schema.specs.World as schema;
+ghost use Rattle.lv_stands.specs.Moves.{least_read};
 ghost use Rattle.lv_txn.specs.Kept.{IsLive};
 ghost use Rattle.lv_store.specs.Answering.{GivesQuery, IsCostBetween, IsInputBetween, ReadsNoTable, ReadsViews};
 ghost use Rattle.lv_store.specs.Pending.{AllTake, ArePending, CanAllTake};
 ghost use Rattle.lv_store.specs.Querying.{InPlaceOf, OnlyRoom, reads_kept, rel_rows_in, steps_in, upkeep_after};
 ghost use Rattle.lv_store.specs.Inputs.{AreCosts};
 ghost use Rattle.lv_viewrows.specs.Kept.{ViewKept};
-ghost use Rattle.lv_store.specs.Kept.{IsStore, Stands, store_of};
+ghost use Rattle.lv_store.specs.Kept.{IsStore, Stands, kept, store_of};
 
 use crate::answer::Answer;
 use crate::pending::{Pending, take_pending};
@@ -51,7 +52,7 @@ impl Store {
         ensures forced { IfOk result (λ found. found.forced ≡ steps_in self.now session query.now) }
         ensures taken { (w : World) → Stands w (store_of self.now) → IfOk result (λ found. InPlaceOf w found.forced found.taken) }
         ensures pending { IfOk result (λ found. ArePending self.now found.taken found.pending) }
-        ensures rows { (last : List ViewKept) → IfOk result (λ found. AllTake found.pending self.now.rows.list last → found.rows ≡ answer_over query.now (map (rel_rows_in self.now session last) query.now.rels)) }
+        ensures rows { (floor : ℕ) (last : List ViewKept) → IfOk result (λ found. AllTake floor found.pending self.now.rows.list last → found.rows ≡ answer_over query.now (map (rel_rows_in self.now session last) query.now.rels)) }
         ensures cost { steps_in self.now session query.now ≡ [] → list_all (reads_kept self.now session) query.now.rels ≡ true → steps.new ≡ steps.old }
         ensures most { list_all (reads_kept self.now session) query.now.rels ≡ true → (w : World) → Stands w (store_of self.now) → (n : ℕ) → AreCosts (IsCostBetween w.visible) (steps_in self.now session query.now) n → steps.new ≤ steps.old + n }
     {
@@ -74,14 +75,15 @@ impl Store {
         taken: &[Forced],
         pending: Pending,
     ) -> Result<(), NoMemory>
-        requires can { CanAllTake pending self.old.rows.list }
+        requires can { CanAllTake (least_read (kept 0 (store_of self.old))) pending self.old.rows.list }
         requires views { list_all (λ (f : Forced). nat_lt f.view (length self.old.upkeep.kept.points)) taken.now ≡ true }
-        ensures rows { OnOk result (AllTake pending self.old.rows.list self.new.rows.list) }
+        ensures rows { OnOk result (AllTake (least_read (kept 0 (store_of self.old))) pending self.old.rows.list self.new.rows.list) }
         ensures upkeep { OnOk result (self.new.upkeep.kept ≡ upkeep_after taken.now self.old.upkeep.kept) }
         ensures refused { OnErr result (OnlyRoom self.old.rows.list self.new.rows.list × (self.new.upkeep ≡ self.old.upkeep)) }
         ensures others { self.new ≡ record self.old { rows = self.new.rows; upkeep = self.new.upkeep } }
     {
-        take_pending(alloc, pending, &mut self.rows)?;
+        let floor = self.least_read();
+        take_pending(alloc, pending, floor, &mut self.rows)?;
         advance_each(taken, &mut self.upkeep);
         Ok(())
     }

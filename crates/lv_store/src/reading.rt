@@ -71,7 +71,7 @@ impl Store {
         requires live { IsLive self.now.txns session }
         requires pending { CanRead self.now session pending.now }
         requires view { view < length self.now.schema.views }
-        ensures rows { (last : List ViewKept) → AllTake pending.now self.now.rows.list last → IfOk result (λ rows. filter (T.passed test.now) rows ≡ filter (T.passed test.now) (view_rows_in self.now session last view)) }
+        ensures rows { (floor : ℕ) (last : List ViewKept) → AllTake floor pending.now self.now.rows.list last → IfOk result (λ rows. filter (T.passed test.now) rows ≡ filter (T.passed test.now) (view_rows_in self.now session last view)) }
         ensures cost { has_written self.now session view ≡ false → steps.new ≡ steps.old }
     {
         if self.has_written(session, view) {
@@ -96,7 +96,7 @@ impl Store {
         requires live { IsLive self.now.txns session }
         requires pending { CanRead self.now session pending.now }
         requires in_use { rel_in_use self.now.schema.tables self.now.schema.views rel.now ≡ true }
-        ensures rows { (last : List ViewKept) → AllTake pending.now self.now.rows.list last → IfOk result (λ rows. rows ≡ rel_rows_in self.now session last rel.now) }
+        ensures rows { (floor : ℕ) (last : List ViewKept) → AllTake floor pending.now self.now.rows.list last → IfOk result (λ rows. rows ≡ rel_rows_in self.now session last rel.now) }
         ensures cost { reads_kept self.now session rel.now ≡ true → steps.new ≡ steps.old }
     {
         match rel {
@@ -118,7 +118,7 @@ impl Store {
         requires live { IsLive self.now.txns session }
         requires pending { CanRead self.now session pending.now }
         requires in_use { list_all (rel_in_use self.now.schema.tables self.now.schema.views) rels.now ≡ true }
-        ensures parts { (last : List ViewKept) → AllTake pending.now self.now.rows.list last → IfOk result (λ parts. parts ≡ map (rel_rows_in self.now session last) rels.now) }
+        ensures parts { (floor : ℕ) (last : List ViewKept) → AllTake floor pending.now self.now.rows.list last → IfOk result (λ parts. parts ≡ map (rel_rows_in self.now session last) rels.now) }
         ensures cost { list_all (reads_kept self.now session) rels.now ≡ true → steps.new ≡ steps.old }
     {
         let mut parts = Items::new(alloc);
@@ -144,7 +144,7 @@ impl Store {
         requires live { IsLive self.now.txns session }
         requires pending { CanRead self.now session pending.now }
         requires in_use { rel_in_use self.now.schema.tables self.now.schema.views rel ≡ true }
-        ensures rows { (last : List ViewKept) → AllTake pending.now self.now.rows.list last → IfOk result (λ tried. matching cond.now tried ≡ matching cond.now (rel_rows_in self.now session last rel)) }
+        ensures rows { (floor : ℕ) (last : List ViewKept) → AllTake floor pending.now self.now.rows.list last → IfOk result (λ tried. matching cond.now tried ≡ matching cond.now (rel_rows_in self.now session last rel)) }
         ensures cost { reads_kept self.now session rel ≡ true → steps.new ≡ steps.old }
     {
         match rel {
@@ -171,7 +171,7 @@ impl Store {
         requires live { IsLive self.now.txns session }
         requires pending { CanRead self.now session pending.now }
         requires in_use { list_all (rel_in_use self.now.schema.tables self.now.schema.views) query.now.rels ≡ true }
-        ensures parts { (last : List ViewKept) → AllTake pending.now self.now.rows.list last → IfOk result (λ parts. selected query.now.cond parts ≡ selected query.now.cond (map (rel_rows_in self.now session last) query.now.rels)) }
+        ensures parts { (floor : ℕ) (last : List ViewKept) → AllTake floor pending.now self.now.rows.list last → IfOk result (λ parts. selected query.now.cond parts ≡ selected query.now.cond (map (rel_rows_in self.now session last) query.now.rels)) }
         ensures cost { list_all (reads_kept self.now session) query.now.rels ≡ true → steps.new ≡ steps.old }
     {
         let Some(rel) = only_rel(query.rels.as_slice()) else {
@@ -195,7 +195,7 @@ impl Store {
         requires live { IsLive self.now.txns session }
         requires pending { CanRead self.now session pending.now }
         requires in_use { list_all (rel_in_use self.now.schema.tables self.now.schema.views) query.now.rels ≡ true }
-        ensures rows { (last : List ViewKept) → AllTake pending.now self.now.rows.list last → IfOk result (λ rows. rows ≡ answer_over query.now (map (rel_rows_in self.now session last) query.now.rels)) }
+        ensures rows { (floor : ℕ) (last : List ViewKept) → AllTake floor pending.now self.now.rows.list last → IfOk result (λ rows. rows ≡ answer_over query.now (map (rel_rows_in self.now session last) query.now.rels)) }
         ensures cost { list_all (reads_kept self.now session) query.now.rels ≡ true → steps.new ≡ steps.old }
     {
         let parts = self.parts_to_try(alloc, session, pending, query, steps)?;

@@ -129,7 +129,8 @@ impl Store {
             });
         }
         let changes = self.step_changes(alloc, Forced { view, lo, hi }, offer, steps)?;
-        install_in(alloc, view, hi, changes, &mut self.rows)?;
+        let floor = self.least_read();
+        install_in(alloc, view, hi, changes, floor, &mut self.rows)?;
         self.upkeep.advance(view, hi);
         self.upkeep.end_claim(worker);
         Ok(Installed::Done { view, lo, hi })

@@ -32,7 +32,7 @@ new_to_ended number s group vs e m =
         absurd (omega (arith, came_before number s v here tied, from))
 
 -- one that each precedes
-precedes_differs : (v w : GroupVersion) → Precedes v w → v ≡ w → ⊥
+pub precedes_differs : (v w : GroupVersion) → Precedes v w → v ≡ w → ⊥
 precedes_differs v w r same =
     let own : Precedes v v = subst (Precedes v) (sym same) r in
     let here : precedes_by Equal v v = subst (λ o. precedes_by o v v) (tied_itself row_total v.group.row) own in

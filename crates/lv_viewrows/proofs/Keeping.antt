@@ -1,20 +1,22 @@
 -- An install that its conditions allow leaves what a view keeps in order, and the rows that it is to show.
-use Rattle.std.proofs.Common.{◌≡◌, ℕ, ◌≤◌, Bool, true, false, List, map, length, refl, sym, ap, ◌∙◌, subst}
+use Rattle.std.proofs.Common.{◌≡◌, ℕ, ◌<◌, ◌≤◌, ◌⊎◌, inl, Bool, true, false, List, map, length, Option, Some, None, refl, sym, ap, ◌∙◌, subst, arith}
 use Rattle.std.specs.Prelude.{if◌then◌else◌}
 use Rattle.std.specs.List.{AllByRecursion}
 use Rattle.lv_schema.specs.declared.signed.SignedRow.{SignedRow}
 use Rattle.lv_schema.specs.declared.view.ViewDef.{ViewDef}
-use Rattle.lv_schema.specs.Applicable.{ApplyToRows, with_changes}
+use Rattle.lv_schema.specs.Applicable.{AreNetted, ApplyToGroups, ApplyToRows, with_changes}
 use Rattle.lv_schema.specs.Differences.{summed_columns}
 use Rattle.lv_schema.specs.SignedRows.{entries_of}
+use Rattle.lv_schema.specs.Versions.{ends_after}
 use Rattle.lv_schema.proofs.Apart.{all_true, all_weaker}
 use Rattle.lv_group.specs.Gathered.{has_tuples, rows_of}
 use Rattle.lv_shelf.specs.Cuts.{Apart}
 use Rattle.lv_viewrows.specs.declared.version.GroupVersion.{GroupVersion}
-use Rattle.lv_viewrows.specs.Changed.{CanInstall, groups_with}
+use Rattle.lv_viewrows.specs.Changed.{CanInstall, groups_with, sums_of}
 use Rattle.lv_viewrows.specs.Kept.{ViewKept, groups_at, rows_listed, shown}
-use Rattle.lv_viewrows.specs.Standing.{AreVersions, IsBy, IsRow, MeetAll, Precedes, changed_all, current, joined}
-use Rattle.lv_viewrows.proofs.Installing.{Fits, all_changed, all_met, entries_now, groups_after, groups_fit, now_ascend, now_rows}
+use Rattle.lv_viewrows.specs.Standing.{AreVersions, EndsAtMost, IsBy, IsRow, MeetAll, Precedes, changed_all, current, joined, pruned}
+use Rattle.lv_viewrows.proofs.Installing.{Fits, all_changed, all_met, entries_now, groups_after, groups_fit, now_ascend, now_rows, pruned_groups, some_kept}
+use Rattle.lv_viewrows.proofs.Pruned.{all_stand}
 use Rattle.lv_viewrows.proofs.RowsOfJoins.{IsOneRow, row_of, rows_changed_are, rows_fit, rows_made}
 
 pub not_either : true ≡ false → ⊥
@@ -26,6 +28,21 @@ join_listed view groups e = ap (λ b. if b then rows_of (record { by = view.grou
 
 pub group_listed : (view : ViewDef) (groups : List SignedRow) → view.grouped ≡ true → rows_listed view groups ≡ rows_of (record { by = view.groups; items = view.items; groups = groups; spare = 0 })
 group_listed view groups e = ap (λ b. if b then rows_of (record { by = view.groups; items = view.items; groups = groups; spare = 0 }) else map row_of groups) e
+
+-- what a view can take is told from its groups at its point
+pub can_still : (kept new : ViewKept) (hi : ℕ) (list : List SignedRow) → new.def ≡ kept.def → new.at ≡ kept.at → groups_at kept.at new.versions ≡ groups_at kept.at kept.versions → CanInstall kept hi list → CanInstall new hi list
+can_still kept new hi list def at same can = record {
+  later = subst (λ (n : ℕ). n < hi) (sym at) can.later;
+  netted = subst (λ (view : ViewDef). AreNetted (sums_of view) list) (sym def) can.netted;
+  rows = λ e. subst (λ r. ApplyToRows r list) (sym shows) (can.rows (ap (λ (view : ViewDef). view.grouped) (sym def) ∙ e));
+  groups = λ e. subst (λ g. ApplyToGroups g list) (sym there) (can.groups (ap (λ (view : ViewDef). view.grouped) (sym def) ∙ e));
+}
+  where
+    there : groups_at new.at new.versions ≡ groups_at kept.at kept.versions
+    there = ap (λ n. groups_at n new.versions) at ∙ same
+
+    shows : shown new.at new ≡ shown kept.at kept
+    shows = λ i. rows_listed (def i) (there i)
 
 -- a view k that an answer sees as kept, which can take the changes
 module _ {k kept : ViewKept} (is : k ≡ kept) (held : AreVersions k.def k.at k.versions) (hi : ℕ) (list : List SignedRow) (asked : CanInstall kept hi list) where
@@ -84,3 +101,27 @@ module _ {k kept : ViewKept} (is : k ≡ kept) (held : AreVersions k.def k.at k.
         ∙ rows_changed_are now list (now_ascend k.def k.at k.versions held) can.netted.ascend (now_rows k.def k.at k.versions held e) (apply e) (plain e)
         ∙ ap (with_changes list) (sym (join_listed k.def now e))
         ∙ ap (λ (w : ViewKept). with_changes list (shown w.at w)) is
+
+  -- the same without what ended by the commit
+  each_by : (vs : List GroupVersion) → AllByRecursion (IsBy k.at) vs → AllByRecursion (IsBy hi) vs
+  each_by vs a = all_weaker (IsBy k.at) (IsBy hi) (λ v h. (let lt = can.later in omega (arith, lt, h.0), ends_later v.until h.1)) vs a
+    where
+      ends_later : (u : Option ℕ) → EndsAtMost k.at u → EndsAtMost hi u
+      ends_later None h = tt
+      ends_later (Some n) h = let lt = can.later in omega (arith, lt, h)
+
+  stands : Apart Precedes after × AllByRecursion (IsBy hi) after
+  stands = all_stand hi list k.versions held.order (each_by k.versions held.each) can.netted.ascend meet
+
+  module _ (vs : List GroupVersion) (changed : vs ≡ pruned hi after) where
+    pub kept_pruned : AreVersions k.def hi vs
+    kept_pruned = subst (AreVersions k.def hi) (sym changed) (some_kept k.def hi (λ v. ends_after hi v.until) after (kept_after after refl stands.0 stands.1))
+
+    groups_pruned : (n : ℕ) → hi ≤ n → groups_at n vs ≡ groups_at n after
+    groups_pruned n le = ap (groups_at n) changed ∙ pruned_groups n hi hi after stands.1 (inl le)
+
+    pub now_pruned : (n : ℕ) → hi ≤ n → groups_at n vs ≡ groups_with list (groups_at kept.at kept.versions)
+    now_pruned n le = groups_pruned n le ∙ now_after after refl stands.0 stands.1 n le
+
+    pub shown_pruned : kept.def.grouped ≡ false → (n : ℕ) → hi ≤ n → rows_listed k.def (groups_at n vs) ≡ with_changes list (shown kept.at kept)
+    shown_pruned join n le = ap (rows_listed k.def) (groups_pruned n le) ∙ shown_after after refl stands.0 stands.1 join n le

@@ -7,13 +7,17 @@ pub mod Filling
 pub mod FirstValue
 pub mod Following
 pub mod Galloping
+pub mod InPlace
 pub mod Installing
 pub mod Keeping
+pub mod LeftInPlace
 pub mod Merging
 pub mod Narrowing
 pub mod NotEnded
+pub mod Open
 pub mod Order
 pub mod Passing
+pub mod Pruned
 pub mod ReadAt
 pub mod Replacing
 pub mod RowsOfJoins

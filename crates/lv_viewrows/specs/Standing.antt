@@ -10,7 +10,7 @@ use Rattle.lv_values.specs.Order.{row_cmp, row_eq}
 use Rattle.lv_schema.specs.declared.signed.SignedRow.{SignedRow}
 use Rattle.lv_schema.specs.declared.view.ViewDef.{ViewDef}
 use Rattle.lv_schema.specs.Once.{Ascends}
-use Rattle.lv_schema.specs.Versions.{end_by}
+use Rattle.lv_schema.specs.Versions.{end_by, ends_after}
 use Rattle.lv_group.specs.Gathered.{has_tuples}
 use Rattle.lv_shelf.specs.Cuts.{Apart}
 use Rattle.lv_viewrows.specs.declared.version.GroupVersion.{GroupVersion}
@@ -55,6 +55,14 @@ has_no_end v = is_none v.until
 
 abbrev pub not_ended : List GroupVersion → List GroupVersion
 not_ended versions = filter has_no_end versions
+
+-- no version has ended
+abbrev pub AreOpen : List GroupVersion → Type 0
+AreOpen versions = AllByRecursion (λ v. has_no_end v ≡ true) versions
+
+-- the versions that did not end at or below a commit
+abbrev pub pruned : ℕ → List GroupVersion → List GroupVersion
+pruned number versions = filter (λ v. ends_after number v.until) versions
 
 -- how many of the first so many versions have not ended
 abbrev pub not_ended_before : ℕ → List GroupVersion → ℕ

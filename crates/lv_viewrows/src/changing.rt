@@ -63,7 +63,13 @@ fn front_not_ended(
 
 /// How many versions come before a row, where those from `high` on do not and `left` more places are sought behind it. Cost:
 /// a search from there.
-fn count_before(row: &Row, number: u64, high: usize, left: usize, versions: &Versions) -> usize
+pub(crate) fn count_before(
+    row: &Row,
+    number: u64,
+    high: usize,
+    left: usize,
+    versions: &Versions,
+) -> usize
     requires order { Apart Precedes versions.now.list }
     requires within { high ≤ length versions.now.list }
     requires above { NoneBefore row.now number high versions.now.list }
@@ -73,7 +79,7 @@ fn count_before(row: &Row, number: u64, high: usize, left: usize, versions: &Ver
 }
 
 /// Whether the last of the first so many versions has a row and has not ended.
-fn is_current_before(row: &Row, at: usize, versions: &Versions) -> bool
+pub(crate) fn is_current_before(row: &Row, at: usize, versions: &Versions) -> bool
     requires { at ≤ length versions.now.list }
     ensures some { result ≡ true → 0 < at }
     ensures last { (v : GroupVersion) → 0 < at → slice_get versions.now.list (at - 1) ≡ Some v → result ≡ is_current row.now v }
@@ -135,7 +141,13 @@ fn put_group(group: SignedRow, number: u64, at: usize, not_ended: usize, version
 }
 
 /// Puts a group at its place if it has a tuple.
-fn put_change(group: SignedRow, number: u64, at: usize, not_ended: usize, versions: &mut Versions)
+pub(crate) fn put_change(
+    group: SignedRow,
+    number: u64,
+    at: usize,
+    not_ended: usize,
+    versions: &mut Versions,
+)
     requires cut { IsCut (comes_before group.row number) at versions.old.list }
     requires place { not_ended ≡ not_ended_before at versions.old.list }
     requires absent { LacksItem (version_from number group) versions.old.list }
@@ -195,7 +207,7 @@ fn ends_before(change: &SignedRow, at: usize, versions: &Versions) -> bool
 
 /// Takes the last change off if it ends the last of the first so many versions and leaves no group of its row, where a
 /// change is given that brings one.
-fn take_ending(
+pub(crate) fn take_ending(
     change: &SignedRow,
     changes: &mut Signed,
     at: usize,

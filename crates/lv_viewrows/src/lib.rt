@@ -3,6 +3,7 @@
 
 mod beginning;
 mod changing;
+mod in_place;
 mod laws;
 mod numbers;
 mod reading;

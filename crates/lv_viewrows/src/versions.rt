@@ -1,10 +1,10 @@
 //! Versions in the order of their rows, and which of them have not ended.
 ghost use Rattle.std.specs.Prelude.{◌≡◌, ◌+◌, ◌++◌, ◌∷◌, ◌≤◌, ◌<◌, [], Some, true, drop, filter, length, nat_le, slice_get, slice_set, take, IfOk, OnOk};
-ghost use Rattle.std.specs.List.{insert};
+ghost use Rattle.std.specs.List.{insert, remove};
 ghost use Rattle.lv_shelf.specs.Cuts.{Apart, Falls, IsCut};
 ghost use Rattle.lv_shelf.specs.Shelves.{LacksItem};
 ghost use Rattle.lv_viewrows.specs.Kept.{version_from};
-ghost use Rattle.lv_viewrows.specs.Standing.{Precedes, ended_at, has_no_end, not_ended, not_ended_before};
+ghost use Rattle.lv_viewrows.specs.Standing.{AreOpen, Precedes, ended_at, has_no_end, not_ended, not_ended_before};
 
 use crate::version::{EndOf, GroupVersion};
 use lv_schema::SignedRow;
@@ -280,6 +280,32 @@ impl Versions {
             .exchange(at, GroupVersion::from_commit(number, group));
         version.until = Some(number);
         self.shelf.insert(at, version, 0);
+    }
+
+    /// Puts a group, from a commit on, in the place of a version's, where none has ended. It takes no memory. Cost: constant.
+    pub(crate) fn set(&mut self, at: usize, group: SignedRow, number: u64)
+        requires at { at < length self.old.list }
+        requires order { Apart Precedes self.old.list }
+        requires open { AreOpen self.old.list }
+        ensures set { self.new.list ≡ slice_set self.old.list at (version_from number group) }
+        ensures room { self.new.spare ≡ self.old.spare }
+    {
+        let _old = self
+            .shelf
+            .exchange(at, GroupVersion::from_commit(number, group));
+    }
+
+    /// Drops the version at a place, where none has ended. It takes no memory, and makes room for one. Cost: a move of small
+    /// numbers in each order.
+    pub(crate) fn remove(&mut self, at: usize)
+        requires at { at < length self.old.list }
+        requires order { Apart Precedes self.old.list }
+        requires open { AreOpen self.old.list }
+        ensures removed { self.new.list ≡ remove self.old.list at }
+        ensures room { self.new.spare ≡ self.old.spare + 1 }
+    {
+        self.shelf.leave(0, at);
+        self.shelf.remove(at);
     }
 
     /// Keeps the versions that pass. It takes no memory, and makes room for as many as go. Cost: two passes over four-byte

@@ -12,10 +12,11 @@ ghost use Rattle.lv_group.specs.Gathered.{IsOfView, has_tuples, rows_of};
 ghost use Rattle.lv_viewrows.specs.Beginning.{AllFrom, AllUpTo, IsFirst, first_column};
 ghost use Rattle.lv_viewrows.specs.Changed.{CanInstall, groups_with};
 ghost use Rattle.lv_viewrows.specs.Kept.{groups_at, one_row, rows_listed, shown, version_from};
-ghost use Rattle.lv_viewrows.specs.Standing.{read_at};
+ghost use Rattle.lv_viewrows.specs.Standing.{AreOpen, read_at};
 
 use crate::beginning::first_column;
 use crate::changing::apply_all;
+use crate::in_place::apply_in_place;
 use crate::reading::rows_passing;
 use crate::seek::Seek;
 use crate::version::{EndsAfter, GroupVersion};
@@ -241,12 +242,55 @@ impl ViewRows {
         )
     }
 
-    /// Installs a change, whose commits end at `hi`: from there on the rows are those before with it, and below they stay.
-    /// It takes no memory. Cost: for each changed row a search from the place of the one before it, of about
+    /// Whether no version has ended. Where as many have as have not, or more, they are dropped first. Reads at the point and
+    /// above stay. Cost: constant, and over many calls a pass over small numbers for each version that is dropped.
+    fn opens(&mut self) -> bool
+        ensures def { self.new.def ≡ self.old.def }
+        ensures at { self.new.at ≡ self.old.at }
+        ensures open { result ≡ true → AreOpen self.new.versions }
+        ensures stays { (n : ℕ) → self.old.at ≤ n → groups_at n self.new.versions ≡ groups_at n self.old.versions }
+        ensures room { self.old.spare ≤ self.new.spare }
+    {
+        let open = self.versions.len_not_ended();
+        let ended = self.versions.len() - open;
+        if ended == 0 {
+            return true;
+        }
+        if ended < open {
+            return false;
+        }
+        self.prune(self.at);
+        true
+    }
+
+    /// Installs a change, whose commits end at `hi`: from there on the rows are those before with it. Below, reads from `floor` on
+    /// stay: where that is not below `hi`, nobody reads what the change ends, and most such installs put each new group in the
+    /// place of the old one. It takes no memory. Cost: for each changed row a search from the place of the one before it, of about
     /// log (versions / changed rows) comparisons where these are spread evenly and never more than twice log (versions); and
-    /// for each that comes a move of small numbers, as of `Shelf::insert`. A row that goes and the next one that comes right
-    /// behind it, as of an update, take one search and one move together.
-    pub fn install(&mut self, hi: u64, changes: Signed)
+    /// for each that comes or goes, and where reads below `hi` stay for each that changes, a move of small numbers, as of
+    /// `Shelf::insert`. A row that goes and the next one that comes right behind it, as of an update, take one search and one move
+    /// together.
+    pub fn install(&mut self, hi: u64, changes: Signed, floor: u64)
+        requires change { CanInstall self.old hi changes }
+        requires room { length changes ≤ self.old.spare }
+        ensures def { self.new.def ≡ self.old.def }
+        ensures at { self.new.at ≡ hi }
+        ensures before { (n : ℕ) → floor ≤ n → n < hi → groups_at n self.new.versions ≡ groups_at n self.old.versions }
+        ensures from { (n : ℕ) → hi ≤ n → groups_at n self.new.versions ≡ groups_with changes (groups_at self.old.at self.old.versions) }
+        ensures shown { self.old.def.grouped ≡ false → (n : ℕ) → hi ≤ n → shown n self.new ≡ with_changes changes (shown self.old.at self.old) }
+        ensures room { self.old.spare ≤ self.new.spare + length changes }
+    {
+        if floor < hi {
+            self.install_beside(hi, changes);
+        } else if self.opens() {
+            self.install_in_place(hi, changes);
+        } else {
+            self.install_beside(hi, changes);
+        }
+    }
+
+    /// The same where reads below the commit stay.
+    fn install_beside(&mut self, hi: u64, changes: Signed)
         requires change { CanInstall self.old hi changes }
         requires room { length changes ≤ self.old.spare }
         ensures def { self.new.def ≡ self.old.def }
@@ -257,6 +301,21 @@ impl ViewRows {
         ensures room { self.old.spare ≤ self.new.spare + length changes }
     {
         apply_all(changes, hi, &mut self.versions);
+        self.at = hi;
+    }
+
+    /// The same where no version has ended and nobody reads below the commit.
+    fn install_in_place(&mut self, hi: u64, changes: Signed)
+        requires change { CanInstall self.old hi changes }
+        requires open { AreOpen self.old.versions }
+        requires room { length changes ≤ self.old.spare }
+        ensures def { self.new.def ≡ self.old.def }
+        ensures at { self.new.at ≡ hi }
+        ensures from { (n : ℕ) → hi ≤ n → groups_at n self.new.versions ≡ groups_with changes (groups_at self.old.at self.old.versions) }
+        ensures shown { self.old.def.grouped ≡ false → (n : ℕ) → hi ≤ n → shown n self.new ≡ with_changes changes (shown self.old.at self.old) }
+        ensures room { self.old.spare ≤ self.new.spare + length changes }
+    {
+        apply_in_place(changes, hi, &mut self.versions);
         self.at = hi;
     }
 

@@ -13,5 +13,5 @@ returns-clause-done c =
     let new = c.install_at-installed.new.views in
     let old : c.deref_mut.result.now ≡ c.args.rows.now.list = lent.value ∙ c.into_vec-views.ensures.same ∙ ap (λ (r : Roomy ViewKept). r.list) c.replace.ensures.value in
     let back : c.from_vec.result.list ≡ new = c.from_vec.ensures.same ∙ written_back items.len new items.items (c.install_at-installed.ensures.all ∙ ap length lent.value) (sym lent.len ∙ ap length lent.value) in
-    subst (λ (l : List ViewKept). OnOk c.install_at-installed.result (ViewInstalled c.args.hi c.args.changes c.args.view c.args.rows.now.list l)) (sym back)
-    (subst (λ (l : List ViewKept). OnOk c.install_at-installed.result (ViewInstalled c.args.hi c.args.changes c.args.view l new)) old c.install_at-installed.ensures.done)
+    subst (λ (l : List ViewKept). OnOk c.install_at-installed.result (ViewInstalled c.args.floor c.args.hi c.args.changes c.args.view c.args.rows.now.list l)) (sym back)
+    (subst (λ (l : List ViewKept). OnOk c.install_at-installed.result (ViewInstalled c.args.floor c.args.hi c.args.changes c.args.view l new)) old c.install_at-installed.ensures.done)

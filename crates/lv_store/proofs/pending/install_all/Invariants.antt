@@ -5,7 +5,7 @@ use Rattle.lv_store.proofs.pending.install_all.Given as goal
 
 abbrev pub invariant-loop-difference : goal.invariant-loop-difference
 invariant-loop-difference l = record {
-  can : CanTakeEach l.difference-iterator.rest.items l.rows;
+  can : CanTakeEach l.floor l.difference-iterator.rest.items l.rows;
   room : changed_rows l.difference-iterator.rest.items ≤ l.rows.spare;
-  done : (new : ViewKept) → TakesEach l.difference-iterator.rest.items l.rows new → TakesEach l.fn.differences l.initial.rows new;
+  done : (new : ViewKept) → TakesEach l.floor l.difference-iterator.rest.items l.rows new → TakesEach l.floor l.fn.differences l.initial.rows new;
 }

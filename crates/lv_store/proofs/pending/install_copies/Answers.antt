@@ -14,8 +14,8 @@ loop-difference-preserved c =
     let new = c.install.new.rows in
     let lt : i < length ds = omega (arith, c.loop-difference-test.true) in
     let rest : drop i ds ≡ d ∷ drop (i + 1) ds = drop_more ds i d lt ∙ ap (λ x. x ∷ drop (i + 1) ds) (sym c.difference-item.is) in
-    let installed : RowsInstall d.hi d.changes old new = subst (λ (l : List SignedRow). RowsInstall d.hi l old new) c.in_ok-copy.ensures c.in_ok-install.ensures.done in
+    let installed : RowsInstall 0 d.hi d.changes old new = subst (λ (l : List SignedRow). RowsInstall 0 d.hi l old new) c.in_ok-copy.ensures c.in_ok-install.ensures.done in
     record {
-      can = rest_can (drop i ds) (drop (i + 1) ds) d rest old new c.loop-difference.invariant.can installed;
-      done = rest_takes (drop i ds) (drop (i + 1) ds) d rest ds c.args.rows.now old new c.loop-difference.invariant.done installed;
+      can = rest_can 0 (drop i ds) (drop (i + 1) ds) d rest old new c.loop-difference.invariant.can installed;
+      done = rest_takes 0 (drop i ds) (drop (i + 1) ds) d rest ds c.args.rows.now old new c.loop-difference.invariant.done installed;
     }

@@ -14,8 +14,8 @@ returns-clause-done c =
     let new = c.take_each-taken.new.views in
     let old : c.deref_mut.result.now ≡ c.args.rows.now.list = lent.value ∙ c.into_vec-views.ensures.same ∙ ap (λ (r : Roomy ViewKept). r.list) c.replace.ensures.value in
     let back : c.from_vec.result.list ≡ new = c.from_vec.ensures.same ∙ written_back items.len new items.items (c.take_each-taken.ensures.all ∙ ap length lent.value) (sym lent.len ∙ ap length lent.value) in
-    subst (λ (l : List ViewKept). OnOk c.take_each-taken.result (AllTake c.args.pending c.args.rows.now.list l)) (sym back)
-    (subst (λ (l : List ViewKept). OnOk c.take_each-taken.result (AllTake c.args.pending l new)) old c.take_each-taken.ensures.done)
+    subst (λ (l : List ViewKept). OnOk c.take_each-taken.result (AllTake c.args.floor c.args.pending c.args.rows.now.list l)) (sym back)
+    (subst (λ (l : List ViewKept). OnOk c.take_each-taken.result (AllTake c.args.floor c.args.pending l new)) old c.take_each-taken.ensures.done)
 
 pub returns-clause-refused : goal.returns-clause-refused
 returns-clause-refused c =

@@ -3,7 +3,9 @@ use Rattle.std.specs.Prelude.{slice_index, OnErr, Result, Ok, Err}
 use Rattle.lv_upkeep.specs.Kept.{claim_kept}
 use Rattle.lv_upkeep.specs.Moves.{upkeep_claimed}
 use Rattle.lv_viewrows.specs.Changed.{CanInstall}
-use Rattle.lv_store.specs.Kept.{Stands, rows_in, store_of}
+use Rattle.lv_stands.specs.Moves.{least_read}
+use Rattle.lv_store.specs.Kept.{Stands, kept, rows_in, store_of}
+use Rattle.lv_store.specs.Querying.{ViewInstalled}
 use Rattle.lv_store.proofs.Forcing.{can_compute}
 use Rattle.lv_store.proofs.OwnReads.{points_long, rows_long}
 use Rattle.lv_store.proofs.WorkerSteps.{claim_in_use, claim_installs, claim_kept_step, gives_installed, gives_moved, installed_know, released_stands, same_know, same_rows, still_whole, takes_installed}
@@ -77,7 +79,9 @@ returns-clause-done g c = λ w is.
     let f = c.unwrap-view.result in
     let claim : claim_kept p.upkeep.kept c.args.worker ≡ Some f = sym c.claim.ensures ∙ c.unwrap-view.ensures in
     let at : slice_index p.upkeep.kept.points f.view ≡ f.lo = sym c.point-point.ensures ∙ c.if-point-lo.false in
-    gives_installed p w is c.args.worker f claim at whole.defs c.in_ok-changes.changes c.in_ok-changes.ensures.changes c.install_in.new.rows.list c.in_ok-install_in.ensures.done c.end_claim-2.new.self.kept
+    let done : ViewInstalled (least_read (kept 0 (store_of p))) f.hi c.in_ok-changes.changes f.view p.rows.list c.install_in.new.rows.list =
+    subst (λ n. ViewInstalled n f.hi c.in_ok-changes.changes f.view p.rows.list c.install_in.new.rows.list) c.least_read-floor.ensures c.in_ok-install_in.ensures.done in
+    gives_installed p w is c.args.worker f claim at whole.defs c.in_ok-changes.changes c.in_ok-changes.ensures.changes c.install_in.new.rows.list done c.end_claim-2.new.self.kept
     (c.end_claim-2.ensures.claimed ∙ ap (upkeep_claimed c.args.worker None) c.advance.ensures.moved)
 
 pub returns-clause-whole : goal.returns-clause-whole
@@ -91,7 +95,8 @@ returns-clause-whole g c =
     let is = whole.stands in
     let set = c.end_claim-2.ensures.claimed ∙ ap (upkeep_claimed c.args.worker None) c.advance.ensures.moved in
     let new = c.install_in.new.rows in
-    let done = c.in_ok-install_in.ensures.done in
+    let done : ViewInstalled (least_read (kept 0 (store_of p))) f.hi c.in_ok-changes.changes f.view p.rows.list c.install_in.new.rows.list =
+    subst (λ n. ViewInstalled n f.hi c.in_ok-changes.changes f.view p.rows.list c.install_in.new.rows.list) c.least_read-floor.ensures c.in_ok-install_in.ensures.done in
     still_whole p p.base c.end_claim-2.new.self new whole (installed_know p w is c.args.worker f claim at whole.defs c.in_ok-changes.changes c.in_ok-changes.ensures.changes new.list done c.end_claim-2.new.self.kept set) _
     (gives_installed p w is c.args.worker f claim at whole.defs c.in_ok-changes.changes c.in_ok-changes.ensures.changes new.list done c.end_claim-2.new.self.kept set).stands
 

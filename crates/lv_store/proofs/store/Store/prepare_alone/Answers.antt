@@ -1,4 +1,4 @@
-use Rattle.std.proofs.Common.{◌≡◌, ◌+◌, ◌<◌, None, Some, Err, List, length, sym, ap, ◌∙◌, subst}
+use Rattle.std.proofs.Common.{◌≡◌, ◌+◌, None, Some, Err, List, length, sym, ap, ◌∙◌, subst}
 use Rattle.std.specs.Prelude.{slice_set}
 use Rattle.std.proofs.lemmas.Result.{err_from_is_err_and}
 use Rattle.lv_schema.specs.declared.action.Action.{Action}
@@ -7,7 +7,7 @@ use Rattle.lv_schema.specs.World.{transaction}
 use Rattle.lv_base.specs.Bases.{base_of}
 use Rattle.lv_base.specs.declared.ready.Ready.{Ready}
 use Rattle.lv_stands.specs.Moves.{full_in}
-use Rattle.lv_store.specs.Alone.{IsEffectAlone, alone_kept, made_alone, with_alone}
+use Rattle.lv_store.specs.Alone.{IsEffectAlone, alone_kept, made_alone}
 use Rattle.lv_store.specs.Answering.{with_visible}
 use Rattle.lv_store.specs.Committing.{next_record}
 use Rattle.lv_store.specs.Kept.{Stands, StoreKept, store_of}

@@ -5,7 +5,8 @@ use Rattle.lv_schema.specs.declared.forced.Forced.{Forced}
 use Rattle.lv_schema.specs.World.{World}
 use Rattle.lv_store.specs.Querying.{InPlaceOf, StepsInstall, changes_in, steps_in}
 use Rattle.lv_store.specs.declared.store.Store.{Store}
-use Rattle.lv_store.specs.Kept.{Stands, store_of}
+use Rattle.lv_stands.specs.Moves.{least_read}
+use Rattle.lv_store.specs.Kept.{Stands, kept, store_of}
 use Rattle.lv_store.proofs.OwnReads.{points_long, rows_long}
 use Rattle.lv_store.proofs.PendingSteps.{steps_install}
 use Rattle.lv_store.proofs.Queries.{after_is, all_below, can_take_pending, forced_are_costs, gives, reads_nothing, reads_views, refused_store, refused_whole, steps_below, still_engine, taken_store}
@@ -62,9 +63,9 @@ returns-clause-done g c = λ w settings same is.
     let last = new.rows.list in
     let place : (w : World) → Stands w (store_of p) → InPlaceOf w (steps_in p session query) found.taken = λ w is. subst (λ steps. InPlaceOf w steps found.taken) told.forced (told.taken w is) in
     let below = steps_below p session query bound w is found.taken (place w is).follow (length p.rows.list) (omega (arith, rows_long p w is)) in
-    let install : StepsInstall (changes_in p) found.taken p.rows.list last = steps_install p found.taken found.pending last told.pending below done.rows in
+    let install : StepsInstall (least_read (kept 0 (store_of p))) (changes_in p) found.taken p.rows.list last = steps_install p (least_read (kept 0 (store_of p))) found.taken found.pending last told.pending below done.rows in
     gives p session query bound found.taken place c.requires.live whole.defs last install w is (whole.under session) settings same
-    (record { forced = found.forced; rows = found.rows }) (store_of new) told.forced (told.rows last done.rows)
+    (record { forced = found.forced; rows = found.rows }) (store_of new) told.forced (told.rows (least_read (kept 0 (store_of p))) last done.rows)
     (after_is p session query bound found.taken place c.requires.live whole.defs last install c.as_slice.result.now (store_of new) c.as_slice.ensures (taken_store p new c.as_slice.result.now done.others done.upkeep))
 
 pub returns-clause-whole : goal.returns-clause-whole
@@ -81,7 +82,7 @@ returns-clause-whole g c =
     let last = new.rows.list in
     let place : (w : World) → Stands w (store_of p) → InPlaceOf w (steps_in p session query) found.taken = λ w is. subst (λ steps. InPlaceOf w steps found.taken) told.forced (told.taken w is) in
     let below = steps_below p session query bound whole.world whole.stands found.taken (place whole.world whole.stands).follow (length p.rows.list) (omega (arith, rows_long p whole.world whole.stands)) in
-    let install : StepsInstall (changes_in p) found.taken p.rows.list last = steps_install p found.taken found.pending last told.pending below done.rows in
+    let install : StepsInstall (least_read (kept 0 (store_of p))) (changes_in p) found.taken p.rows.list last = steps_install p (least_read (kept 0 (store_of p))) found.taken found.pending last told.pending below done.rows in
     let others = done.others in
     still_engine p session query bound found.taken place c.requires.live whole.defs last install new whole (ap (λ (s : Store). s.settings) others) (ap (λ (s : Store). s.schema) others) (ap (λ (s : Store). s.txns) others) refl
     (after_is p session query bound found.taken place c.requires.live whole.defs last install c.as_slice.result.now (store_of new) c.as_slice.ensures (taken_store p new c.as_slice.result.now others done.upkeep))

@@ -7,11 +7,11 @@ use Rattle.lv_store.proofs.TriedRows.{each_passes, not_written}
 use Rattle.lv_store.proofs.store.Store.rel_rows.Goals as goal
 
 pub returns-in-View-clause-rows : goal.returns-in-View-clause-rows
-returns-in-View-clause-rows g c = λ last take.
+returns-in-View-clause-rows g c = λ floor last take.
     let p = c.args.self.now in
     let session = c.args.session in
     subst (λ (rel : Rel). IfOk c.view_rows.result (λ (rows : List (List Value)). rows ≡ rel_rows_in p session last rel)) (sym c.in-View.is)
-    (each_passes p session c.in-View.view last (λ _. true) c.view_rows.result (c.view_rows.ensures.rows last take))
+    (each_passes p session c.in-View.view last (λ _. true) c.view_rows.result (c.view_rows.ensures.rows floor last take))
 
 pub returns-in-View-clause-cost : goal.returns-in-View-clause-cost
 returns-in-View-clause-cost g c = λ kept.

@@ -14,9 +14,9 @@ pub view_rows-requires-clause-high : goal.view_rows-requires-clause-high
 view_rows-requires-clause-high g c kept e = c.in_ok-range-in-View.ensures.high kept e
 
 pub returns-in_ok-range-in-View-clause-rows : goal.returns-in_ok-range-in-View-clause-rows
-returns-in_ok-range-in-View-clause-rows g c = λ last take.
+returns-in_ok-range-in-View-clause-rows g c = λ floor last take.
     subst (λ (rel : Rel). IfOk c.view_rows.result (λ (tried : List (List Value)). matching c.args.cond.now tried ≡ matching c.args.cond.now (rel_rows_in c.args.self.now c.args.session last rel)))
-    (sym c.in-View.is) (c.view_rows.ensures.rows last take)
+    (sym c.in-View.is) (c.view_rows.ensures.rows floor last take)
 
 pub returns-in_ok-range-in-View-clause-cost : goal.returns-in_ok-range-in-View-clause-cost
 returns-in_ok-range-in-View-clause-cost g c e = c.view_rows.ensures.cost (not_so _ (subst (λ rel. reads_kept c.args.self.now c.args.session rel ≡ true) c.in-View.is e))
