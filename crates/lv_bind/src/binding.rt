@@ -3,6 +3,7 @@ ghost use Rattle.std.specs.Prelude.{◌≡◌, ◌++◌, map, IfOk, OnOk};
 ghost use Rattle.lv_bind.specs.Binding.{IsNarrow, bound_col, bound_literal, bound_side, bound_op, bound_cond, bound_rows, bound_value, bound_set, bound_order, columns_from, bound_list, rel_of, table_number};
 ghost use Rattle.std.specs.List.{range_with_len};
 ghost use Rattle.lv_bind.specs.Seen.{aliases, column_seen};
+ghost use Rattle.lv_schema.specs.declared.change.Change.{Change};
 
 use crate::pieces::Mention;
 use crate::sources::{Scope, Source, place_of};
@@ -10,7 +11,8 @@ use lv_parser::{
     Assign, AssignValue, ColName, ColNames, CondTree, Literal, OperandTree, Sign, Tuple,
 };
 use lv_schema::{
-    Col, Cols, Cond, Conds, Op, Operand, OrderCol, OrderCols, Rel, Rels, Set, SetValue, Sets,
+    Change, Col, Cols, Cond, Conds, Op, Operand, OrderCol, OrderCols, Query, Rel, Rels, Set,
+    SetValue, Sets,
 };
 use lv_values::{Boxed, Copying, Items, NoMemory, Row, Rows, Value};
 use std::alloc::Global;
@@ -137,11 +139,7 @@ fn bound_value(alloc: Global, scope: &Scope<'_>, value: &AssignValue) -> Result<
 }
 
 /// The columns that an UPDATE of this alias sets.
-pub(crate) fn bound_sets(
-    alloc: Global,
-    scope: &Scope<'_>,
-    sets: &[Assign],
-) -> Result<Sets, NoMemory>
+fn bound_sets(alloc: Global, scope: &Scope<'_>, sets: &[Assign]) -> Result<Sets, NoMemory>
     requires { IsNarrow (aliases scope.now) }
     ensures { IfOk result (λ found. found ≡ map (bound_set (aliases scope.now)) sets.now) }
 {
@@ -172,7 +170,7 @@ pub(crate) fn bound_cols(
 }
 
 /// The columns of ORDER BY.
-pub(crate) fn bound_order(
+fn bound_order(
     alloc: Global,
     scope: &Scope<'_>,
     order: &[(ColName, bool)],
@@ -214,11 +212,7 @@ pub(crate) fn every_col(alloc: Global, scope: &Scope<'_>) -> Result<Cols, NoMemo
 }
 
 /// The list of a query.
-pub(crate) fn bound_list(
-    alloc: Global,
-    scope: &Scope<'_>,
-    list: &Option<ColNames>,
-) -> Result<Cols, NoMemory>
+fn bound_list(alloc: Global, scope: &Scope<'_>, list: &Option<ColNames>) -> Result<Cols, NoMemory>
     requires { IsNarrow (aliases scope.now) }
     ensures { IfOk result (λ cols. cols ≡ bound_list (aliases scope.now) list.now) }
 {
@@ -237,6 +231,42 @@ pub(crate) fn bound_rels(alloc: Global, sources: &[Source<'_>]) -> Result<Rels, 
         out.push(source.rel.unwrap_or(Rel::Table(0)))?;
     }
     Ok(out)
+}
+
+/// What an UPDATE of the table of these aliases is bound to.
+pub(crate) fn bound_update(
+    alloc: Global,
+    scope: &Scope<'_>,
+    sets: &[Assign],
+    cond: &CondTree,
+) -> Result<Change, NoMemory>
+    requires { IsNarrow (aliases scope.now) }
+    ensures { IfOk result (λ c. c ≡ Change.Update (table_number scope.now.target) (map (bound_set (aliases scope.now)) sets.now) (bound_cond (aliases scope.now) cond.now)) }
+{
+    Ok(Change::Update {
+        table: table_number(scope.target),
+        sets: bound_sets(alloc, scope, sets)?,
+        cond: bound_cond(alloc, scope, cond)?,
+    })
+}
+
+/// What a query of these aliases is bound to.
+pub(crate) fn bound_query(
+    alloc: Global,
+    scope: &Scope<'_>,
+    list: &Option<ColNames>,
+    cond: &CondTree,
+    order: &[(ColName, bool)],
+) -> Result<Query, NoMemory>
+    requires { IsNarrow (aliases scope.now) }
+    ensures { IfOk result (λ q. q ≡ record { rels = map (λ s. rel_of s.rel) scope.now.sources.now; cond = bound_cond (aliases scope.now) cond.now; list = bound_list (aliases scope.now) list.now; order = bound_order (aliases scope.now) order.now }) }
+{
+    Ok(Query {
+        rels: bound_rels(alloc, scope.sources)?,
+        cond: bound_cond(alloc, scope, cond)?,
+        list: bound_list(alloc, scope, list)?,
+        order: bound_order(alloc, scope, order)?,
+    })
 }
 
 /// The number of a table, 0 where there is none.

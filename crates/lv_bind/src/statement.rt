@@ -10,16 +10,14 @@ ghost use Rattle.lv_bind.specs.Sources.{AreNarrow, sources_of, target_of};
 ghost use Rattle.lv_schema.specs.declared.fault.Fault.{Fault};
 
 use crate::at_once::{Stop, bound_at_once};
-use crate::binding::{
-    bound_cond, bound_list, bound_order, bound_rels, bound_rows, bound_sets, table_number,
-};
+use crate::binding::{bound_cond, bound_query, bound_rows, bound_update, table_number};
 use crate::creating::{bound_table, bound_view};
 use crate::pieces::{columns_in, comparisons_in};
 use crate::profile::profile;
 use crate::refusals::{later_fault, reading_fault};
 use crate::sources::{Scope, Source, one_source, sources, target};
 use lv_parser::Stmt;
-use lv_schema::{Bound, Change, Fault, Query, Rel, Schema};
+use lv_schema::{Bound, Change, Fault, Rel, Schema};
 use lv_values::NoMemory;
 use std::alloc::Global;
 use thiserror::Error;
@@ -47,7 +45,6 @@ impl From<NoMemory> for BindFault {
 }
 
 /// What a statement with these aliases is bound to, once none of the faults 2 to 6 refuses it.
-#[tactic(auto, using(crate::proofs::SourceLemmas::rels_bound))]
 fn bound_among(alloc: Global, scope: &Scope<'_>, stmt: &Stmt) -> Result<Bound, NoMemory>
     requires narrow { IsNarrow (aliases scope.now) }
     requires small { IsSmallTable stmt.now }
@@ -82,11 +79,12 @@ fn bound_among(alloc: Global, scope: &Scope<'_>, stmt: &Stmt) -> Result<Bound, N
             table: table_number(scope.target),
             rows: bound_rows(alloc, tuples.as_slice())?,
         })),
-        Stmt::Update { sets, cond, .. } => Ok(Bound::Change(Change::Update {
-            table: table_number(scope.target),
-            sets: bound_sets(alloc, scope, sets.as_slice())?,
-            cond: bound_cond(alloc, scope, cond)?,
-        })),
+        Stmt::Update { sets, cond, .. } => Ok(Bound::Change(bound_update(
+            alloc,
+            scope,
+            sets.as_slice(),
+            cond,
+        )?)),
         Stmt::Delete { cond, .. } => Ok(Bound::Change(Change::Delete {
             table: table_number(scope.target),
             cond: bound_cond(alloc, scope, cond)?,
@@ -96,12 +94,7 @@ fn bound_among(alloc: Global, scope: &Scope<'_>, stmt: &Stmt) -> Result<Bound, N
             cond,
             order,
             ..
-        } => Ok(Bound::Query(Query {
-            rels: bound_rels(alloc, scope.sources)?,
-            cond: bound_cond(alloc, scope, cond)?,
-            list: bound_list(alloc, scope, list)?,
-            order: bound_order(alloc, scope, order.as_slice())?,
-        })),
+        } => Ok(Bound::Query(bound_query(alloc, scope, list, cond, order.as_slice())?)),
         Stmt::Begin => Ok(Bound::Begin),
         Stmt::Commit => Ok(Bound::Commit),
         Stmt::Rollback => Ok(Bound::Rollback),

@@ -1,5 +1,5 @@
 //! Whether the actions of a commit can be taken, one after another.
-ghost use Rattle.std.specs.Prelude.{◌≡◌, ◌≤◌, ◌<◌, ◌+◌, true, length, Ok, IfOk, OnOk};
+ghost use Rattle.std.specs.Prelude.{◌≡◌, ◌≤◌, ◌<◌, ◌+◌, [], true, length, Ok, IfOk, OnOk};
 ghost use Rattle.std.specs.Option.{option_copied};
 ghost use Rattle.lv_values.specs.Rows.{values_at};
 ghost use Rattle.lv_schema.specs.Commits.{Place};
@@ -128,8 +128,32 @@ fn take_action<L: Ledger>(
     Ok(true)
 }
 
+/// Whether actions can be taken on the last state in their order, over an overlay that is empty at first and has what they leave.
+fn take_each<L: Ledger>(
+    alloc: Global,
+    schema: &Schema,
+    base: &Base,
+    actions: &[Action],
+    earlier: &mut Overlay,
+    steps: &mut Steps<L>,
+) -> Result<bool, NoMemory>
+    requires same { schema.now.tables ≡ defs_of base.now }
+    requires kept { base.now.pruned ≡ 0 }
+    requires fits { IsDatabase (defs_of base.now) (last_state base.now) }
+    requires none { earlier.old.list ≡ [] }
+    ensures { IfOk result (λ b. b ≡ can_act (defs_of base.now) (last_state base.now) actions.now) }
+{
+    earlier.reserve(actions.len() as u64)?;
+    for action in actions {
+        if !take_action(alloc, schema, base, action, earlier, steps)? {
+            return Ok(false);
+        }
+    }
+    Ok(true)
+}
+
 /// Whether actions can be taken on the last state in their order. Cost: for each a look at the values of its row, and
-/// three binary searches. Nobody looks at the count of the rows that are read.
+/// three binary searches. Nobody looks at the count of the rows that are read. The overlay is let go of at one place.
 pub(crate) fn can_act<L: Ledger>(
     alloc: Global,
     schema: &Schema,
@@ -147,11 +171,7 @@ pub(crate) fn can_act<L: Ledger>(
 {
     let mut steps = Steps::<L>::new(blank);
     let mut earlier = Overlay::new(alloc);
-    earlier.reserve(actions.len() as u64)?;
-    for action in actions {
-        if !take_action(alloc, schema, base, action, &mut earlier, &mut steps)? {
-            return Ok(false);
-        }
-    }
-    Ok(true)
+    let can = take_each(alloc, schema, base, actions, &mut earlier, &mut steps);
+    drop(earlier);
+    can
 }

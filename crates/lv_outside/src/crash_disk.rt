@@ -1,5 +1,5 @@
 //! A disk in memory that keeps a record of its calls, and so tells what a crash may leave.
-ghost use Rattle.std.specs.Prelude.{◌≡◌, ◌≤◌, ◌<◌, ◌+◌, ◌-◌, ◌==◌, ◌^◌, ℕ, max, List, [], ◌∷◌, ◌++◌, Some, length, take, drop, nat_lt, IfOk, OnOk, OnErr};
+ghost use Rattle.std.specs.Prelude.{◌≡◌, ◌≤◌, ◌<◌, ◌+◌, ◌-◌, ◌==◌, ◌^◌, ℕ, max, List, [], ◌∷◌, ◌++◌, Some, length, take, drop, nat_lt, get_or, IfOk, OnOk, OnErr};
 ghost use Rattle.std.specs.Result.{is_err};
 ghost use Rattle.lv_outside.specs.Images.{Elapses, Follows, GivesAt, Holds, NoMore, OnlyTold, Torn};
 ghost use Rattle.lv_outside.specs.Causes.{HasCause, Rose};
@@ -113,14 +113,24 @@ fn fail(faults: &mut u64) -> Failed
     Failed
 }
 
+/// The byte at a place, and 0 past the end.
+fn byte_at(image: &[u8], at: usize) -> u8
+    ensures { result ≡ get_or image.now at 0 }
+{
+    if at < image.len() { image[at] } else { 0 }
+}
+
 /// What a crash makes of a byte of a written range: 1 what was there and 0 past the end, 2 is 1, 3 is 255.
 fn filled(image: &[u8], at: usize, pick: u8) -> u8
     ensures { result ≡ filled pick image.now at }
 {
     if pick == 1 {
-        return if at < image.len() { image[at] } else { 0 };
+        byte_at(image, at)
+    } else if pick == 2 {
+        1
+    } else {
+        255
     }
-    if pick == 2 { 1 } else { 255 }
 }
 
 /// What a crash makes of a written range of `count` bytes.

@@ -2,7 +2,7 @@ use Rattle.std.proofs.Common.{◌≡◌, ◌≤◌, drop, length}
 use Rattle.lv_replay.specs.Applies.{can_act}
 use Rattle.lv_base.specs.Bases.{defs_of, last_state}
 use Rattle.lv_loading.specs.Taking.{may_act, seen}
-use Rattle.lv_loading.proofs.actions.can_act.Given as goal
+use Rattle.lv_loading.proofs.actions.take_each.Given as goal
 
 abbrev pub invariant-loop-action : goal.invariant-loop-action
 invariant-loop-action g l =

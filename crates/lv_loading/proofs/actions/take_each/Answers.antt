@@ -5,13 +5,13 @@ use Rattle.lv_overlay.specs.declared.put.Put.{Put}
 use Rattle.lv_base.specs.Bases.{defs_of, last_state}
 use Rattle.lv_loading.specs.Taking.{may_act, seen}
 use Rattle.lv_loading.proofs.Acting.{act_step, act_told, drop_item}
-use Rattle.lv_loading.proofs.actions.can_act.Goals as goal
+use Rattle.lv_loading.proofs.actions.take_each.Goals as goal
 
 pub loop-action-init : goal.loop-action-init
 loop-action-init g c =
     let b = c.args.base.now in
     let actions = c.args.actions.now in (
-      ap (λ (puts : List Put). may_act (defs_of b) (seen b puts) actions) (c.reserve.ensures.same ∙ c.new-earlier.ensures) ∙ act_told (defs_of b) actions (last_state b) (keyed_database (defs_of b) (last_state b) c.requires.fits),
+      ap (λ (puts : List Put). may_act (defs_of b) (seen b puts) actions) (c.reserve.ensures.same ∙ c.requires.none) ∙ act_told (defs_of b) actions (last_state b) (keyed_database (defs_of b) (last_state b) c.requires.fits),
       c.in_ok-reserve.ensures.room,
     )
 
