@@ -118,7 +118,7 @@ class Lazyview:
     name, is_ours = "lazyview", True
 
     def __init__(self, program):
-        self.program = program
+        self.command = [program]
 
     def strategies(self, view):
         return [Strategy("lazy", ["create view %s as %s" % (view, DEFINITIONS[view])], [], [])]
@@ -129,7 +129,7 @@ class Lazyview:
         return "\n".join(lines) + "\n"
 
     def run(self, script):
-        return ran([self.program], script)
+        return ran(self.command, script)
 
     def seconds(self, work, strategy, runs):
         """The time of the rounds: that of a script with them, less that of the same one without; each the least of some runs in turn."""
@@ -184,7 +184,7 @@ class Other:
 
 
 class Sqlite(Other):
-    name = "sqlite3"
+    name, command = "sqlite3", ["sqlite3", "-batch", "-bail", ":memory:"]
     mark = "select '%s'" % MARK
     clock = "select '%s', (julianday('now') - 2440587.5) * 86400.0" % CLOCK
     settled = []
@@ -197,7 +197,7 @@ class Sqlite(Other):
         return ["create trigger kept_%s_%s after %s on %s begin %s; end" % (table, kind, kind, table, body)]
 
     def run(self, script):
-        return ran(["sqlite3", "-batch", "-bail", ":memory:"], script)
+        return ran(self.command, script)
 
 
 class Postgres(Other):
