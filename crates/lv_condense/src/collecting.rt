@@ -5,7 +5,7 @@ ghost use Rattle.std.specs.Ordering.{is_lt};
 ghost use Rattle.std.specs.declared.cmp.Ordering.TheVariants.{Less};
 ghost use Rattle.lv_schema.specs.declared.action.DeltaEntry.{DeltaEntry};
 ghost use Rattle.lv_schema.specs.Once.{Ascends};
-ghost use Rattle.lv_condense.specs.Touches.{Alike, ATouch, collected, touch_cmp, touched};
+ghost use Rattle.lv_condense.specs.Touches.{Alike, ATouch, collected, touch_by, touch_cmp, touched};
 
 use crate::touch::Touch;
 use lv_schema::{Action, DeltaEntry, TableDef};
@@ -24,12 +24,11 @@ pub(crate) struct Touches<'a> {
     /// Whether each of these is of a lower key than the next one.
     pub ascend: bool,
     pub latest: Option<Touch<'a>>,
-    room: usize,
 }
 
 impl<'a> Touches<'a> {
-    /// No touches, with room for so many, which is taken once, with the first that is not the latest one.
-    fn with_room(alloc: Global, room: usize) -> Touches<'a>
+    /// No touches.
+    fn new(alloc: Global) -> Touches<'a>
         ensures list { result.list.items ≡ [] }
         ensures latest { result.latest ≡ None }
         ensures ascend { result.ascend ≡ true }
@@ -38,27 +37,37 @@ impl<'a> Touches<'a> {
             list: Vec::new(alloc),
             ascend: true,
             latest: None,
-            room,
         }
     }
 
-    /// Adds the touch by an action: the latest one ends with it, if it is of its key; else it is the latest one. Cost: a test of
-    /// that one's key, and that of `put` for a touch of another key.
-    fn add(&mut self, touch: Touch<'a>) -> Result<(), NoMemory>
-        requires { self.old.ascend ≡ true → Ascends touch_cmp self.old.list.items }
-        ensures alike { OnOk result ((rest : List ATouch) → Alike (collected self.new.list.items self.new.latest ++ rest) (collected self.old.list.items self.old.latest ++ touch.entry ∷ rest)) }
-        ensures ascend { OnOk result (self.new.ascend ≡ true → Ascends touch_cmp self.new.list.items) }
+    /// Whether an action is on the latest touch's key, which then ends with it. Cost: a test of that key.
+    #[inline(always)]
+    fn follow(&mut self, key: &[u8], action: &'a Action) -> bool
+        ensures alike { result ≡ true → (rest : List ATouch) → Alike (collected self.new.list.items self.new.latest ++ rest) (collected self.old.list.items self.old.latest ++ touch_by key.now action.now ∷ rest) }
+        ensures same { result ≡ false → self.new.latest ≡ self.old.latest }
+        ensures list { self.new.list ≡ self.old.list }
+        ensures ascend { self.new.ascend ≡ self.old.ascend }
     {
         let Some(latest) = &mut self.latest else {
-            self.latest = Some(touch);
-            return Ok(());
+            return false;
         };
-        if latest.is_of_key(&touch) {
-            latest.end_with(&touch);
-            return Ok(());
+        if latest.is_touched_by(key, action) {
+            latest.end_at(action);
+            return true;
         }
-        let done = std::mem::replace(latest, touch);
-        self.put(done)
+        false
+    }
+
+    /// Begins the touch by an action, which is the latest one now. Cost: that of `put` for the one before it.
+    fn begin(&mut self, key: &'a [u8], action: &'a Action) -> Result<(), NoMemory>
+        requires { self.old.ascend ≡ true → Ascends touch_cmp self.old.list.items }
+        ensures alike { OnOk result ((rest : List ATouch) → Alike (collected self.new.list.items self.new.latest ++ rest) (collected self.old.list.items self.old.latest ++ touch_by key.now action.now ∷ rest)) }
+        ensures ascend { OnOk result (self.new.ascend ≡ true → Ascends touch_cmp self.new.list.items) }
+    {
+        match self.latest.replace(Touch::by(key, action)) {
+            Some(done) => self.put(done),
+            None => Ok(()),
+        }
     }
 
     /// Whether the last touch, if there is one, is of a lower key than a touch.
@@ -72,14 +81,14 @@ impl<'a> Touches<'a> {
         list[list.len() - 1].is_below(touch)
     }
 
-    /// Puts a touch behind the others.
+    /// Puts a touch behind the others. The first takes room for as many as are put in place.
     fn push(&mut self, touch: Touch<'a>) -> Result<(), NoMemory>
         ensures list { OnOk result (self.new.list.items ≡ self.old.list.items ++ touch.entry ∷ []) }
         ensures ascend { self.new.ascend ≡ self.old.ascend }
         ensures latest { self.new.latest ≡ self.old.latest }
     {
         if self.list.is_empty() {
-            self.list.reserve(self.room)?;
+            self.list.reserve(SHORT)?;
         }
         self.list.push(touch)?;
         Ok(())
@@ -127,23 +136,7 @@ fn place_behind<'a>(touches: &[Touch<'a>], touch: &Touch<'a>) -> usize
     at
 }
 
-/// How many of the entries are of actions on a table: so many touches there are at most.
-fn count_of(table: u32, entries: &[DeltaEntry]) -> usize {
-    entries
-        .iter()
-        .filter(|entry| entry.action.table == table)
-        .count()
-}
-
-/// How many of the actions are on a table.
-fn count_in(table: u32, actions: &[Action]) -> usize {
-    actions
-        .iter()
-        .filter(|action| action.table == table)
-        .count()
-}
-
-/// The touches of a table by the actions of entries. Their list takes its room once.
+/// The touches of a table by the actions of entries.
 pub(crate) fn touches_of<'a>(
     alloc: Global,
     table: &'a TableDef,
@@ -152,17 +145,17 @@ pub(crate) fn touches_of<'a>(
     ensures alike { IfOk result (λ touches. Alike (collected touches.list.items touches.latest) (touched table.now.key table.now.no (map (λ (e : DeltaEntry). e.action) entries.now))) }
     ensures ascend { IfOk result (λ touches. touches.ascend ≡ true → Ascends touch_cmp touches.list.items) }
 {
-    let room = count_of(table.no, entries);
-    let mut touches = Touches::with_room(alloc, room);
+    let key = table.key.as_slice();
+    let mut touches = Touches::new(alloc);
     for entry in entries {
-        if table.no == entry.action.table {
-            touches.add(Touch::by(table.key.as_slice(), &entry.action))?;
+        if table.no == entry.action.table && !touches.follow(key, &entry.action) {
+            touches.begin(key, &entry.action)?;
         }
     }
     Ok(touches)
 }
 
-/// The touches of a table by actions. Their list takes its room once.
+/// The touches of a table by actions.
 pub(crate) fn touches_in<'a>(
     alloc: Global,
     table: &'a TableDef,
@@ -171,11 +164,11 @@ pub(crate) fn touches_in<'a>(
     ensures alike { IfOk result (λ touches. Alike (collected touches.list.items touches.latest) (touched table.now.key table.now.no actions.now)) }
     ensures ascend { IfOk result (λ touches. touches.ascend ≡ true → Ascends touch_cmp touches.list.items) }
 {
-    let room = count_in(table.no, actions);
-    let mut touches = Touches::with_room(alloc, room);
+    let key = table.key.as_slice();
+    let mut touches = Touches::new(alloc);
     for action in actions {
-        if table.no == action.table {
-            touches.add(Touch::by(table.key.as_slice(), action))?;
+        if table.no == action.table && !touches.follow(key, action) {
+            touches.begin(key, action)?;
         }
     }
     Ok(touches)

@@ -1,11 +1,12 @@
 //! Actions on one table.
-ghost use Rattle.std.specs.Prelude.{◌≡◌, refl};
+ghost use Rattle.std.specs.Prelude.{◌≡◌, refl, List};
 ghost use Rattle.std.specs.Cmp.{partial_equiv_from_equiv, partial_order_from_total};
 ghost use Rattle.std.specs.Ordering.{as_partial_cmp, eq_by_cmp, is_lt};
 ghost use Rattle.std.proofs.lemmas.Cmp.{eq_by_cmp_equiv};
+ghost use Rattle.lv_values.specs.declared.value.Value.{Value};
 ghost use Rattle.lv_values.specs.Order.{row_cmp, row_eq, value_cmp, value_eq};
 ghost use Rattle.lv_values.specs.Rows.{value_in, values_at};
-ghost use Rattle.lv_condense.specs.Touches.{IsNumberOf, key_of, then_by, touch_by, touch_cmp, touch_total};
+ghost use Rattle.lv_condense.specs.Touches.{IsNumber, IsNumberOf, key_of, then_by, touch_by, touch_cmp, touch_total};
 
 use lv_schema::Action;
 use lv_values::{Row, Value};
@@ -67,6 +68,25 @@ impl<'a> Touch<'a> {
         }
     }
 
+    /// Whether an action is on the touch's key, with the positions of its table's key. Cost: a test of two numbers where the
+    /// touch's key is one.
+    #[inline(always)]
+    pub fn is_touched_by(&self, key: &[u8], action: &Action) -> bool
+        ensures { result ≡ row_eq (key_of self.now) (values_at key.now action.now.row) }
+    {
+        match self.number {
+            Some(number) => is_number(number, key, &action.row),
+            None => is_same_key(self.key, &self.first.row, key, &action.row),
+        }
+    }
+
+    /// Ends the touch with a later action on its key.
+    pub fn end_at(&mut self, last: &'a Action)
+        ensures { self.new ≡ then_by self.old last.now }
+    {
+        self.last = last;
+    }
+
     /// Ends the touch with the last action of a later one.
     pub fn end_with(&mut self, later: &Touch<'a>)
         ensures { self.new ≡ then_by self.old later.now.last }
@@ -86,6 +106,21 @@ fn number_in(key: &[u8], row: &Row) -> Option<i64>
         Some(Value::Num(n)) => i64::try_from(*n).ok(),
         Some(Value::Text(_)) => None,
         None => Some(0),
+    }
+}
+
+/// Whether a row's key is one number. Cost: a test of two numbers.
+#[inline(always)]
+fn is_number(number: i64, key: &[u8], row: &Row) -> bool
+    ensures { (k : List Value) → IsNumber k number → result ≡ row_eq k (values_at key.now row.now) }
+{
+    if key.len() != 1 {
+        return false;
+    }
+    match row.as_slice().get(key[0] as usize) {
+        Some(Value::Num(n)) => *n == i128::from(number),
+        Some(Value::Text(_)) => false,
+        None => number == 0,
     }
 }
 
@@ -113,6 +148,7 @@ fn is_same_at(at: u8, a: &Row, other: u8, b: &Row) -> bool
 }
 
 /// Whether two rows have the same values, each at positions of its own. Cost: the values up to the first that differs.
+#[inline(never)]
 fn is_same_key(key: &[u8], a: &Row, others: &[u8], b: &Row) -> bool
     ensures { result ≡ row_eq (values_at key.now a.now) (values_at others.now b.now) }
 {

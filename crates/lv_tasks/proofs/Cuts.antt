@@ -1,5 +1,5 @@
 -- Cuts of tasks in the order of their commits.
-use Rattle.std.proofs.Common.{◌≡◌, ℕ, zero, suc, Bool, true, false, List, [], ◌∷◌, refl, sym, ◌∙◌, ap, arith, length, get_or, ◌<◌, ◌≤◌, ◌-◌, take, drop, filter, map}
+use Rattle.std.proofs.Common.{◌≡◌, ℕ, zero, suc, Bool, true, false, List, [], ◌∷◌, refl, sym, ◌∙◌, ap, arith, length, get_or, ◌<◌, ◌≤◌, ◌+◌, ◌-◌, take, drop, filter, map}
 use Rattle.std.specs.Prelude.{◌&&◌, nat_lt, nat_le}
 use Rattle.std.specs.List.Sorted.{IsPartitionPoint}
 use Rattle.std.proofs.lemmas.Bool.Decides.{nat_tests}
@@ -41,6 +41,23 @@ none_upto n xs first up some is lt = cut_from (is_upto n) xs 0 ((λ k d a b. abs
     each k d inner =
         let higher : (get_or xs 0 d).commit ≤ (get_or xs k d).commit = up 0 k d (omega arith) inner in
         let same : (get_or xs 0 d).commit ≡ first.commit = ap (λ (t : Task). t.commit) (get_or_default xs 0 d first some ∙ sym is) in
+        let above : n < (get_or xs k d).commit = omega arith in
+        grind (arith, nat_tests)
+
+pub one_apart : (n at : ℕ) (xs : List Task) (here next : Task) → Ascend xs → at + 1 < length xs → here ≡ get_or xs at here → here.commit ≤ n → next ≡ get_or xs (at + 1) next → n < next.commit → IsCut (is_upto n) (at + 1) xs
+one_apart n at xs here next up inner is le behind gt = cut_from (is_upto n) xs (at + 1) ((λ k d a b. lower k d (omega arith)), (λ k d a b. higher k d (omega arith) (omega arith)))
+  where
+    lower : (k : ℕ) (d : Task) → k < at + 1 → nat_le (get_or xs k d).commit n ≡ true
+    lower k d lt =
+        let order : (get_or xs k d).commit ≤ (get_or xs at d).commit = up k at d (omega arith) (omega arith) in
+        let same : (get_or xs at d).commit ≡ here.commit = ap (λ (t : Task). t.commit) (get_or_default xs at d here (omega arith) ∙ sym is) in
+        let below : (get_or xs k d).commit ≤ n = omega arith in
+        grind (arith, nat_tests)
+
+    higher : (k : ℕ) (d : Task) → at + 1 ≤ k → k < length xs → nat_le (get_or xs k d).commit n ≡ false
+    higher k d ge within =
+        let order : (get_or xs (at + 1) d).commit ≤ (get_or xs k d).commit = up (at + 1) k d (omega arith) within in
+        let same : (get_or xs (at + 1) d).commit ≡ next.commit = ap (λ (t : Task). t.commit) (get_or_default xs (at + 1) d next inner ∙ sym behind) in
         let above : n < (get_or xs k d).commit = omega arith in
         grind (arith, nat_tests)
 

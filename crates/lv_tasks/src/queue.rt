@@ -1,5 +1,5 @@
 //! The tasks of one view.
-ghost use Rattle.std.specs.Prelude.{◌≡◌, ◌≤◌, ◌<◌, ◌+◌, ◌^◌, ◌++◌, ◌∷◌, [], length, map, take, drop, OnOk, IfOk};
+ghost use Rattle.std.specs.Prelude.{◌≡◌, true, ◌≤◌, ◌<◌, ◌+◌, ◌^◌, ◌++◌, ◌∷◌, [], length, map, take, drop, OnOk, IfOk};
 ghost use Rattle.std.specs.VecDeque.{deque_capacity};
 ghost use Rattle.lv_schema.specs.StepPlans.{step_end};
 ghost use Rattle.lv_tasks.specs.declared.task.Task.{Task};
@@ -35,7 +35,17 @@ impl Model for Queue {
     ghost invariant = { λ q. Ascend q.tasks.items × (q.actions ≡ actions_in q.tasks.items) };
 }
 
-/// How many tasks are of a commit up to this one. Cost: constant where all or none are, and else a binary search.
+/// Whether the tasks up to a place, and no others, are of a commit up to this one.
+fn is_last_upto(tasks: &VecDeque<Task>, at: usize, commit: u64) -> bool
+    requires order { Ascend tasks.now.items }
+    requires within { at + 1 < length tasks.now.items }
+    ensures { result ≡ true → IsCut (is_upto commit) (at + 1) tasks.now.items }
+{
+    tasks[at].commit <= commit && commit < tasks[at + 1].commit
+}
+
+/// How many tasks are of a commit up to this one. Cost: constant where all or none are, or where each commit from the first
+/// task's to this one made a task; else a binary search.
 fn place_above(tasks: &VecDeque<Task>, commit: u64) -> usize
     requires { Ascend tasks.now.items }
     ensures within { result ≤ length tasks.now.items }
@@ -47,6 +57,10 @@ fn place_above(tasks: &VecDeque<Task>, commit: u64) -> usize
     }
     if tasks[0].commit > commit {
         return 0;
+    }
+    let near = (commit - tasks[0].commit) as usize;
+    if near < count - 1 && is_last_upto(tasks, near, commit) {
+        return near + 1;
     }
     tasks.partition_point(|task| task.commit <= commit)
 }
@@ -166,8 +180,8 @@ impl Queue {
         self.actions -= dropped;
     }
 
-    /// Where the planned step over the tasks above the one commit and up to the other ends. Cost: two binary searches,
-    /// and a look at each task only where a live snapshot lies within the step.
+    /// Where the planned step over the tasks above the one commit and up to the other ends. Cost: at most two binary
+    /// searches, and a look at each task only where a live snapshot lies within the step.
     pub(crate) fn next_range<V: Live>(
         &self,
         lo: u64,

@@ -121,7 +121,8 @@ impl Tasks {
     }
 
     /// Where the planned step of a view ends, over its tasks above the one commit and up to the other: none where it
-    /// has none. It takes no memory. Cost: two binary searches among the view's tasks, and a look at each task, at most
+    /// has none. It takes no memory. Cost: at most two binary searches among the view's tasks, of which each is spared
+    /// where all commits around its place made tasks, or none did; and a look at each task, at most
     /// `combine`, only where a live snapshot lies within the step.
     pub fn next_range<V: Live>(
         &self,
