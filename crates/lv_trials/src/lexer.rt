@@ -3,7 +3,6 @@
 use lv_lexer::Writer;
 use lv_values::{NoMemory, Text};
 use std::alloc::Global;
-use std::test::Fail;
 
 /// Writes a word, a number, a text, a sign and a word.
 fn write_line(alloc: Global, writer: &mut Writer) -> Result<(), NoMemory> {
@@ -15,14 +14,19 @@ fn write_line(alloc: Global, writer: &mut Writer) -> Result<(), NoMemory> {
     writer.word("x")
 }
 
+/// What is then written.
 fn written(alloc: Global) -> Result<Text, NoMemory> {
     let mut writer = Writer::new(alloc);
     write_line(alloc, &mut writer)?;
     writer.finish(alloc)
 }
 
+/// Whether this is written.
+fn is_written(alloc: Global, wanted: &str) -> Result<bool, NoMemory> {
+    Ok(written(alloc)?.as_str() == wanted)
+}
+
 #[test]
-fn tokens_are_written(rt: HostRuntime) -> Result<(), Fail> {
-    assert_eq!(rt; written(rt.alloc())?.as_str(), "limit 18'it''s'(x");
-    Ok(())
+fn tokens_are_written(rt: HostRuntime) {
+    assert!(rt; is_written(rt.alloc(), "limit 18'it''s'(x") == Ok(true));
 }

@@ -5,7 +5,6 @@ ghost use Rattle.std.specs.Prelude.{◌<◌, ◌^◌};
 use lv_outside::{Ended, MemSink, MemSource, ReadFault, Sink, read_whole, write_whole};
 use lv_values::{Bytes, Items, NoMemory};
 use std::alloc::Global;
-use std::test::Fail;
 
 /// How many bytes are read of a source of three whose call of this number fails, and how that ends.
 fn read_three(alloc: Global, fails: u64, limit: usize) -> Result<(usize, Ended), ReadFault>
@@ -44,10 +43,13 @@ fn write_and_flush(alloc: Global) -> Result<([bool; 4], bool), NoMemory> {
     Ok((done, sink.written() == b"ab".as_slice()))
 }
 
+/// Whether the first write and the first flush are done alone, and what was written is whole.
+fn is_written_whole(alloc: Global) -> Result<bool, NoMemory> {
+    let (done, is_whole) = write_and_flush(alloc)?;
+    Ok(is_whole && done == [true, false, true, false])
+}
+
 #[test]
-fn pieces_are_written_whole(rt: HostRuntime) -> Result<(), Fail> {
-    let (done, is_whole) = write_and_flush(rt.alloc())?;
-    assert!(rt; done == [true, false, true, false]);
-    assert!(rt; is_whole);
-    Ok(())
+fn pieces_are_written_whole(rt: HostRuntime) {
+    assert!(rt; is_written_whole(rt.alloc()) == Ok(true));
 }

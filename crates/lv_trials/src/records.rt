@@ -3,7 +3,6 @@
 use lv_record::{decode, encode, size};
 use lv_values::Bytes;
 use std::alloc::Global;
-use std::test::Fail;
 
 /// A table `item (id int, price int, primary key (id))`.
 pub(crate) const TABLE: &[u8] = b"\x01\x04item\x02\x02id\x01\x05price\x01\x01\x00";
@@ -36,15 +35,14 @@ fn is_same_again(alloc: Global, bytes: &[u8]) -> bool {
 }
 
 #[test]
-fn records_are_written_as_they_are_read(rt: HostRuntime) -> Result<(), Fail> {
+fn records_are_written_as_they_are_read(rt: HostRuntime) {
     for bytes in [TABLE, COMMIT, MARK] {
         assert!(rt; is_same_again(rt.alloc(), bytes));
     }
-    Ok(())
 }
 
 #[test]
-fn other_bytes_are_no_record(rt: HostRuntime) -> Result<(), Fail> {
+fn other_bytes_are_no_record(rt: HostRuntime) {
     for bytes in [
         b"".as_slice(),
         b"\x05".as_slice(),
@@ -54,5 +52,4 @@ fn other_bytes_are_no_record(rt: HostRuntime) -> Result<(), Fail> {
     ] {
         assert!(rt; again(rt.alloc(), bytes).is_none());
     }
-    Ok(())
 }

@@ -74,7 +74,7 @@ fn disk_of(alloc: Global, bytes: &[u8], fails: &[(u8, u64)]) -> Result<MemDisk, 
 }
 
 /// These words.
-fn words_of(alloc: Global, list: &[&str]) -> Result<Items<Text>, NoMemory> {
+pub(crate) fn words_of(alloc: Global, list: &[&str]) -> Result<Items<Text>, NoMemory> {
     let mut words = Items::new(alloc);
     for word in list {
         words.push(Text::from_str(alloc, word)?)?;

@@ -5,10 +5,11 @@ use crossbeam_utils::Backoff;
 use lv_outside::Gate;
 use lv_shared::{Machine, Taken, drive};
 use lv_values::{NoMemory, Steps};
-use std::sync::Arc;
+use std::alloc::Global;
 use std::sync::atomic::{AtomicU64, Ordering};
 use std::sync::ledger::Ledger;
-use std::test::Fail;
+use std::sync::{Arc, Wait};
+use std::thread::Threads;
 
 /// How often an awaited word is looked for, at most.
 const LOOKS: u32 = 5_000_000;
@@ -98,9 +99,9 @@ impl Gate for AfterTheStart {
     fn after(&self, _who: u32, _turn: u64) {}
 }
 
-#[test]
-fn labour_is_done_outside_the_lock(rt: HostRuntime) -> Result<(), Fail> {
-    let word = Arc::new(rt.alloc(), AtomicU64::new(0))?;
+/// The machine after its run, and whether memory was wanting.
+fn meet<R: Threads + Wait + Sync>(rt: &R, alloc: Global) -> Result<(Meeting, bool), NoMemory> {
+    let word = Arc::new(alloc, AtomicU64::new(0))?;
     let gate = AfterTheStart {
         word: Arc::try_clone(&word)?,
     };
@@ -109,8 +110,13 @@ fn labour_is_done_outside_the_lock(rt: HostRuntime) -> Result<(), Fail> {
         handed: false,
         seen: false,
     };
-    let driven = drive(&rt, machine, 1, 1, 2, &gate);
-    assert!(rt; !driven.starved);
-    assert!(rt; driven.machine.seen);
-    Ok(())
+    let driven = drive(rt, machine, 1, 1, 2, &gate);
+    drop(gate);
+    Ok((driven.machine, driven.starved))
+}
+
+#[test]
+fn labour_is_done_outside_the_lock(rt: HostRuntime) {
+    let met = meet(&rt, rt.alloc());
+    assert!(rt; met.is_ok_and(|(machine, starved)| machine.seen && !starved));
 }

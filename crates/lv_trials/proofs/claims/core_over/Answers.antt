@@ -1,5 +1,5 @@
 use Rattle.lv_core.proofs.FromRecords.{opened_from}
-use Rattle.lv_trials_run.proofs.claims.core_over.Goals as goal
+use Rattle.lv_trials.proofs.claims.core_over.Goals as goal
 
 pub new-requires-clause-records : goal.new-requires-clause-records
 new-requires-clause-records g c =

@@ -5,7 +5,6 @@ use lv_outside::FreeGate;
 use lv_shared::{Machine, Taken, drive};
 use lv_values::{NoMemory, Steps};
 use std::sync::ledger::Ledger;
-use std::test::Fail;
 
 /// How many turns actor 1 has begun and ended: it has three, and the others are idle until then. Actor 2 finds no memory.
 #[derive(Drop)]
@@ -76,12 +75,11 @@ impl Machine for Counts {
 }
 
 #[test]
-fn actors_come_to_their_ends(rt: HostRuntime) -> Result<(), Fail> {
+fn actors_come_to_their_ends(rt: HostRuntime) {
     for (sessions, starved) in [(1, false), (2, true)] {
         let counts = Counts { begun: 0, ended: 0 };
         let driven = drive(&rt, counts, sessions, 1, 100_000, &FreeGate);
         assert_eq!(rt; driven.machine.ended, 3, "{sessions} sessions");
         assert_eq!(rt; driven.starved, starved, "{sessions} sessions");
     }
-    Ok(())
 }

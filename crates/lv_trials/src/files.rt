@@ -5,7 +5,6 @@ use lv_journal::{JFault, Journal, JournalReader};
 use lv_outside::MemDisk;
 use lv_values::{Bytes, Items, NoMemory};
 use std::alloc::Global;
-use std::test::Fail;
 
 /// The journal that has the two records.
 const WORKED: &[u8] =
@@ -115,12 +114,17 @@ fn put_both(journal: &mut Journal<MemDisk>) -> (bool, u64, bool, u64) {
     (first, need, second, journal.faults())
 }
 
-#[test]
-fn two_records_make_the_worked_file(rt: HostRuntime) -> Result<(), Fail> {
-    let mut journal = new_journal(rt.alloc()).ok_or(NoMemory)?;
+/// How the two records are put in a new journal, and the disk then; none where there is no new journal.
+fn put_in_new(alloc: Global) -> Option<((bool, u64, bool, u64), MemDisk)> {
+    let mut journal = new_journal(alloc)?;
     let went = put_both(&mut journal);
-    let disk = journal.into_disk();
-    assert_eq!(rt; went, (true, 77, true, 0));
-    assert_eq!(rt; disk.bytes(), WORKED);
-    Ok(())
+    Some((went, journal.into_disk()))
+}
+
+#[test]
+fn two_records_make_the_worked_file(rt: HostRuntime) {
+    let left = put_in_new(rt.alloc());
+    assert!(rt;
+        left.is_some_and(|(went, disk)| went == (true, 77, true, 0) && disk.bytes() == WORKED)
+    );
 }
